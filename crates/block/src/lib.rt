@@ -1,0 +1,102 @@
+// One 8x8 block: its code, its data bytes, whether its copy lies inside, and the source of each of its pixels.
+use motion::ahead_vector;
+use motion::behind_vector;
+use motion::far_vector;
+use motion::near_vector;
+use motion::points_inside;
+use pattern::is_falling;
+use words::byte_at;
+ghost use mathlib.Core.Path.{_≡_};
+ghost use mathlib.Core.Bool.{cond};
+ghost use Prim.Native.Nat.{_/_, _≤_, _<_};
+ghost use lib.ListN.{length};
+ghost use Rattle.block.specs.Block.{codeAt, kindOf, dataLength, copyInside, cellSource, ditherSource};
+ghost use Rattle.block.specs.Asked.{Sided};
+
+// Where a pixel's value stands: a byte of the block's data, a pixel of front, a pixel of back.
+pub enum Source {
+    Data(usize),
+    Front(usize),
+    Back(usize),
+}
+
+// The code of block k.
+pub fn code_at(map: &[u8], k: usize) -> u8
+    requires { ⌜ k / 2 < length (now map) ⌝ }
+    ensures { λ r. ⌜ (r ≡ codeAt (now (map .entry)) k) × (r < 16) ⌝ }
+{
+    let b = map[k / 2];
+    if k % 2 == 0 {
+        return b % 16;
+    }
+    b / 16
+}
+
+fn choose(test: bool, a: usize, b: usize) -> usize
+    ensures { λ r. ⌜ r ≡ cond test a b ⌝ }
+{
+    if test {
+        return a;
+    }
+    b
+}
+
+// The data bytes of a block whose data begins with s.
+pub fn data_length(code: u8, s: &[u8]) -> usize
+    requires { ⌜ code < 16 ⌝ }
+    ensures { λ r. ⌜ r ≡ dataLength (kindOf code (now (s .entry))) ⌝ }
+{
+    match code {
+        0 => 0,
+        1 => 0,
+        2 => 1,
+        3 => 1,
+        4 => 1,
+        5 => 2,
+        6 => 0,
+        7 => choose(is_falling(s, 0), 4, 10),
+        8 => choose(is_falling(s, 0), 12, 16),
+        9 => choose(is_falling(s, 0), 12, choose(is_falling(s, 2), 8, 20)),
+        10 => choose(is_falling(s, 0), 24, 32),
+        11 => 64,
+        12 => 16,
+        13 => 4,
+        14 => 1,
+        _ => 2,
+    }
+}
+
+// Whether the 8x8 that a block at x, y is copied from lies inside the picture w by h.
+pub fn copy_inside(code: u8, s: &[u8], w: usize, h: usize, x: usize, y: usize) -> bool
+    requires { ⌜ (code < 16) × (w ≤ 640) × (h ≤ 480) × (x ≤ 640) × (y ≤ 480) ⌝ }
+    ensures { λ r. ⌜ r ≡ copyInside (kindOf code (now (s .entry))) w h x y ⌝ }
+{
+    if code < 2 {
+        return true;
+    }
+    if 5 < code {
+        return true;
+    }
+    match code {
+        2 => points_inside(ahead_vector(byte_at(s, 0)), w, h, x, y),
+        3 => points_inside(behind_vector(byte_at(s, 0)), w, h, x, y),
+        4 => points_inside(near_vector(byte_at(s, 0)), w, h, x, y),
+        _ => points_inside(far_vector(byte_at(s, 0), byte_at(s, 1)), w, h, x, y),
+    }
+}
+
+// The byte that gives pixel i where each cell, side pixels wide and high, has one.
+pub fn cell_source(side: usize, i: usize) -> usize
+    requires { ⌜ Sided side × (i < 64) ⌝ }
+    ensures { λ r. ⌜ r ≡ cellSource side i ⌝ }
+{
+    i / 8 / side * (8 / side) + i % 8 / side
+}
+
+// The byte that gives pixel i of a dithered block.
+pub fn dither_source(i: usize) -> usize
+    requires { ⌜ i < 64 ⌝ }
+    ensures { λ r. ⌜ r ≡ ditherSource i ⌝ }
+{
+    (i / 8 + i % 8) % 2
+}

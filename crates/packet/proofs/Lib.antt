@@ -1,0 +1,5 @@
+pub mod Grid
+pub mod Walk
+pub mod Sizes
+pub mod Exactly
+pub mod Apart

@@ -1,0 +1,172 @@
+-- The walk over the blocks of a packet: what is known at block k, and what each test of a block says of the verdict.
+-- Assumes nothing.
+use mathlib.Core.Path.{_≡_, refl, sym, ap, _∙_, subst}
+use mathlib.Core.Bool.{Bool, true, false, cond}
+use mathlib.Core.List.{List}
+use Prim.Native.Nat.{ℕ, zero, suc, _+_, _-_, _*_, _/_, _%_, _≤_, _<_, zero-le}
+use native.Mathlib.Omega.{arith}
+use native.Mathlib.Numerals.{add-one}
+use native.Mathlib.Nat.{zero-mod, zero-div, mul-le-mul}
+use borrow.Author.Tests.{lt-ltb, le-ltb, eq-eqb, ne-eqb}
+use lib.Dec.{eqb}
+use lib.ListN.{length, take, drop, getD, length-drop}
+use lib.Seq.{take-all}
+use Rattle.refusal.specs.Number.{Verdict, accept, refuse}
+use Rattle.block.specs.Block.{Kind, codeAt, kinds, kindOf, dataLength, isRefused, copyInside}
+use Rattle.block.proofs.Codes.{each-code}
+use Rattle.packet.specs.Packet.{Packet, blocks, width, height, left, top, code, start, dataOf, kind}
+use Rattle.packet.specs.Verdict.{andThen, blockVerdict, endVerdict, verdictFrom, blocksVerdict}
+use Rattle.packet.specs.Asked.{Sized}
+use Rattle.packet.proofs.Grid.{next-column, next-row, column-below, row-below}
+
+-- ---- codes
+
+nibble-below : (b : ℕ) (t : Bool) → cond t (b % 16) (b / 16 % 16) < 16
+nibble-below b true = omega arith
+nibble-below b false = omega arith
+
+pub code-below : (map : List ℕ) (k : ℕ) → codeAt map k < 16
+unfolding codeAt
+code-below map k = nibble-below (getD map (k / 2) 0) (eqb (k % 2) 0)
+
+Known : List ℕ → ℕ → Type 0
+Known s c = (c ≡ 6 → ⊥) → isRefused (kindOf c s) ≡ false
+
+-- a code is refused exactly where it is 6
+pub code-known : (s : List ℕ) (c : ℕ) → c < 16 → (c ≡ 6 → ⊥) → isRefused (kindOf c s) ≡ false
+unfolding Known kindOf kinds isRefused
+code-known s =
+    each-code (Known s) (λ n. refl) (λ n. refl) (λ n. refl) (λ n. refl) (λ n. refl) (λ n. refl) (λ n. absurd (n refl)) (λ n. refl)
+    (λ n. refl) (λ n. refl) (λ n. refl) (λ n. refl) (λ n. refl) (λ n. refl) (λ n. refl) (λ n. refl)
+
+pub code-refused : (s : List ℕ) (c : ℕ) → c ≡ 6 → isRefused (kindOf c s) ≡ true
+unfolding kindOf kinds isRefused
+code-refused s c e = rw e
+
+-- ---- what is known at block k
+
+-- at: the position of its data. x, y: its corner
+pub record Walked (p : Packet) (k at x y : ℕ) : Type 0 where
+  pub below : k ≤ blocks p
+  pub found : at ≡ start p k
+  pub within : at ≤ length (p .bytes)
+  pub across : x ≡ left p k
+  pub down : y ≡ top p k
+  pub verdict : verdictFrom p (blocks p - k) k ≡ blocksVerdict p
+
+-- its code, its data and its length, as code found them
+pub record Seen (p : Packet) (k at c l : ℕ) (s : List ℕ) : Type 0 where
+  pub code : c ≡ code p k
+  pub part : s ≡ take (length (p .bytes) - at) (drop at (p .bytes))
+  pub long : l ≡ dataLength (kindOf c s)
+
+pub walked-start : (p : Packet) → Walked p 0 0 0 0
+unfolding start blocksVerdict
+walked-start p =
+    let e : blocks p - 0 ≡ blocks p = omega arith in
+    record {
+      below = zero-le;
+      found = refl;
+      within = zero-le;
+      across = rw zero-mod;
+      down = rw zero-div;
+      verdict = rw e;
+    }
+
+-- the last of them: what is left over
+pub walked-end : (p : Packet) (k at x y : ℕ) → Walked p k at x y → blocks p ≤ k → blocksVerdict p ≡ endVerdict p k
+unfolding verdictFrom
+walked-end p k at x y w h = let e : blocks p - k ≡ 0 = omega (arith, w .below) in sym (w .verdict) ∙ rw e
+
+pub used-up : (p : Packet) (k at x y : ℕ) → Walked p k at x y → blocks p ≤ k → length (p .bytes) - at < 1 → accept ≡ blocksVerdict p
+unfolding endVerdict
+used-up p k at x y w h e =
+    let q : start p k ≡ length (p .bytes) = omega (arith, w .found, w .within) in
+    rw (walked-end p k at x y w h, eq-eqb _ _ q)
+
+pub left-over : (p : Packet) (k at x y : ℕ) → Walked p k at x y → blocks p ≤ k → 1 ≤ length (p .bytes) - at → refuse 15 0 ≡ blocksVerdict p
+unfolding endVerdict
+left-over p k at x y w h n = rw (walked-end p k at x y w h, ne-eqb (start p k) (length (p .bytes)) (λ e. omega (arith, w .found)))
+
+-- what the map and the corner ask where they are read
+pub mapped : (p : Packet) (k : ℕ) → Sized p → k < blocks p → k / 2 < length (p .map)
+mapped p k z h = omega (arith, z .mapped)
+
+pub blocks-few : (p : Packet) → Sized p → blocks p ≤ 4800
+blocks-few p z = mul-le-mul (z .columns) (z .rows)
+
+module _ (p : Packet) (k at x y c l : ℕ) (s : List ℕ) (z : Sized p) (w : Walked p k at x y) (h : k < blocks p) where
+  pub corner : (x + 8 ≤ width p) × (y + 8 ≤ height p)
+  corner =
+      let cs : 0 < p .columns = omega (arith, z .some-columns) in
+      (omega (arith, w .across, column-below (p .columns) k cs), omega (arith, w .down, row-below (p .columns) (p .rows) k cs h))
+
+  module _ (e : Seen p k at c l s) where
+    pub data-is : s ≡ dataOf p k
+    data-is =
+        e .part ∙ take-all (length (p .bytes) - at) (drop at (p .bytes)) (omega (arith, length-drop at (p .bytes)))
+        ∙ ap (λ (n : ℕ). drop n (p .bytes)) (w .found)
+
+    pub kind-is : kindOf c s ≡ kind p k
+    kind-is = rw (e .code, data-is)
+
+    pub length-is : length s ≡ length (p .bytes) - at
+    length-is = ap length data-is ∙ length-drop (start p k) (p .bytes) ∙ ap (λ (n : ℕ). length (p .bytes) - n) (sym (w .found))
+
+    -- the verdict from block k on begins with block k's
+    first : blocksVerdict p ≡ andThen (blockVerdict p k) (verdictFrom p (blocks p - suc k) (suc k))
+    unfolding verdictFrom
+    first = let q : blocks p - k ≡ suc (blocks p - suc k) = omega arith in sym (w .verdict) ∙ rw q
+
+    pub refuses-12 : c ≡ 6 → refuse 12 k ≡ blocksVerdict p
+    unfolding blockVerdict andThen
+    refuses-12 q = rw (first, ← kind-is, code-refused s c q)
+
+    module _ (n : c ≡ 6 → ⊥) where
+      known : isRefused (kindOf c s) ≡ false
+      known = code-known s c (rw (e .code) (code-below (p .map) k)) n
+
+      pub refuses-13 : length s < l → refuse 13 k ≡ blocksVerdict p
+      unfolding blockVerdict andThen
+      refuses-13 q = rw (first, ← kind-is, known, ← e .long, ← data-is, lt-ltb _ _ q)
+
+      module _ (q : l ≤ length s) where
+        pub refuses-14 : false ≡ copyInside (kindOf c s) (width p) (height p) x y → refuse 14 k ≡ blocksVerdict p
+        unfolding blockVerdict andThen
+        refuses-14 f = rw (first, ← kind-is, known, ← e .long, ← data-is, le-ltb _ _ q, ← w .across, ← w .down, ← f)
+
+        module _ (f : true ≡ copyInside (kindOf c s) (width p) (height p) x y) where
+          pub goes-on : verdictFrom p (blocks p - (k + 1)) (k + 1) ≡ blocksVerdict p
+          unfolding blockVerdict andThen
+          goes-on = rw (first, ← kind-is, known, ← e .long, ← data-is, le-ltb _ _ q, ← w .across, ← w .down, ← f, add-one k)
+
+          next-found : at + l ≡ start p (k + 1)
+          unfolding start
+          next-found = rw (add-one k, e .long, kind-is, w .found)
+
+          -- the next block, in this row or the next
+          pub walked-right : (x + 8 ≡ width p → ⊥) → Walked p (k + 1) (at + l) (x + 8) y
+          walked-right r =
+              let t : k % p .columns + 1 < p .columns = omega (arith, w .across, corner .0, r) in
+              let m = next-column (p .columns) k t in
+              record {
+                below = omega arith;
+                found = next-found;
+                within = omega (arith, length-is, q, w .within);
+                across = omega (arith, m .0, w .across);
+                down = omega (arith, m .1, w .down);
+                verdict = goes-on;
+              }
+
+          pub walked-down : x + 8 ≡ width p → Walked p (k + 1) (at + l) 0 (y + 8)
+          walked-down r =
+              let cs : 0 < p .columns = omega (arith, z .some-columns) in
+              let m = next-row (p .columns) k cs (omega (arith, w .across, r)) in
+              record {
+                below = omega arith;
+                found = next-found;
+                within = omega (arith, length-is, q, w .within);
+                across = omega (arith, m .0);
+                down = omega (arith, m .1, w .down);
+                verdict = goes-on;
+              }

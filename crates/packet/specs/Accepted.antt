@@ -1,0 +1,47 @@
+-- Acceptance as a statement: a packet is accepted exactly when this holds (`proofs/Exactly`).
+-- Assumes nothing.
+use mathlib.Core.Path.{_≡_}
+use mathlib.Core.Logic.{_≢_}
+use mathlib.Core.List.{List}
+use Prim.Native.Nat.{ℕ, _+_, _/_, _%_, _≤_, _<_}
+use lib.ListN.{length}
+use Rattle.motion.specs.Motion.{PointsInside, aheadVector, negated, nearVector, farVector}
+use Rattle.block.specs.Block.{Kind, same, kept, ahead, behind, near, far, patterned, celled, dithered, refused, dataLength}
+use Rattle.packet.specs.Packet.{Packet, blocks, width, height, left, top, code, start, kind}
+use Rattle.packet.specs.Verdict.{sized}
+
+-- a side of the picture that is a multiple of 8, from 8 to the most
+pub record Legal (most n : ℕ) : Type 0 where
+  pub least : 8 ≤ n
+  pub bound : n ≤ most
+  pub whole : n % 8 ≡ 0
+
+-- the 8x8 that a block at x, y is copied from lies inside the picture w by h
+unfoldable pub CopyInside : Kind → ℕ → ℕ → ℕ → ℕ → Type 0
+CopyInside same w h x y = Unit
+CopyInside kept w h x y = Unit
+CopyInside (ahead b) w h x y = PointsInside (aheadVector b) w h x y
+CopyInside (behind b) w h x y = PointsInside (negated (aheadVector b)) w h x y
+CopyInside (near b) w h x y = PointsInside (nearVector b) w h x y
+CopyInside (far a b) w h x y = PointsInside (farVector a b) w h x y
+CopyInside (patterned f) w h x y = Unit
+CopyInside (celled c) w h x y = Unit
+CopyInside dithered w h x y = Unit
+CopyInside refused w h x y = Unit
+
+-- block k: its code is not 6, its data bytes are there, its copy lies inside
+pub record Takes (p : Packet) (k : ℕ) : Type 0 where
+  pub known : code p k ≢ 6
+  pub there : start p k + dataLength (kind p k) ≤ length (p .bytes)
+  pub inside : CopyInside (kind p k) (width p) (height p) (left p k) (top p k)
+
+-- every block is taken, and all bytes are used up
+pub record Whole (p : Packet) : Type 0 where
+  pub each : (k : ℕ) → k < blocks p → Takes p k
+  pub used : start p (blocks p) ≡ length (p .bytes)
+
+pub record Accepts (w h : ℕ) (map bytes : List ℕ) : Type 0 where
+  pub wide : Legal 640 w
+  pub high : Legal 480 h
+  pub mapped : length map ≡ (blocks (sized w h map bytes) + 1) / 2
+  pub drawn : Whole (sized w h map bytes)

@@ -1,0 +1,4 @@
+pub mod Packet
+pub mod Verdict
+pub mod Accepted
+pub mod Asked

@@ -1,0 +1,62 @@
+-- The verdict on a packet, in document 01's order: 6, 10, then block by block 12, 13, 14, then 15.
+-- Assumes nothing.
+use mathlib.Core.Bool.{Bool, true, false, cond}
+use mathlib.Core.List.{List}
+use Prim.Native.Nat.{ℕ, zero, suc, _+_, _/_, _%_}
+use lib.Dec.{eqb, ltb}
+use lib.ListN.{length}
+use Rattle.refusal.specs.Number.{Verdict, accept, refuse, refusal}
+use Rattle.block.specs.Block.{dataLength, isRefused, copyInside}
+use Rattle.packet.specs.Packet.{Packet, packet, blocks, width, height, left, top, start, dataOf, kind}
+use Rattle.packet.specs.declared.Checked.{Checked}
+use Rattle.packet.specs.declared.Checked.the-variants.{Accepted, Refused}
+
+-- document 01's number and block of each answer of the check
+abbrev pub told : Checked → Verdict
+told Accepted = accept
+told (Refused r) = refusal r
+
+-- the next verdict where the first accepts
+unfoldable pub andThen : Verdict → Verdict → Verdict
+andThen accept v = v
+andThen (refuse number block) v = refuse number block
+
+-- 12 to 14, of block k
+unfoldable pub blockVerdict : Packet → ℕ → Verdict
+blockVerdict p k =
+    cond (isRefused (kind p k)) (refuse 12 k)
+    (cond (ltb (length (dataOf p k)) (dataLength (kind p k))) (refuse 13 k)
+    (cond (copyInside (kind p k) (width p) (height p) (left p k) (top p k)) accept (refuse 14 k)))
+
+-- 15: the bytes that n blocks leave over
+unfoldable pub endVerdict : Packet → ℕ → Verdict
+endVerdict p n = cond (eqb (start p n) (length (p .bytes))) accept (refuse 15 0)
+
+-- n blocks from block k on, the lowest first, then what is left over
+unfoldable pub verdictFrom : Packet → ℕ → ℕ → Verdict
+verdictFrom p zero k = endVerdict p k
+verdictFrom p (suc n) k = andThen (blockVerdict p k) (verdictFrom p n (suc k))
+
+-- 12 to 15
+unfoldable pub blocksVerdict : Packet → Verdict
+blocksVerdict p = verdictFrom p (blocks p) 0
+
+-- 10: a nibble a block
+unfoldable pub mapFits : Packet → Bool
+mapFits p = eqb (length (p .map)) ((blocks p + 1) / 2)
+
+-- 6: a multiple of 8, from 8 to the most
+unfoldable pub legal : ℕ → ℕ → Bool
+legal most n = cond (ltb n 8) false (cond (ltb most n) false (eqb (n % 8) 0))
+
+unfoldable pub legalSize : ℕ → ℕ → Bool
+legalSize w h = cond (legal 640 w) (legal 480 h) false
+
+-- the packet of a size in pixels
+abbrev pub sized : ℕ → ℕ → List ℕ → List ℕ → Packet
+sized w h map bytes = packet (w / 8) (h / 8) map bytes
+
+-- the check called alone: width and height in pixels, map, data
+unfoldable pub verdict : ℕ → ℕ → List ℕ → List ℕ → Verdict
+verdict w h map bytes =
+    cond (legalSize w h) (cond (mapFits (sized w h map bytes)) (blocksVerdict (sized w h map bytes)) (refuse 10 0)) (refuse 6 0)

@@ -1,0 +1,96 @@
+// The check of a packet: its size, its map, its blocks in order, and what is left over.
+use block::code_at;
+use block::copy_inside;
+use block::data_length;
+use refusal::Refusal;
+ghost use mathlib.Core.Path.{_≡_};
+ghost use Prim.Native.Nat.{_*_, _≤_};
+ghost use lib.ListN.{length};
+ghost use Rattle.packet.specs.Packet.{packet};
+ghost use Rattle.packet.specs.Verdict.{told, legal, legalSize, blocksVerdict, verdict};
+ghost use Rattle.packet.specs.Asked.{Sized};
+
+// What the check of a packet finds.
+pub enum Checked {
+    Accepted,
+    Refused(Refusal),
+}
+
+// Whether n is a multiple of 8 from 8 to most.
+fn is_legal(most: usize, n: usize) -> bool
+    ensures { λ r. ⌜ r ≡ legal most n ⌝ }
+{
+    if n < 8 {
+        return false;
+    }
+    if most < n {
+        return false;
+    }
+    n % 8 == 0
+}
+
+// Whether a picture may be w by h pixels.
+pub fn is_legal_size(w: usize, h: usize) -> bool
+    ensures { λ r. ⌜ r ≡ legalSize w h ⌝ }
+{
+    if is_legal(640, w) {
+        return is_legal(480, h);
+    }
+    false
+}
+
+// The blocks of a packet in order, and then what they leave over.
+pub fn check_blocks(columns: usize, rows: usize, map: &[u8], data: &[u8]) -> Checked
+    requires { ⌜ Sized (packet columns rows (now map) (now «data»)) ⌝ }
+    ensures { λ r. ⌜ told r ≡ blocksVerdict (packet columns rows (now (map .entry)) (now («data» .entry))) ⌝ }
+{
+    let n = columns * rows;
+    let w = 8 * columns;
+    let h = 8 * rows;
+    let mut k = 0;
+    let mut at = 0;
+    let mut x = 0;
+    let mut y = 0;
+    while k < n {
+        let code = code_at(map, k);
+        let s = &data[at..];
+        let length = data_length(code, s);
+        if code == 6 {
+            return Checked::Refused(Refusal::Code(k));
+        }
+        if s.len() < length {
+            return Checked::Refused(Refusal::DataShort(k));
+        }
+        if copy_inside(code, s, w, h, x, y) {
+            k += 1;
+            at += length;
+            x += 8;
+            if x == w {
+                x = 0;
+                y += 8;
+            }
+        } else {
+            return Checked::Refused(Refusal::CopyOutside(k));
+        }
+    }
+    let over = data.len() - at;
+    if over < 1 {
+        return Checked::Accepted;
+    }
+    Checked::Refused(Refusal::LeftOver)
+}
+
+// Whether the rules accept a packet for a picture of width by height pixels, and if not, why.
+pub fn check(width: usize, height: usize, map: &[u8], data: &[u8]) -> Checked
+    ensures { λ r. ⌜ told r ≡ verdict width height (now (map .entry)) (now («data» .entry)) ⌝ }
+{
+    if is_legal_size(width, height) {
+        let columns = width / 8;
+        let rows = height / 8;
+        if map.len() == (columns * rows + 1) / 2 {
+            return check_blocks(columns, rows, map, data);
+        }
+        return Checked::Refused(Refusal::MapLength);
+    }
+    Checked::Refused(Refusal::Size)
+}

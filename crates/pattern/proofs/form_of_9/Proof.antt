@@ -1,0 +1,45 @@
+use mathlib.Core.Path.{_≡_, refl, sym, ap, _∙_}
+use Rattle.pattern.specs.Form.{form9}
+use borrow.Author.Needs.{needs}
+use Rattle.pattern.proofs.form_of_9.Statement.{statement}
+use Rattle.pattern.proofs.form_of_9.Tie as tie
+use Rattle.pattern.proofs.form_of_9.Reads as reads
+use Rattle.pattern.proofs.form_of_9.Lts as lts
+use Rattle.pattern.proofs.is_falling.Reads as is-falling-reads
+
+is-falling-requires : tie.Need-is-falling-requires
+is-falling-requires c κs = search needs
+
+is-falling-requires-2 : tie.Need-is-falling-requires-2
+is-falling-requires-2 c κs = search needs
+
+returns : tie.Need-returns
+unfolding form9
+returns c = rw (sym (c .before .before .before .is-falling .ensures) ∙ c .before .before .if1 .taken, sym (c .before .is-falling2 .ensures) ∙ c .if2 .taken)
+
+returns-2 : tie.Need-returns-2
+unfolding form9
+returns-2 c = rw (sym (c .before .before .before .is-falling .ensures) ∙ c .before .before .if1 .taken, sym (c .before .is-falling2 .ensures) ∙ c .if2 .left)
+
+is-falling-requires-3 : tie.Need-is-falling-requires-3
+is-falling-requires-3 c κs = search needs
+
+returns-3 : tie.Need-returns-3
+unfolding form9
+returns-3 c = rw (sym (c .before .before .before .is-falling .ensures) ∙ c .before .before .if1 .left, sym (c .before .is-falling3 .ensures) ∙ c .if3 .taken)
+
+returns-4 : tie.Need-returns-4
+unfolding form9
+returns-4 c = rw (sym (c .before .before .before .is-falling .ensures) ∙ c .before .before .if1 .left, sym (c .before .is-falling3 .ensures) ∙ c .if3 .left)
+
+pub form-of-9-spec : {M : Type 1} → statement M
+form-of-9-spec =
+    tie.close
+    (tie.spec
+    is-falling-requires
+    is-falling-requires-2
+    returns
+    returns-2
+    is-falling-requires-3
+    returns-3
+    returns-4)

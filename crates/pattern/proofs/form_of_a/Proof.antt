@@ -1,0 +1,30 @@
+use mathlib.Core.Path.{_≡_, refl, sym, ap, _∙_}
+use Rattle.pattern.specs.Form.{formA}
+use borrow.Author.Needs.{needs}
+use Rattle.pattern.proofs.form_of_a.Statement.{statement}
+use Rattle.pattern.proofs.form_of_a.Tie as tie
+use Rattle.pattern.proofs.form_of_a.Reads as reads
+use Rattle.pattern.proofs.form_of_a.Lts as lts
+use Rattle.pattern.proofs.is_falling.Reads as is-falling-reads
+
+is-falling-requires : tie.Need-is-falling-requires
+is-falling-requires c κs = search needs
+
+is-falling-requires-2 : tie.Need-is-falling-requires-2
+is-falling-requires-2 c κs = search needs
+
+returns : tie.Need-returns
+unfolding formA
+returns c = rw (sym (c .before .before .before .is-falling .ensures) ∙ c .before .before .if1 .taken, sym (c .before .is-falling2 .ensures) ∙ c .if2 .taken)
+
+returns-2 : tie.Need-returns-2
+unfolding formA
+returns-2 c = rw (sym (c .before .before .before .is-falling .ensures) ∙ c .before .before .if1 .taken, sym (c .before .is-falling2 .ensures) ∙ c .if2 .left)
+
+returns-3 : tie.Need-returns-3
+unfolding formA
+returns-3 c = rw (sym (c .before .is-falling .ensures) ∙ c .if1 .left)
+
+pub form-of-a-spec : {M : Type 1} → statement M
+form-of-a-spec =
+    tie.close (tie.spec is-falling-requires is-falling-requires-2 returns returns-2 returns-3)

@@ -1,0 +1,117 @@
+-- Laws of a pixel's source, by the kind of its block, as code finds it.
+-- Assumes nothing.
+use mathlib.Core.Path.{_≡_, refl, sym, ap, _∙_, subst}
+use mathlib.Core.Bool.{Bool, true}
+use mathlib.Core.List.{List}
+use Prim.Native.Nat.{ℕ, _≤_, _<_}
+use native.Mathlib.Omega.{arith}
+use lib.ListN.{length, getD}
+use Rattle.pattern.specs.declared.Form.{Form}
+use Rattle.pattern.specs.Form.{Shape, shape}
+use Rattle.pattern.specs.Pattern.{Shaped, patternLength, patternSource}
+use Rattle.motion.specs.declared.Vector.{Vector}
+use Rattle.motion.specs.Motion.{aheadVector, negated, nearVector, farVector, pointsInside, rasterIndex, copiedIndex, Short, Inside}
+use Rattle.block.specs.declared.Source.{Source}
+use Rattle.block.specs.declared.Source.the-variants.{Data, Front, Back}
+use Rattle.block.specs.Block.{Side, pixels, Kind, same, kept, ahead, behind, near, far, patterned, celled, dithered, refused, kindOf, dataLength, copyInside, cellSource, ditherSource, source, fetched}
+use Rattle.block.specs.Asked.{Readable, Among}
+use Rattle.block.proofs.Codes.{copy-ahead, copy-behind, copy-near, copy-far}
+
+-- ---- a patterned block, its form's numbers written out
+
+module _ (f g : Form) (q : Shape) (i : ℕ) (e : f ≡ g) (n : shape g ≡ q) where
+  -- `long`: how long the data is
+  pub numbers-asked : (long : ℕ) → (patternLength (shape f) ≤ long) × (i < 64) → Shaped q × (patternLength q ≤ long) × (i < 64)
+  numbers-asked long h = ((g, n), subst (λ (x : Shape). patternLength x ≤ long) (ap shape e ∙ n) (h .0), h .1)
+
+  pub numbers-source : (s : List ℕ) (r : ℕ) → r ≡ patternSource q s i → r ≡ patternSource (shape f) s i
+  numbers-source s r h = h ∙ ap (λ (x : Shape). patternSource x s i) (sym (ap shape e ∙ n))
+
+-- ---- what each source asks
+
+module _ (code : ℕ) (s : List ℕ) (w h x y i : ℕ) where
+  abbrev pub Pointed : Vector → Type 0
+  Pointed v = Short v × Inside w x y i × (h ≤ 480) × (pointsInside v w h x y ≡ true)
+
+  pub ahead-asked : (b : ℕ) (v : Vector) → Readable code s w h x y i → kindOf code s ≡ ahead b → v ≡ aheadVector b → Short (aheadVector b) → Pointed v
+  ahead-asked b v r k e t = (subst Short (sym e) t, r .at, r .high, copy-ahead s code w h x y b v _ k e refl ∙ r .inside)
+
+  pub behind-asked : (b : ℕ) (v : Vector) → Readable code s w h x y i → kindOf code s ≡ behind b → v ≡ negated (aheadVector b) → Short (negated (aheadVector b)) → Pointed v
+  behind-asked b v r k e t = (subst Short (sym e) t, r .at, r .high, copy-behind s code w h x y b v _ k e refl ∙ r .inside)
+
+  pub near-asked : (b : ℕ) (v : Vector) → Readable code s w h x y i → kindOf code s ≡ near b → v ≡ nearVector b → Short (nearVector b) → Pointed v
+  near-asked b v r k e t = (subst Short (sym e) t, r .at, r .high, copy-near s code w h x y b v _ k e refl ∙ r .inside)
+
+  pub far-asked : (a b : ℕ) (v : Vector) → Readable code s w h x y i → kindOf code s ≡ far a b → v ≡ farVector a b → Short (farVector a b) → Pointed v
+  far-asked a b v r k e t = (subst Short (sym e) t, r .at, r .high, copy-far s code w h x y a b v _ k e refl ∙ r .inside)
+
+  pub form-asked : (f : Form) → Readable code s w h x y i → kindOf code s ≡ patterned f → (patternLength (shape f) ≤ length s) × (i < 64)
+  unfolding dataLength
+  form-asked f r k = (subst (λ (κ : Kind). dataLength κ ≤ length s) k (r .there), omega (arith, r .at .pixel))
+
+-- ---- which source it is
+
+module _ (code : ℕ) (s : List ℕ) (w x y i : ℕ) where
+  pub same-source : (j : ℕ) → kindOf code s ≡ same → j ≡ rasterIndex w x y i → Front j ≡ source (kindOf code s) s w x y i
+  unfolding source
+  same-source j k e = rw (k, e)
+
+  pub kept-source : (j : ℕ) → kindOf code s ≡ kept → j ≡ rasterIndex w x y i → Back j ≡ source (kindOf code s) s w x y i
+  unfolding source
+  kept-source j k e = rw (k, e)
+
+  pub ahead-source : (j b : ℕ) (v : Vector) → kindOf code s ≡ ahead b → v ≡ aheadVector b → j ≡ copiedIndex v w x y i → Back j ≡ source (kindOf code s) s w x y i
+  unfolding source
+  ahead-source j b v k e q = rw (k, ← e, q)
+
+  pub behind-source : (j b : ℕ) (v : Vector) → kindOf code s ≡ behind b → v ≡ negated (aheadVector b) → j ≡ copiedIndex v w x y i → Back j ≡ source (kindOf code s) s w x y i
+  unfolding source
+  behind-source j b v k e q = rw (k, ← e, q)
+
+  pub near-source : (j b : ℕ) (v : Vector) → kindOf code s ≡ near b → v ≡ nearVector b → j ≡ copiedIndex v w x y i → Front j ≡ source (kindOf code s) s w x y i
+  unfolding source
+  near-source j b v k e q = rw (k, ← e, q)
+
+  pub far-source : (j a b : ℕ) (v : Vector) → kindOf code s ≡ far a b → v ≡ farVector a b → j ≡ copiedIndex v w x y i → Front j ≡ source (kindOf code s) s w x y i
+  unfolding source
+  far-source j a b v k e q = rw (k, ← e, q)
+
+  pub refused-source : kindOf code s ≡ refused → Data 0 ≡ source (kindOf code s) s w x y i
+  unfolding source
+  refused-source k = rw k
+
+  pub form-source-is : (j : ℕ) (f : Form) → kindOf code s ≡ patterned f → j ≡ patternSource (shape f) s i → Data j ≡ source (kindOf code s) s w x y i
+  unfolding source
+  form-source-is j f k q = rw (k, q)
+
+  pub cell-source-is : (j : ℕ) (c : Side) → kindOf code s ≡ celled c → j ≡ cellSource (pixels c) i → Data j ≡ source (kindOf code s) s w x y i
+  unfolding source
+  cell-source-is j c k q = rw (k, q)
+
+  pub dither-source-is : (j : ℕ) → kindOf code s ≡ dithered → j ≡ ditherSource i → Data j ≡ source (kindOf code s) s w x y i
+  unfolding source
+  dither-source-is j k q = rw (k, q)
+
+-- ---- what stands at a source
+
+module _ (u : Source) (j : ℕ) (s front back : List ℕ) where
+  pub data-among : u ≡ Data j → Among u (length s) (length front) (length back) → j < length s
+  data-among e h = subst (λ (v : Source). Among v (length s) (length front) (length back)) e h
+
+  pub front-among : u ≡ Front j → Among u (length s) (length front) (length back) → j < length front
+  front-among e h = subst (λ (v : Source). Among v (length s) (length front) (length back)) e h
+
+  pub back-among : u ≡ Back j → Among u (length s) (length front) (length back) → j < length back
+  back-among e h = subst (λ (v : Source). Among v (length s) (length front) (length back)) e h
+
+  pub data-fetched : u ≡ Data j → getD s j 0 ≡ fetched u s front back
+  unfolding fetched
+  data-fetched e = rw e
+
+  pub front-fetched : u ≡ Front j → getD front j 0 ≡ fetched u s front back
+  unfolding fetched
+  front-fetched e = rw e
+
+  pub back-fetched : u ≡ Back j → getD back j 0 ≡ fetched u s front back
+  unfolding fetched
+  back-fetched e = rw e

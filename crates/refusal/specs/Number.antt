@@ -1,0 +1,50 @@
+-- Document 01, "Numbers of refusal": the number and the block that each refusal carries.
+-- Assumes nothing.
+use Prim.Native.Nat.{ℕ}
+use Rattle.refusal.specs.declared.Refusal.{Refusal}
+use Rattle.refusal.specs.declared.Refusal.the-variants.{Header, FilmEnd, ChunkEnd, Opcode, BodyLength, Size, Palette, Buffer, NoMap, MapLength, Place, Code, DataShort, CopyOutside, LeftOver, State}
+
+abbrev pub number : Refusal → ℕ
+number Header = 1
+number FilmEnd = 2
+number ChunkEnd = 3
+number Opcode = 4
+number BodyLength = 5
+number Size = 6
+number Palette = 7
+number Buffer = 8
+number NoMap = 9
+number MapLength = 10
+number Place = 11
+number (Code k) = 12
+number (DataShort k) = 13
+number (CopyOutside k) = 14
+number LeftOver = 15
+number State = 16
+
+-- the block that is drawn, for 12 to 14; else 0
+abbrev pub block : Refusal → ℕ
+block Header = 0
+block FilmEnd = 0
+block ChunkEnd = 0
+block Opcode = 0
+block BodyLength = 0
+block Size = 0
+block Palette = 0
+block Buffer = 0
+block NoMap = 0
+block MapLength = 0
+block Place = 0
+block (Code k) = k
+block (DataShort k) = k
+block (CopyOutside k) = k
+block LeftOver = 0
+block State = 0
+
+-- what a call that only judges comes to: it accepts, or it refuses by a number and a block
+pub data Verdict : Type 0 where
+  accept : Verdict
+  refuse : ℕ → ℕ → Verdict
+
+abbrev pub refusal : Refusal → Verdict
+refusal r = refuse (number r) (block r)

@@ -1,0 +1,84 @@
+// Why a call is refused, by name; document 01's number and block of each.
+ghost use mathlib.Core.Path.{_≡_};
+ghost use Rattle.refusal.specs.Number.{number, block};
+
+pub enum Refusal {
+    // The header is wrong or short.
+    Header,
+    // A chunk or its head passes the film's end.
+    FilmEnd,
+    // An opcode or its head passes its chunk, or bytes follow an end opcode.
+    ChunkEnd,
+    // An opcode's type or version is not taken.
+    Opcode,
+    // An opcode's body has the wrong length.
+    BodyLength,
+    // The size or the true-colour word is wrong, or a size is known already.
+    Size,
+    // A palette range or component is too large.
+    Palette,
+    // A lent palette or picture has the wrong length.
+    Buffer,
+    // A packet comes without a size or a map.
+    NoMap,
+    // The map has the wrong length.
+    MapLength,
+    // The place is above the block count.
+    Place,
+    // The block's code is refused.
+    Code(usize),
+    // The block has too few data bytes.
+    DataShort(usize),
+    // The block is copied from outside the picture.
+    CopyOutside(usize),
+    // Data bytes are left over.
+    LeftOver,
+    // The state is one that no film gives.
+    State,
+}
+
+pub fn number_of(r: Refusal) -> u8
+    ensures { λ n. ⌜ n ≡ number r ⌝ }
+{
+    match r {
+        Refusal::Header => 1,
+        Refusal::FilmEnd => 2,
+        Refusal::ChunkEnd => 3,
+        Refusal::Opcode => 4,
+        Refusal::BodyLength => 5,
+        Refusal::Size => 6,
+        Refusal::Palette => 7,
+        Refusal::Buffer => 8,
+        Refusal::NoMap => 9,
+        Refusal::MapLength => 10,
+        Refusal::Place => 11,
+        Refusal::Code(_) => 12,
+        Refusal::DataShort(_) => 13,
+        Refusal::CopyOutside(_) => 14,
+        Refusal::LeftOver => 15,
+        Refusal::State => 16,
+    }
+}
+
+pub fn block_of(r: Refusal) -> usize
+    ensures { λ n. ⌜ n ≡ block r ⌝ }
+{
+    match r {
+        Refusal::Code(k) => k,
+        Refusal::DataShort(k) => k,
+        Refusal::CopyOutside(k) => k,
+        Refusal::Header => 0,
+        Refusal::FilmEnd => 0,
+        Refusal::ChunkEnd => 0,
+        Refusal::Opcode => 0,
+        Refusal::BodyLength => 0,
+        Refusal::Size => 0,
+        Refusal::Palette => 0,
+        Refusal::Buffer => 0,
+        Refusal::NoMap => 0,
+        Refusal::MapLength => 0,
+        Refusal::Place => 0,
+        Refusal::LeftOver => 0,
+        Refusal::State => 0,
+    }
+}

@@ -1,0 +1,17 @@
+-- Tests of numbers in definitions: the rules by which a function that goes by the same tests meets its definition, and what a chosen case says of the test.
+-- Assumes nothing.
+use mathlib.Core.Path.{_≡_, refl}
+use mathlib.Core.Bool.{Bool, true, false, cond}
+use borrow.Author.Tests.{lt-ltb, le-ltb, le-leb, lt-leb, eq-eqb, ne-eqb}
+
+-- closes each return of a ladder of tests on numbers
+pub ruleset decide = (lt-ltb, le-ltb, le-leb, lt-leb, eq-eqb, ne-eqb)
+
+-- a choice that is not its first case is its second, and the other way round
+pub not-first : {A : Type 0} (b : Bool) (k x y : A) → (k ≡ y → ⊥) → cond b k x ≡ y → (b ≡ false) × (x ≡ y)
+not-first true k x y h e = absurd (h e)
+not-first false k x y h e = (refl, e)
+
+pub first : {A : Type 0} (b : Bool) (k x y : A) → (k ≡ y → ⊥) → cond b x k ≡ y → (b ≡ true) × (x ≡ y)
+first true k x y h e = (refl, e)
+first false k x y h e = absurd (h e)

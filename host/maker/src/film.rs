@@ -1,0 +1,278 @@
+//! Films: header, chunks, opcodes (01, "Film, chunks, opcodes").
+
+use crate::packet::{Draft, Packet, Profile};
+use crate::seeded::Seeded;
+use crate::size::Size;
+
+/// The types that are passed over unread, in any version and length.
+pub const PASSED_OVER: [u8; 10] = [0x02, 0x03, 0x04, 0x08, 0x09, 0x0A, 0x12, 0x13, 0x14, 0x15];
+/// The types that are acted on.
+pub const ACTED_ON: [u8; 9] = [0x00, 0x01, 0x05, 0x07, 0x0B, 0x0C, 0x0D, 0x0F, 0x11];
+
+/// The film header.
+const HEADER: &[u8; 26] = b"Interplay MVE File\x1A\0\x1A\0\0\x01\x33\x11";
+
+/// An opcode.
+#[derive(Clone, Debug)]
+pub struct Opcode {
+    /// The type byte.
+    pub kind: u8,
+    /// The version byte.
+    pub version: u8,
+    /// The body.
+    pub body: Vec<u8>,
+    /// The length word where it is not that of the body.
+    pub stated_length: Option<u16>,
+}
+
+/// A chunk.
+#[derive(Clone, Debug, Default)]
+pub struct Chunk {
+    /// The type word, which nobody reads.
+    pub kind: u16,
+    /// The opcodes that fill it.
+    pub opcodes: Vec<Opcode>,
+    /// Bytes of the chunk behind its opcodes; none in a valid film.
+    pub loose: Vec<u8>,
+    /// The length word where it is not that of the body.
+    pub stated_length: Option<u16>,
+}
+
+/// A film as its maker keeps it.
+#[derive(Clone, Debug)]
+pub struct Film {
+    /// The frame size that its opcode 05 gives.
+    pub size: Size,
+    /// The chunks.
+    pub chunks: Vec<Chunk>,
+    /// Bytes behind the last chunk. Valid only where that chunk ends the film by opcode 00.
+    pub tail: Vec<u8>,
+}
+
+impl Opcode {
+    /// An opcode whose length word is that of its body.
+    pub fn new(kind: u8, version: u8, body: Vec<u8>) -> Opcode {
+        Opcode { kind, version, body, stated_length: None }
+    }
+
+    fn bytes(&self) -> Vec<u8> {
+        let length = stated(self.stated_length, self.body.len());
+        [&length[..], &[self.kind, self.version], &self.body].concat()
+    }
+}
+
+impl Chunk {
+    fn bytes(&self) -> Vec<u8> {
+        let mut body: Vec<u8> = self.opcodes.iter().flat_map(Opcode::bytes).collect();
+        body.extend(&self.loose);
+        let length = stated(self.stated_length, body.len());
+        [&length[..], &self.kind.to_le_bytes(), &body].concat()
+    }
+}
+
+impl Film {
+    /// The bytes.
+    pub fn bytes(&self) -> Vec<u8> {
+        let chunks = self.chunks.iter().flat_map(Chunk::bytes);
+        HEADER.iter().copied().chain(chunks).chain(self.tail.iter().copied()).collect()
+    }
+}
+
+/// The length word of a head.
+fn stated(length: Option<u16>, real: usize) -> [u8; 2] {
+    let real = || u16::try_from(real).expect("made chunks are shorter than 65,536 bytes");
+    length.unwrap_or_else(real).to_le_bytes()
+}
+
+/// A valid film with up to four frames.
+pub fn valid(rng: &mut Seeded) -> Film {
+    let frames = rng.below(5);
+    with_frames(rng, frames)
+}
+
+/// A valid film with so many frames, usually small ones. It may do without opcode 05 only where
+/// it has none.
+pub fn with_frames(rng: &mut Seeded, frames: usize) -> Film {
+    let large = rng.one_in(64);
+    let size = if large { Size::any(rng) } else { Size::small(rng) };
+    let mut opcodes = Vec::new();
+    others(rng, &mut opcodes);
+    if frames > 0 || !rng.one_in(4) {
+        opcodes.push(init_video(rng, size));
+    }
+    for _ in 0..frames {
+        let profile = if large { Profile::Light } else { rng.pick(&Profile::MANY) };
+        frame(rng, &mut opcodes, size, profile);
+    }
+    let mut chunks = in_chunks(rng, opcodes);
+    let tail = end(rng, &mut chunks);
+    Film { size, chunks, tail }
+}
+
+/// The opcodes 0F and 11 of a packet.
+pub fn packet_opcodes(rng: &mut Seeded, packet: Packet) -> [Opcode; 2] {
+    let body = [rng.bytes(14), packet.data].concat();
+    [Opcode::new(0x0F, 0, packet.map), Opcode::new(0x11, 0, body)]
+}
+
+/// One frame: map, video data, usually a send, and other opcodes between them. Now and then a map
+/// is set that another one replaces, or a frame is drawn over before it is sent.
+fn frame(rng: &mut Seeded, opcodes: &mut Vec<Opcode>, size: Size, profile: Profile) {
+    if rng.one_in(8) {
+        let length = rng.below(9);
+        opcodes.push(Opcode::new(0x0F, 0, rng.bytes(length)));
+    }
+    let packet = Draft::make(rng, size, profile).packet();
+    let [map, video] = packet_opcodes(rng, packet);
+    opcodes.push(map);
+    others(rng, opcodes);
+    opcodes.push(video);
+    others(rng, opcodes);
+    if !rng.one_in(6) {
+        opcodes.push(send(rng));
+    }
+}
+
+/// Up to three opcodes that may stand anywhere: passed over, of the palette, or a send, which does
+/// nothing where no frame is finished and unsent.
+fn others(rng: &mut Seeded, opcodes: &mut Vec<Opcode>) {
+    for _ in 0..rng.below(4) {
+        let opcode = match rng.below(8) {
+            0 => gradient(rng),
+            1 => set_palette(rng),
+            2 => set_palette_compressed(rng),
+            3 if rng.one_in(4) => send(rng),
+            _ => passed_over(rng),
+        };
+        opcodes.push(opcode);
+    }
+}
+
+fn passed_over(rng: &mut Seeded) -> Opcode {
+    let (kind, length) = (rng.pick(&PASSED_OVER), rng.below(24));
+    Opcode::new(kind, rng.byte(), rng.bytes(length))
+}
+
+/// Opcode 05 in any version. The count word is any number, the true-colour word 0.
+fn init_video(rng: &mut Seeded, size: Size) -> Opcode {
+    let version = rng.below(3);
+    let words = [size.width() as u16, size.height() as u16, rng.number() as u16, 0];
+    let body = words[..2 + version].iter().flat_map(|word| word.to_le_bytes()).collect();
+    Opcode::new(0x05, version as u8, body)
+}
+
+/// Opcode 07 in either version. Its words are not read.
+fn send(rng: &mut Seeded) -> Opcode {
+    let version = rng.below(2);
+    Opcode::new(0x07, version as u8, rng.bytes(4 + 2 * version))
+}
+
+/// Opcode 0B. Either gradient may be absent, and then has any base.
+fn gradient(rng: &mut Seeded) -> Opcode {
+    let body = [one_gradient(rng), one_gradient(rng)].concat();
+    Opcode::new(0x0B, 0, body)
+}
+
+fn one_gradient(rng: &mut Seeded) -> [u8; 3] {
+    let (rows, columns) = (rng.below(17), rng.below(17));
+    let last_base = 256 - rows * columns;
+    let base = match rows * columns {
+        0 => rng.byte(),
+        _ => rng.below(last_base + 1).min(255) as u8,
+    };
+    [base, rows as u8, columns as u8]
+}
+
+/// Opcode 0C, now and then with no entry or with all of them.
+fn set_palette(rng: &mut Seeded) -> Opcode {
+    let (start, count) = match rng.below(6) {
+        0 => (rng.below(257), 0),
+        1 => (0, 256),
+        _ => {
+            let start = rng.below(256);
+            (start, rng.between(1, (256 - start).min(6)))
+        }
+    };
+    let words = [start as u16, count as u16].map(u16::to_le_bytes).concat();
+    Opcode::new(0x0C, 0, [words, components(rng, count * 3)].concat())
+}
+
+/// Opcode 0D, with few or many entries.
+fn set_palette_compressed(rng: &mut Seeded) -> Opcode {
+    let sparse = !rng.one_in(4);
+    let mut body = Vec::new();
+    for _ in 0..32 {
+        let mask = if sparse && !rng.one_in(8) { 0 } else { rng.byte() };
+        body.push(mask);
+        body.extend(components(rng, mask.count_ones() as usize * 3));
+    }
+    Opcode::new(0x0D, 0, body)
+}
+
+/// Colour components, 0 to 63.
+fn components(rng: &mut Seeded, count: usize) -> Vec<u8> {
+    (0..count).map(|_| rng.byte() % 64).collect()
+}
+
+/// Spreads opcodes over chunks, some ended by 01, some empty.
+fn in_chunks(rng: &mut Seeded, opcodes: Vec<Opcode>) -> Vec<Chunk> {
+    let mut chunks = Vec::new();
+    let mut chunk = new_chunk(rng);
+    for opcode in opcodes {
+        chunk.opcodes.push(opcode);
+        if rng.one_in(4) {
+            close(rng, &mut chunks, chunk);
+            chunk = new_chunk(rng);
+        }
+    }
+    close(rng, &mut chunks, chunk);
+    chunks
+}
+
+fn new_chunk(rng: &mut Seeded) -> Chunk {
+    Chunk { kind: rng.pick(&[0, 1, 2, 3, 4, 5, 0xFFFF]), ..Chunk::default() }
+}
+
+fn close(rng: &mut Seeded, chunks: &mut Vec<Chunk>, mut chunk: Chunk) {
+    if rng.one_in(2) {
+        chunk.opcodes.push(Opcode::new(0x01, 0, Vec::new()));
+    }
+    chunks.push(chunk);
+    if rng.one_in(8) {
+        chunks.push(new_chunk(rng));
+    }
+}
+
+/// Ends a film by 00, with or without bytes behind its chunk, or by nothing. Gives those bytes.
+fn end(rng: &mut Seeded, chunks: &mut Vec<Chunk>) -> Vec<u8> {
+    if rng.one_in(3) {
+        return Vec::new();
+    }
+    let mut last = new_chunk(rng);
+    if rng.one_in(2) {
+        last.opcodes.push(passed_over(rng));
+    }
+    last.opcodes.push(Opcode::new(0x00, 0, Vec::new()));
+    chunks.push(last);
+    let length = if rng.one_in(2) { rng.between(1, 9) } else { 0 };
+    rng.bytes(length)
+}
+
+/// Films of random chunks and opcodes: sound heads, bodies without meaning.
+pub fn hostile(rng: &mut Seeded) -> Vec<u8> {
+    let mut film = Film { size: Size::small(rng), chunks: Vec::new(), tail: Vec::new() };
+    for _ in 0..rng.below(4) {
+        let mut chunk = new_chunk(rng);
+        for _ in 0..rng.below(5) {
+            let (kind, version) = (rng.byte() % 0x18, rng.byte() % 3);
+            let length = rng.pick(&[0, 4, 6, 8, 14, 15, 32, 40]);
+            chunk.opcodes.push(Opcode::new(kind, version, rng.bytes(length)));
+        }
+        film.chunks.push(chunk);
+    }
+    if rng.one_in(2) {
+        let length = rng.below(40);
+        film.tail = rng.bytes(length);
+    }
+    film.bytes()
+}

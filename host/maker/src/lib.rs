@@ -1,0 +1,21 @@
+//! Seeded makers of test inputs: packets, films, film states and lists of drawing calls; valid,
+//! damaged and hostile. The same seed gives the same bytes for ever, on every machine.
+//!
+//! Packets, films and calls are written from the documents, encoder's side up: what a maker calls
+//! valid is so by construction, not because a decoder took it. Only [`states`] uses the second
+//! decoder, to walk into the middle of a film. In comments "01" is the scope document.
+
+pub mod calls;
+pub mod film;
+pub mod film_damage;
+pub mod form;
+pub mod packet;
+pub mod packet_damage;
+pub mod seeded;
+pub mod size;
+pub mod states;
+
+pub use form::Form;
+pub use packet::{Packet, Profile};
+pub use seeded::Seeded;
+pub use size::Size;

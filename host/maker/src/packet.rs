@@ -1,0 +1,161 @@
+//! Packets: the map and the data of one frame.
+
+use crate::form::{Block, Form};
+use crate::seeded::Seeded;
+use crate::size::Size;
+
+/// A packet as it is given to checking and drawing.
+#[derive(Clone, Debug, PartialEq, Eq)]
+pub struct Packet {
+    /// Frame width in pixels; damage may make it any number below 65,536.
+    pub width: usize,
+    /// Frame height in pixels, likewise.
+    pub height: usize,
+    /// One nibble a block.
+    pub map: Vec<u8>,
+    /// The blocks' data.
+    pub data: Vec<u8>,
+}
+
+/// Which blocks a packet is made of.
+#[derive(Clone, Copy, Debug, PartialEq, Eq)]
+pub enum Profile {
+    /// Every form.
+    Mixed,
+    /// Codes 0 and 2 to 5.
+    Copies,
+    /// Codes 2 and 3 with solid blocks between: frames that read what they overwrite.
+    BackCopies,
+    /// Codes 7 to A.
+    Patterns,
+    /// Codes B to F.
+    Raw,
+    /// Codes with at most two data bytes, so that the largest frame fits an opcode.
+    Light,
+    /// Code 1 with a few other blocks.
+    Sparse,
+    /// One form; a solid block where it is a copy that has no vector.
+    Only(Form),
+}
+
+impl Profile {
+    /// The profiles of more than one form.
+    pub const MANY: [Profile; 7] = [
+        Profile::Mixed,
+        Profile::Copies,
+        Profile::BackCopies,
+        Profile::Patterns,
+        Profile::Raw,
+        Profile::Light,
+        Profile::Sparse,
+    ];
+
+    fn form(self, rng: &mut Seeded) -> Form {
+        let of = match self {
+            Profile::Mixed => &Form::ALL[..],
+            Profile::Copies => &[
+                Form::SameBlock,
+                Form::BackAhead,
+                Form::BackBehind,
+                Form::FrontNear,
+                Form::FrontFar,
+            ],
+            Profile::BackCopies => &[Form::BackAhead, Form::BackBehind, Form::Solid],
+            Profile::Patterns => &Form::ALL[6..18],
+            Profile::Raw => &Form::ALL[18..],
+            Profile::Light => &[
+                Form::SameBlock,
+                Form::Untouched,
+                Form::BackAhead,
+                Form::BackBehind,
+                Form::FrontNear,
+                Form::FrontFar,
+                Form::Solid,
+                Form::Dithered,
+            ],
+            Profile::Sparse if rng.one_in(8) => &Form::ALL[..],
+            Profile::Sparse => &[Form::Untouched],
+            Profile::Only(form) => return form,
+        };
+        rng.pick(of)
+    }
+}
+
+/// A packet as its maker keeps it, block by block.
+#[derive(Clone, Debug)]
+pub struct Draft {
+    /// The frame size.
+    pub size: Size,
+    /// The blocks, left to right, then down.
+    pub blocks: Vec<Block>,
+    /// The nibble behind the last block where their number is odd. It is not read.
+    pub spare: u8,
+}
+
+impl Draft {
+    /// A valid packet.
+    pub fn make(rng: &mut Seeded, size: Size, profile: Profile) -> Draft {
+        let blocks = (0..size.blocks()).map(|number| {
+            let form = profile.form(rng);
+            form.block(rng, size, number)
+                .unwrap_or_else(|| Block { code: Form::Solid.code(), data: rng.bytes(1) })
+        });
+        let blocks = blocks.collect();
+        Draft { size, blocks, spare: rng.byte() & 0x0F }
+    }
+
+    /// Stores that drawing the blocks from `place` on makes: 65 each, 1 for code 1 (01).
+    pub fn stores_from(&self, place: usize) -> usize {
+        self.blocks[place..].iter().map(stores_of).sum()
+    }
+
+    /// The place after drawing on from `place` with so many stores.
+    pub fn place_after(&self, place: usize, allowed: usize) -> usize {
+        let mut left = allowed;
+        let finished = self.blocks[place..].iter().take_while(|block| {
+            let enough = left >= stores_of(block);
+            left = left.saturating_sub(stores_of(block));
+            enough
+        });
+        place + finished.count()
+    }
+
+    /// The bytes.
+    pub fn packet(&self) -> Packet {
+        let mut codes: Vec<u8> = self.blocks.iter().map(|block| block.code).collect();
+        codes.push(self.spare);
+        Packet {
+            width: self.size.width(),
+            height: self.size.height(),
+            map: codes.chunks_exact(2).map(|pair| pair[0] | pair[1] << 4).collect(),
+            data: self.blocks.iter().flat_map(|block| block.data.clone()).collect(),
+        }
+    }
+}
+
+fn stores_of(block: &Block) -> usize {
+    if block.code == Form::Untouched.code() {
+        1
+    } else {
+        65
+    }
+}
+
+/// A valid packet of a few blocks, of any profile.
+pub fn small(rng: &mut Seeded) -> Draft {
+    let size = Size::small(rng);
+    let profile = rng.pick(&Profile::MANY);
+    Draft::make(rng, size, profile)
+}
+
+/// Bytes without meaning in the shape of a packet: mostly of a legal size with the right map
+/// length, so that checking goes on to the blocks.
+pub fn hostile(rng: &mut Seeded) -> Packet {
+    let size = Size::small(rng);
+    let legal = !rng.one_in(8);
+    let (width, height) =
+        if legal { (size.width(), size.height()) } else { (rng.below(700), rng.below(700)) };
+    let map_length = if rng.one_in(8) { rng.below(40) } else { size.blocks().div_ceil(2) };
+    let data_length = rng.below(size.blocks() * 20 + 2);
+    Packet { width, height, map: rng.bytes(map_length), data: rng.bytes(data_length) }
+}

@@ -1,0 +1,133 @@
+//! Damage to valid packets.
+
+use crate::form;
+use crate::packet::{Draft, Packet};
+use crate::seeded::Seeded;
+
+/// Kinds of damage. The first ones change bytes blindly, and the packet may stay valid; from
+/// `AddData` on each is made for one number of refusal.
+#[derive(Clone, Copy, Debug, PartialEq, Eq)]
+pub enum Damage {
+    /// Bits of some data bytes turned.
+    FlipData,
+    /// Bits of some map bytes turned.
+    FlipMap,
+    /// A data byte more between others.
+    InsertData,
+    /// A data byte less between others.
+    RemoveData,
+    /// A block gets another code and keeps its data.
+    ChangeCode,
+    /// Bytes behind the data: 15.
+    AddData,
+    /// The data cut: 13, if there was any.
+    CutData,
+    /// A block of code 6: 12.
+    CodeSix,
+    /// A copy that leaves the frame: 14.
+    CopyOutside,
+    /// A map byte too few: 10.
+    ShortMap,
+    /// Map bytes too many: 10.
+    LongMap,
+    /// A width that is not taken: 6.
+    BadWidth,
+    /// A height that is not taken: 6.
+    BadHeight,
+}
+
+impl Damage {
+    /// Every kind.
+    pub const ALL: [Damage; 13] = [
+        Damage::FlipData,
+        Damage::FlipMap,
+        Damage::InsertData,
+        Damage::RemoveData,
+        Damage::ChangeCode,
+        Damage::AddData,
+        Damage::CutData,
+        Damage::CodeSix,
+        Damage::CopyOutside,
+        Damage::ShortMap,
+        Damage::LongMap,
+        Damage::BadWidth,
+        Damage::BadHeight,
+    ];
+}
+
+/// A damaged copy of a valid packet.
+pub fn damaged(rng: &mut Seeded, draft: &Draft, damage: Damage) -> Packet {
+    let mut packet = draft.packet();
+    match damage {
+        Damage::FlipData => flip(rng, &mut packet.data),
+        Damage::FlipMap => flip(rng, &mut packet.map),
+        Damage::InsertData => {
+            let at = rng.below(packet.data.len() + 1);
+            packet.data.insert(at, rng.byte());
+        }
+        Damage::RemoveData => {
+            if !packet.data.is_empty() {
+                let at = rng.below(packet.data.len());
+                packet.data.remove(at);
+            }
+        }
+        Damage::ChangeCode => return with_block(rng, draft, |rng, code| *code = rng.byte() & 0x0F),
+        Damage::AddData => {
+            let length = rng.between(1, 3);
+            packet.data.extend(rng.bytes(length));
+        }
+        Damage::CutData => {
+            let cut = rng.between(1, 3);
+            packet.data.truncate(packet.data.len().saturating_sub(cut));
+        }
+        Damage::CodeSix => return with_block(rng, draft, |_, code| *code = 6),
+        Damage::CopyOutside => return with_outside_copy(rng, draft),
+        Damage::ShortMap => packet.map.truncate(packet.map.len() - 1),
+        Damage::LongMap => {
+            let length = rng.between(1, 3);
+            packet.map.extend(rng.bytes(length));
+        }
+        Damage::BadWidth => {
+            packet.width = rng.pick(&[0, 4, 7, 9, 12, 636, 641, 644, 648, 1280, 65_528, 65_535]);
+        }
+        Damage::BadHeight => {
+            packet.height = rng.pick(&[0, 4, 7, 9, 12, 476, 481, 484, 488, 640, 65_528, 65_535]);
+        }
+    }
+    packet
+}
+
+/// Turns one to three bits of some bytes.
+fn flip(rng: &mut Seeded, bytes: &mut [u8]) {
+    if bytes.is_empty() {
+        return;
+    }
+    for _ in 0..rng.between(1, 3) {
+        let at = rng.below(bytes.len());
+        bytes[at] ^= 1 << rng.below(8);
+    }
+}
+
+fn with_block(rng: &mut Seeded, draft: &Draft, change: impl Fn(&mut Seeded, &mut u8)) -> Packet {
+    let mut changed = draft.clone();
+    let number = rng.below(draft.blocks.len());
+    change(rng, &mut changed.blocks[number].code);
+    changed.packet()
+}
+
+/// A block of the frame's rim is copied from outside. From the rim one edge is always in reach.
+fn with_outside_copy(rng: &mut Seeded, draft: &Draft) -> Packet {
+    let (columns, rows) = (draft.size.columns, draft.size.rows);
+    let (column, row) = match rng.below(4) {
+        0 => (0, rng.below(rows)),
+        1 => (columns - 1, rng.below(rows)),
+        2 => (rng.below(columns), 0),
+        _ => (rng.below(columns), rows - 1),
+    };
+    let number = row * columns + column;
+    let mut changed = draft.clone();
+    if let Some(block) = form::outside_copy(rng, draft.size, number) {
+        changed.blocks[number] = block;
+    }
+    changed.packet()
+}

@@ -1,0 +1,163 @@
+//! What one step of a film is given: states and lent memory, good and hostile.
+
+use crate::calls;
+use crate::film::Film;
+use crate::seeded::Seeded;
+use crate::size::Size;
+use reference::film::{self, Span, State, Stepped};
+
+/// Everything that one step is given beside the film.
+#[derive(Clone, Debug, PartialEq, Eq)]
+pub struct Start {
+    /// The state that goes in.
+    pub state: State,
+    /// The lent palette.
+    pub palette: Vec<u8>,
+    /// The first lent picture.
+    pub picture_a: Vec<u8>,
+    /// The second lent picture.
+    pub picture_b: Vec<u8>,
+    /// The lent place.
+    pub place: usize,
+    /// Stores allowed.
+    pub allowed: usize,
+}
+
+/// The start of a film: the opening state, random pictures, sometimes longer than the frame, and
+/// a random palette.
+pub fn opening(rng: &mut Seeded, film: &Film) -> Start {
+    let spare = rng.pick(&[0, 0, 1, 77]);
+    Start {
+        state: film::open(&film.bytes()).expect("a valid film opens"),
+        palette: rng.bytes(768),
+        picture_a: rng.bytes(film.size.pixels() + spare),
+        picture_b: rng.bytes(film.size.pixels() + spare),
+        place: 0,
+        allowed: 312_000,
+    }
+}
+
+/// A valid film's state after a random number of steps, with what is lent as those steps left it.
+/// Drawing is stopped now and then in the middle of a frame.
+pub fn middle(rng: &mut Seeded, film: &Film) -> Start {
+    let bytes = film.bytes();
+    let mut start = opening(rng, film);
+    let heads: usize = film.chunks.iter().map(|chunk| 1 + chunk.opcodes.len()).sum();
+    for _ in 0..rng.below(heads + 4) {
+        start.allowed = calls::allowance(rng, film.size.blocks());
+        match start.step(&bytes) {
+            Stepped::Taken(state) | Stepped::Whole(state, _) | Stepped::Unfinished(state, _) => {
+                start.state = state;
+            }
+            Stepped::Ended(_) | Stepped::Refused(_) => break,
+        }
+    }
+    start.allowed = calls::allowance(rng, film.size.blocks());
+    start
+}
+
+/// A state in the middle of a film with one or two of its numbers, or of what is lent, changed.
+pub fn hostile(rng: &mut Seeded, film: &Film) -> Start {
+    let length = film.bytes().len();
+    let mut start = middle(rng, film);
+    for _ in 0..rng.between(1, 2) {
+        let state = &mut start.state;
+        match rng.below(10) {
+            0 => state.position = hostile_number(rng, state.position, length),
+            1 => state.chunk_end = hostile_number(rng, state.chunk_end, length),
+            2 => {
+                // A chunk head is read wherever this is.
+                state.position = rng.below(length + 1);
+                state.chunk_end = state.position;
+            }
+            3 => (state.width, state.height) = hostile_size(rng),
+            4 => state.front = rng.pick(&[0, 1, 0, 1, 2, 255, 256, usize::MAX]),
+            5 => state.map = hostile_map(rng, length),
+            6 => state.unsent = !state.unsent,
+            7 | 8 => start.place = hostile_place(rng, film.size.blocks()),
+            _ => hostile_lengths(rng, &mut start, film.size.pixels()),
+        }
+    }
+    start
+}
+
+/// A film's bytes with some of those changed that the next step reads: behind the position, or in
+/// the pending map.
+pub fn scratched_ahead(rng: &mut Seeded, film: &Film, start: &Start) -> Vec<u8> {
+    let mut bytes = film.bytes();
+    let behind_position = Span { start: start.state.position, length: rng.pick(&[1, 4, 8, 40]) };
+    let read = match start.state.map {
+        Some(map) if rng.one_in(3) => map,
+        _ => behind_position,
+    };
+    let first = read.start.min(bytes.len() - 1);
+    let length = read.length.clamp(1, bytes.len() - first);
+    for _ in 0..rng.between(1, 3) {
+        bytes[first + rng.below(length)] = rng.byte();
+    }
+    bytes
+}
+
+impl Start {
+    /// Takes the step by the second decoder; what is lent changes.
+    pub fn step(&mut self, film: &[u8]) -> Stepped {
+        film::step(
+            film,
+            self.state,
+            &mut self.palette,
+            &mut self.picture_a,
+            &mut self.picture_b,
+            &mut self.place,
+            self.allowed,
+        )
+    }
+}
+
+/// A number next to the old one or to a limit, far beyond it, or random below it.
+fn hostile_number(rng: &mut Seeded, old: usize, limit: usize) -> usize {
+    match rng.below(8) {
+        0 => old.saturating_add(1),
+        1 => old.saturating_sub(1),
+        2 => limit,
+        3 => limit + 1,
+        4 => usize::MAX - rng.below(5),
+        5 => 0,
+        _ => rng.below(limit + 1),
+    }
+}
+
+/// A place about the block count, or far above it.
+fn hostile_place(rng: &mut Seeded, blocks: usize) -> usize {
+    rng.pick(&[blocks - 1, blocks, blocks + 1, blocks + 2, usize::MAX])
+}
+
+/// A legal size that is not the film's, or one that cannot be.
+fn hostile_size(rng: &mut Seeded) -> (usize, usize) {
+    if rng.one_in(2) {
+        let size = Size::small(rng);
+        return (size.width(), size.height());
+    }
+    let sides = [0, 4, 8, 12, 16, 480, 488, 640, 648, 1 << 32, usize::MAX, usize::MAX - 7];
+    (rng.pick(&sides), rng.pick(&sides))
+}
+
+fn hostile_map(rng: &mut Seeded, film: usize) -> Option<Span> {
+    let start = hostile_number(rng, film / 2, film);
+    let length = match rng.below(4) {
+        0 => film.saturating_sub(start),
+        1 => film.saturating_sub(start) + 1,
+        2 => usize::MAX - rng.below(3),
+        _ => rng.below(20),
+    };
+    let none = rng.one_in(3);
+    (!none).then_some(Span { start, length })
+}
+
+fn hostile_lengths(rng: &mut Seeded, start: &mut Start, pixels: usize) {
+    match rng.below(4) {
+        0 => start.palette.resize(rng.pick(&[0, 1, 767, 769, 1024]), 0),
+        1 => start.picture_a.truncate(pixels - 1),
+        2 => start.picture_b.truncate(pixels - 1),
+        _ => start.picture_b.clear(),
+    }
+}

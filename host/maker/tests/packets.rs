@@ -1,0 +1,188 @@
+//! What the packet makers reach: every code and form, every number of refusal of checking, odd
+//! block counts; and that valid packets are valid.
+
+use maker::packet::{self, Draft};
+use maker::packet_damage::{damaged, Damage};
+use maker::{Form, Packet, Profile, Seeded, Size};
+use reference::packet::Block;
+use reference::{check, Refusal};
+use std::collections::BTreeMap;
+
+/// How often each thing must be reached at least.
+const OFTEN: usize = 20;
+
+fn checked(packet: &Packet) -> Result<(), Refusal> {
+    check(packet.width, packet.height, &packet.map, &packet.data)
+}
+
+fn blocks(packet: &Packet) -> Vec<Block<'_>> {
+    reference::packet::blocks(packet.width, packet.height, &packet.map, &packet.data)
+        .unwrap_or_else(|refusal| panic!("{refusal}: {packet:?}"))
+}
+
+/// The form of a block by its bytes, from 01's table.
+fn form_of(block: &Block<'_>) -> Form {
+    let falls = |first: usize| block.data[first] > block.data[first + 1];
+    match block.code {
+        0x0 => Form::SameBlock,
+        0x1 => Form::Untouched,
+        0x2 => Form::BackAhead,
+        0x3 => Form::BackBehind,
+        0x4 => Form::FrontNear,
+        0x5 => Form::FrontFar,
+        0x7 if falls(0) => Form::TwoColourCoarse,
+        0x7 => Form::TwoColourFine,
+        0x8 if !falls(0) => Form::TwoColourQuarters,
+        0x8 if !falls(6) => Form::TwoColourLeftRight,
+        0x8 => Form::TwoColourTopBottom,
+        0x9 => match (falls(0), falls(2)) {
+            (false, false) => Form::FourColour1x1,
+            (false, true) => Form::FourColour2x2,
+            (true, false) => Form::FourColour2x1,
+            (true, true) => Form::FourColour1x2,
+        },
+        0xA if !falls(0) => Form::FourColourQuarters,
+        0xA if !falls(12) => Form::FourColourLeftRight,
+        0xA => Form::FourColourTopBottom,
+        0xB => Form::Raw1x1,
+        0xC => Form::Raw2x2,
+        0xD => Form::Raw4x4,
+        0xE => Form::Solid,
+        0xF => Form::Dithered,
+        code => panic!("code {code} accepted"),
+    }
+}
+
+fn count<K: Ord>(keys: impl IntoIterator<Item = K>) -> BTreeMap<K, usize> {
+    let mut counts = BTreeMap::new();
+    for key in keys {
+        *counts.entry(key).or_insert(0) += 1;
+    }
+    counts
+}
+
+#[track_caller]
+fn assert_often<K: Ord + std::fmt::Debug>(counts: &BTreeMap<K, usize>, wanted: &[K]) {
+    for key in wanted {
+        let times = counts.get(key).copied().unwrap_or(0);
+        assert!(times >= OFTEN, "{key:?} reached {times} times, wanted {OFTEN}");
+    }
+}
+
+/// Small packets of every profile are accepted and have every form; odd and even block counts.
+#[test]
+fn small_packets() {
+    let mut forms = Vec::new();
+    let mut odd = Vec::new();
+    for seed in 0..1000 {
+        let mut rng = Seeded::new(seed);
+        let packet = packet::small(&mut rng).packet();
+        let blocks = blocks(&packet);
+        odd.push(blocks.len() % 2 == 1);
+        forms.extend(blocks.iter().map(form_of));
+    }
+    assert_often(&count(forms), &Form::ALL);
+    assert_often(&count(odd), &[false, true]);
+}
+
+/// Packets of any size, up to the largest, are accepted.
+#[test]
+fn large_packets() {
+    for seed in 0..20 {
+        let mut rng = Seeded::new(seed);
+        let size = if seed == 0 { Size::new(80, 60) } else { Size::any(&mut rng) };
+        let profile = Profile::MANY[seed as usize % Profile::MANY.len()];
+        let packet = Draft::make(&mut rng, size, profile).packet();
+        assert_eq!(blocks(&packet).len(), size.blocks());
+    }
+}
+
+/// A packet of one form has that form alone, but for solid blocks where a copy has no vector.
+#[test]
+fn packets_of_one_form() {
+    for form in Form::ALL {
+        let mut rng = Seeded::new(form as u64);
+        let packet = Draft::make(&mut rng, Size::new(7, 7), Profile::Only(form)).packet();
+        let counts = count(blocks(&packet).iter().map(form_of));
+        let others = counts.keys().filter(|&&key| key != form && key != Form::Solid).count();
+        assert_eq!(others, 0, "{form:?}: {counts:?}");
+        assert_often(&counts, &[form]);
+    }
+}
+
+/// Each kind of damage that is made for one number meets it, whatever the packet.
+#[test]
+fn damage_made_for_a_number() {
+    let made_for = [
+        (Damage::AddData, 15),
+        (Damage::CutData, 13),
+        (Damage::CodeSix, 12),
+        (Damage::CopyOutside, 14),
+        (Damage::ShortMap, 10),
+        (Damage::LongMap, 10),
+        (Damage::BadWidth, 6),
+        (Damage::BadHeight, 6),
+    ];
+    for (damage, number) in made_for {
+        for seed in 0..100 {
+            let mut rng = Seeded::new(seed);
+            let draft = packet::small(&mut rng);
+            let nothing_to_cut = damage == Damage::CutData && draft.packet().data.is_empty();
+            if !nothing_to_cut {
+                let answer = checked(&damaged(&mut rng, &draft, damage));
+                assert_eq!(answer.map_err(|refusal| refusal.number), Err(number), "{damage:?}");
+            }
+        }
+    }
+}
+
+/// Damaged packets reach every number of checking, in blocks behind the first, too; some stay
+/// valid. Copies outside are reached for each code that has a vector.
+#[test]
+fn damaged_packets() {
+    let mut numbers = Vec::new();
+    let mut later_blocks = Vec::new();
+    let mut outside_codes = Vec::new();
+    for seed in 0..300 {
+        let mut rng = Seeded::new(seed);
+        let draft = packet::small(&mut rng);
+        for damage in Damage::ALL {
+            let packet = damaged(&mut rng, &draft, damage);
+            let Err(refusal) = checked(&packet) else {
+                numbers.push(0);
+                continue;
+            };
+            numbers.push(refusal.number);
+            if refusal.block > 0 {
+                later_blocks.push(refusal.number);
+            }
+            if refusal.number == 14 {
+                let byte = packet.map[refusal.block / 2];
+                outside_codes.push(if refusal.block % 2 == 0 { byte & 15 } else { byte >> 4 });
+            }
+        }
+    }
+    assert_often(&count(numbers), &[0, 6, 10, 12, 13, 14, 15]);
+    assert_often(&count(later_blocks), &[12, 13, 14]);
+    assert_often(&count(outside_codes), &[2, 3, 4, 5]);
+}
+
+/// Bytes without meaning reach most numbers; a random packet is hardly ever valid.
+#[test]
+fn hostile_packets() {
+    let numbers = (0..3000).filter_map(|seed| {
+        let packet = packet::hostile(&mut Seeded::new(seed));
+        checked(&packet).err().map(|refusal| refusal.number)
+    });
+    assert_often(&count(numbers), &[6, 10, 12, 13, 14, 15]);
+}
+
+/// The same seed gives the same bytes, another seed others.
+#[test]
+fn seeds() {
+    let made = |seed| packet::small(&mut Seeded::new(seed)).packet();
+    for seed in 0..50 {
+        assert_eq!(made(seed), made(seed));
+        assert_ne!(made(seed), made(seed + 1));
+    }
+}

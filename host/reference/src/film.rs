@@ -1,0 +1,374 @@
+//! The film: header, chunks, opcodes, one step, the shown picture
+//! (01, "Film, chunks, opcodes" and "Numbers of refusal").
+
+use crate::frame::FrameSize;
+use crate::packet;
+use crate::palette;
+use crate::refusal::{self, Refusal};
+
+/// The 26 bytes that every film starts with: a title, then the words 001A, 0100, 1133.
+pub const HEADER: [u8; 26] = *b"Interplay MVE File\x1A\x00\x1A\x00\x00\x01\x33\x11";
+
+/// Bytes of a chunk's head: words length and type.
+const CHUNK_HEAD: usize = 4;
+/// Bytes of an opcode's head: word length, byte type, byte version.
+const OPCODE_HEAD: usize = 4;
+/// Bytes of opcode 11's body that are skipped in front of the packet.
+const VIDEO_FRONT: usize = 14;
+
+/// The opcode types that are acted on, by 003's names.
+pub mod opcode {
+    /// 00: end of stream. Ends the film, whatever follows its chunk.
+    pub const END_OF_STREAM: u8 = 0x00;
+    /// 01: end of chunk.
+    pub const END_OF_CHUNK: u8 = 0x01;
+    /// 05: initialize video buffers. Gives the frame size.
+    pub const INIT_VIDEO: u8 = 0x05;
+    /// 07: send buffer to display.
+    pub const SEND: u8 = 0x07;
+    /// 0B: create gradient.
+    pub const GRADIENT: u8 = 0x0B;
+    /// 0C: set palette.
+    pub const PALETTE: u8 = 0x0C;
+    /// 0D: set palette entries compressed.
+    pub const PALETTE_COMPRESSED: u8 = 0x0D;
+    /// 0F: set decoding map.
+    pub const MAP: u8 = 0x0F;
+    /// 11: video data.
+    pub const VIDEO: u8 = 0x11;
+}
+
+/// A part of the film by its place in it.
+#[derive(Clone, Copy, Debug, PartialEq, Eq)]
+pub struct Span {
+    /// Position of its first byte.
+    pub start: usize,
+    /// Its bytes.
+    pub length: usize,
+}
+
+impl Span {
+    /// The bytes, or none if they do not lie inside the film.
+    pub fn of<'a>(&self, film: &'a [u8]) -> Option<&'a [u8]> {
+        film.get(self.start..self.start.checked_add(self.length)?)
+    }
+}
+
+/// The state of a film between two steps. It goes into a step and comes back; any numbers may
+/// stand in it, and refusal 16 is met by those that cannot be.
+#[derive(Clone, Copy, Debug, PartialEq, Eq)]
+pub struct State {
+    /// Where the next chunk head or opcode is read.
+    pub position: usize,
+    /// End of the chunk that is being read.
+    pub chunk_end: usize,
+    /// Frame width in pixels; 0 before opcode 05.
+    pub width: usize,
+    /// Frame height in pixels; 0 before opcode 05.
+    pub height: usize,
+    /// Which lent picture is front, the shown one: 0 the first, 1 the second. The other one is
+    /// back, the one that is drawn on.
+    pub front: usize,
+    /// The map of the next frame, given by opcode 0F and not used up yet.
+    pub map: Option<Span>,
+    /// A frame is finished and not sent to the display yet.
+    pub unsent: bool,
+}
+
+impl State {
+    fn has_no_size(&self) -> bool {
+        (self.width, self.height) == (0, 0)
+    }
+
+    /// The legal frame size of the state, if it has one.
+    fn size(&self) -> Option<FrameSize> {
+        FrameSize::new(self.width, self.height).ok()
+    }
+}
+
+/// The answer to one step. Only drawing counts stores; every other step makes 0 (01).
+#[derive(Clone, Copy, Debug, PartialEq, Eq)]
+pub enum Stepped {
+    /// A chunk head or an opcode other than 11 was taken.
+    Taken(State),
+    /// Opcode 11 was taken: its frame is whole. With the stores made.
+    Whole(State, usize),
+    /// Opcode 11 drew as many stores as allowed and is to be stepped again. With the stores made.
+    Unfinished(State, usize),
+    /// The film is at its end; nothing changed.
+    Ended(State),
+    /// The step was refused; nothing changed.
+    Refused(Refusal),
+}
+
+/// A chunk's head, read.
+#[derive(Clone, Copy, Debug, PartialEq, Eq)]
+pub struct ChunkHead {
+    /// The type word, which the walk does not use.
+    pub kind: u16,
+    /// The chunk's opcodes.
+    pub body: Span,
+}
+
+/// An opcode's head, read.
+#[derive(Clone, Copy, Debug, PartialEq, Eq)]
+pub struct OpcodeHead {
+    /// The type byte.
+    pub kind: u8,
+    /// The version byte.
+    pub version: u8,
+    /// The body.
+    pub body: Span,
+}
+
+/// Opens a film: the header is tested (refusal 1) and nothing lent is touched.
+pub fn open(film: &[u8]) -> Result<State, Refusal> {
+    if !film.starts_with(&HEADER) {
+        return Err(Refusal::new(refusal::HEADER));
+    }
+    Ok(State {
+        position: HEADER.len(),
+        chunk_end: HEADER.len(),
+        width: 0,
+        height: 0,
+        front: 0,
+        map: None,
+        unsent: false,
+    })
+}
+
+/// Reads the chunk head at a position; refusal 2 where it or its body passes the film's end.
+pub fn chunk_head(film: &[u8], position: usize) -> Result<ChunkHead, Refusal> {
+    let past_end = Refusal::new(refusal::CHUNK);
+    let rest = film.get(position..).ok_or(past_end)?;
+    let &[length_low, length_high, kind_low, kind_high, ref behind @ ..] = rest else {
+        return Err(past_end);
+    };
+    let length = usize::from(u16::from_le_bytes([length_low, length_high]));
+    if length > behind.len() {
+        return Err(past_end);
+    }
+    let start = position + CHUNK_HEAD;
+    Ok(ChunkHead { kind: u16::from_le_bytes([kind_low, kind_high]), body: Span { start, length } })
+}
+
+/// Reads the opcode head at a position of a chunk; refusal 3 where it or its body passes the
+/// chunk, and where bytes of the chunk follow opcode 00 or 01.
+pub fn opcode_head(film: &[u8], position: usize, chunk_end: usize) -> Result<OpcodeHead, Refusal> {
+    let past_chunk = Refusal::new(refusal::OPCODE);
+    let rest = film.get(position..chunk_end).ok_or(past_chunk)?;
+    let &[length_low, length_high, kind, version, ref behind @ ..] = rest else {
+        return Err(past_chunk);
+    };
+    let length = usize::from(u16::from_le_bytes([length_low, length_high]));
+    let must_be_last = matches!(kind, opcode::END_OF_STREAM | opcode::END_OF_CHUNK);
+    if length > behind.len() || (must_be_last && length < behind.len()) {
+        return Err(past_chunk);
+    }
+    let start = position + OPCODE_HEAD;
+    Ok(OpcodeHead { kind, version, body: Span { start, length } })
+}
+
+/// One step: takes a chunk head where position and chunk end are equal, else one opcode.
+///
+/// Refusals come in the order 16, 8, 2 for a chunk head, and 16, 8, 3, 4, 5, then the opcode's
+/// own. While drawing is unfinished the state stays, so that the next step draws on.
+pub fn step(
+    film: &[u8],
+    state: State,
+    palette: &mut [u8],
+    picture_a: &mut [u8],
+    picture_b: &mut [u8],
+    place: &mut usize,
+    allowed: usize,
+) -> Stepped {
+    let mut lent = Lent { palette, picture_a, picture_b, place };
+    take_step(film, state, &mut lent, allowed).unwrap_or_else(Stepped::Refused)
+}
+
+/// The shown picture: the leading part of whichever lent picture is front, empty where there is
+/// no such part (01).
+pub fn shown<'a>(state: &State, picture_a: &'a [u8], picture_b: &'a [u8]) -> &'a [u8] {
+    let picture = match state.front {
+        0 => picture_a,
+        1 => picture_b,
+        _ => return &[],
+    };
+    state.size().and_then(|size| picture.get(..size.pixels())).unwrap_or(&[])
+}
+
+/// What is lent to a step beside the film.
+struct Lent<'a> {
+    palette: &'a mut [u8],
+    picture_a: &'a mut [u8],
+    picture_b: &'a mut [u8],
+    place: &'a mut usize,
+}
+
+fn take_step(
+    film: &[u8],
+    state: State,
+    lent: &mut Lent<'_>,
+    allowed: usize,
+) -> Result<Stepped, Refusal> {
+    check_state(film, &state)?;
+    check_lent(&state, lent)?;
+    if state.position == state.chunk_end {
+        enter_chunk(film, state)
+    } else {
+        take_opcode(film, state, lent, allowed)
+    }
+}
+
+/// Refusal 16, and just what it lists. Compared without sums that could wrap around.
+fn check_state(film: &[u8], state: &State) -> Result<(), Refusal> {
+    let cursor_can_be = state.position <= state.chunk_end && state.chunk_end <= film.len();
+    let map_can_be = state.map.is_none_or(|map| map.of(film).is_some());
+    let size_can_be = state.has_no_size() || state.size().is_some();
+    if cursor_can_be && map_can_be && state.front <= 1 && size_can_be {
+        Ok(())
+    } else {
+        Err(Refusal::new(refusal::STATE))
+    }
+}
+
+/// Refusal 8. Both pictures are tested at every step once a size is known.
+fn check_lent(state: &State, lent: &Lent<'_>) -> Result<(), Refusal> {
+    let pixels = state.size().map_or(0, FrameSize::pixels);
+    let pictures_fit = lent.picture_a.len() >= pixels && lent.picture_b.len() >= pixels;
+    if lent.palette.len() == palette::LENGTH && pictures_fit {
+        Ok(())
+    } else {
+        Err(Refusal::new(refusal::LENT))
+    }
+}
+
+fn enter_chunk(film: &[u8], state: State) -> Result<Stepped, Refusal> {
+    if state.chunk_end == film.len() {
+        return Ok(Stepped::Ended(state));
+    }
+    let body = chunk_head(film, state.position)?.body;
+    Ok(Stepped::Taken(State { position: body.start, chunk_end: body.start + body.length, ..state }))
+}
+
+fn take_opcode(
+    film: &[u8],
+    state: State,
+    lent: &mut Lent<'_>,
+    allowed: usize,
+) -> Result<Stepped, Refusal> {
+    let head = opcode_head(film, state.position, state.chunk_end)?;
+    if !takes_version(head.kind, head.version) {
+        return Err(Refusal::new(refusal::TYPE_OR_VERSION));
+    }
+    if !takes_length(head.kind, head.version, head.body.length) {
+        return Err(Refusal::new(refusal::BODY_LENGTH));
+    }
+    let body = &film[head.body.start..][..head.body.length];
+    let moved = State { position: head.body.start + head.body.length, ..state };
+    match head.kind {
+        opcode::END_OF_STREAM => Ok(Stepped::Taken(at_end(film, state))),
+        opcode::INIT_VIDEO => init_video(body, moved).map(Stepped::Taken),
+        opcode::SEND => Ok(Stepped::Taken(send(moved))),
+        opcode::GRADIENT => {
+            palette::create_gradient(body, lent.palette).map(|()| Stepped::Taken(moved))
+        }
+        opcode::PALETTE => palette::set_palette(body, lent.palette).map(|()| Stepped::Taken(moved)),
+        opcode::PALETTE_COMPRESSED => {
+            palette::set_palette_compressed(body, lent.palette).map(|()| Stepped::Taken(moved))
+        }
+        opcode::MAP => {
+            *lent.place = 0;
+            let map = Some(head.body);
+            Ok(Stepped::Taken(State { map, ..moved }))
+        }
+        opcode::VIDEO => draw_video(film, &body[VIDEO_FRONT..], state, moved, lent, allowed),
+        _ => Ok(Stepped::Taken(moved)),
+    }
+}
+
+/// Whether a type is acted on or passed over in this version (refusal 4).
+fn takes_version(kind: u8, version: u8) -> bool {
+    match kind {
+        0x02 | 0x03 | 0x04 | 0x08 | 0x09 | 0x0A | 0x12..=0x15 => true,
+        opcode::INIT_VIDEO => version <= 2,
+        opcode::SEND => version <= 1,
+        opcode::END_OF_STREAM
+        | opcode::END_OF_CHUNK
+        | opcode::GRADIENT
+        | opcode::PALETTE
+        | opcode::PALETTE_COMPRESSED
+        | opcode::MAP
+        | opcode::VIDEO => version == 0,
+        _ => false,
+    }
+}
+
+/// Whether a body may have this length (refusal 5). 0C and 0D tell theirs in the body itself,
+/// which `palette` tests.
+fn takes_length(kind: u8, version: u8, length: usize) -> bool {
+    match kind {
+        opcode::END_OF_STREAM | opcode::END_OF_CHUNK => length == 0,
+        opcode::INIT_VIDEO | opcode::SEND => length == 4 + 2 * usize::from(version),
+        opcode::GRADIENT => length == 6,
+        opcode::VIDEO => length >= VIDEO_FRONT,
+        _ => true,
+    }
+}
+
+fn at_end(film: &[u8], state: State) -> State {
+    State { position: film.len(), chunk_end: film.len(), ..state }
+}
+
+/// Opcode 05: words width, height, from version 1 a count that is not read, in version 2 a
+/// true-colour word that must be 0. Only once in a film.
+fn init_video(body: &[u8], state: State) -> Result<State, Refusal> {
+    let words: Vec<usize> = body
+        .chunks_exact(2)
+        .map(|word| usize::from(u16::from_le_bytes([word[0], word[1]])))
+        .collect();
+    let true_colour = words.get(3).copied().unwrap_or(0);
+    if !state.has_no_size() || true_colour != 0 {
+        return Err(Refusal::new(refusal::SIZE));
+    }
+    let (width, height) = (words[0], words[1]);
+    FrameSize::new(width, height)?;
+    Ok(State { width, height, ..state })
+}
+
+/// Opcode 07: front and back change roles if a frame is finished and unsent.
+fn send(state: State) -> State {
+    if !state.unsent {
+        return state;
+    }
+    State { front: 1 - state.front, unsent: false, ..state }
+}
+
+/// Opcode 11: draws the packet on back, going on from the place. `moved` is the state with the
+/// position behind the opcode, for when the frame is whole.
+fn draw_video(
+    film: &[u8],
+    packet: &[u8],
+    state: State,
+    moved: State,
+    lent: &mut Lent<'_>,
+    allowed: usize,
+) -> Result<Stepped, Refusal> {
+    let map = state.map.and_then(|map| map.of(film));
+    let (Some(map), Some(size)) = (map, state.size()) else {
+        return Err(Refusal::new(refusal::NO_SIZE_OR_MAP));
+    };
+    let (front, back) = if state.front == 0 {
+        (&*lent.picture_a, &mut *lent.picture_b)
+    } else {
+        (&*lent.picture_b, &mut *lent.picture_a)
+    };
+    let (width, height) = (size.width(), size.height());
+    let drawn = packet::draw(width, height, map, packet, front, back, lent.place, allowed)?;
+    Ok(if drawn.whole {
+        let after = State { map: None, unsent: true, ..moved };
+        Stepped::Whole(after, drawn.stores)
+    } else {
+        Stepped::Unfinished(state, drawn.stores)
+    })
+}

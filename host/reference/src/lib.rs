@@ -1,0 +1,32 @@
+//! A second decoder for Interplay MVE films with 8-bit pictures.
+//!
+//! It is written from the documents alone and shares nothing with the player core it is held
+//! against: straightforward rather than fast, one short function for each rule. In comments "01"
+//! is the scope document, which decides over source document "003" (the file), which decides over
+//! source document "000" (the blocks).
+//!
+//! Every function takes plain slices and numbers and answers on any input; none of them wraps
+//! around or panics. A refused call leaves everything lent to it as it was.
+//!
+//! | Module | Rules |
+//! |---|---|
+//! | [`frame`] | frame sizes and the grid of 8x8 blocks |
+//! | [`block`] | one block: data length, motion vector, source of each pixel |
+//! | [`packet`] | map and data of one frame: checking and drawing |
+//! | [`book`] | what a list of drawing calls must do, worked out without drawing |
+//! | [`palette`] | opcodes 0B, 0C, 0D |
+//! | [`film`] | header, chunks, opcodes, one step, the shown picture |
+//! | [`listing`] | the text that the listing program writes |
+
+pub mod block;
+pub mod book;
+pub mod film;
+pub mod frame;
+pub mod listing;
+pub mod packet;
+pub mod palette;
+pub mod refusal;
+
+pub use block::{source, Source};
+pub use packet::{check, draw, Drawn};
+pub use refusal::Refusal;

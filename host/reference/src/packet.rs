@@ -1,0 +1,191 @@
+//! A packet: the map and the data of one frame. Checking it, and drawing it store by store
+//! (01, "Packet, blocks, place").
+
+use crate::block::{self, Source};
+use crate::frame::{FrameSize, BLOCK_PIXELS, BLOCK_SIDE};
+use crate::refusal::{self, Refusal};
+
+/// The code that is refused in 8-bit films.
+const REFUSED_CODE: u8 = 0x6;
+/// "Untouched" (01): the only code without pixel stores.
+const UNTOUCHED: u8 = 0x1;
+
+/// A block of an accepted packet.
+#[derive(Clone, Copy, Debug, PartialEq, Eq)]
+pub struct Block<'a> {
+    /// Number of the block, left to right, then down.
+    pub number: usize,
+    /// Its code in the map.
+    pub code: u8,
+    /// Its leftmost pixel.
+    pub x: usize,
+    /// Its topmost pixel.
+    pub y: usize,
+    /// Its data bytes, no more and no fewer.
+    pub data: &'a [u8],
+}
+
+impl Block<'_> {
+    /// Pixel stores that drawing the block makes; the store of the place comes on top.
+    pub fn pixel_stores(&self) -> usize {
+        if self.code == UNTOUCHED {
+            0
+        } else {
+            BLOCK_PIXELS
+        }
+    }
+
+    /// Index in the picture of the block's pixel `i`, row by row.
+    pub(crate) fn target(&self, size: FrameSize, i: usize) -> usize {
+        let (column, row) = (i % BLOCK_SIDE, i / BLOCK_SIDE);
+        (self.y + row) * size.width() + self.x + column
+    }
+
+    /// Value of the block's pixel `i`, read from the pictures as they are now.
+    pub(crate) fn value(&self, size: FrameSize, i: usize, front: &[u8], back: &[u8]) -> u8 {
+        let source = block::source(size.width(), self.code, self.data, self.x, self.y, i);
+        match source.expect("each pixel of an accepted block has a source") {
+            Source::Data(index) => self.data[index],
+            Source::Front(index) => front[index],
+            Source::Back(index) => back[index],
+        }
+    }
+}
+
+/// Checks a packet: 6, 10, then block by block 12, 13, 14, then 15.
+pub fn check(width: usize, height: usize, map: &[u8], data: &[u8]) -> Result<(), Refusal> {
+    blocks(width, height, map, data).map(|_| ())
+}
+
+/// The blocks of a packet that [`check`] accepts, in order.
+pub fn blocks<'a>(
+    width: usize,
+    height: usize,
+    map: &[u8],
+    data: &'a [u8],
+) -> Result<Vec<Block<'a>>, Refusal> {
+    let size = FrameSize::new(width, height)?;
+    check_map_length(size, map)?;
+    split(size, map, data)
+}
+
+/// What a drawing call did.
+#[derive(Clone, Copy, Debug, PartialEq, Eq)]
+pub struct Drawn {
+    /// "Whole" (01): the place is now the block count. Else the drawing is "unfinished".
+    pub whole: bool,
+    /// Stores made, those of the place included.
+    pub stores: usize,
+}
+
+/// Draws a packet on `back`, going on from `place`, with at most `allowed` stores.
+///
+/// The place (01) is the number of blocks that are finished: the block to draw next. It is stored
+/// once behind each block, so a call that ends inside a block has that block drawn again from its
+/// first pixel. Refusals come in the order 6, 8, 10, 11, 12 to 15.
+#[allow(clippy::too_many_arguments)] // document 01's arguments, each a plain slice or number
+pub fn draw(
+    width: usize,
+    height: usize,
+    map: &[u8],
+    data: &[u8],
+    front: &[u8],
+    back: &mut [u8],
+    place: &mut usize,
+    allowed: usize,
+) -> Result<Drawn, Refusal> {
+    let size = FrameSize::new(width, height)?;
+    let blocks = accepted_blocks(size, map, data, front, back, *place)?;
+    let mut stores = 0;
+    'drawing: for block in &blocks[*place..] {
+        for i in 0..block.pixel_stores() {
+            if stores == allowed {
+                break 'drawing;
+            }
+            back[block.target(size, i)] = block.value(size, i, front, back);
+            stores += 1;
+        }
+        if stores == allowed {
+            break 'drawing;
+        }
+        *place = block.number + 1;
+        stores += 1;
+    }
+    let whole = *place == size.blocks();
+    Ok(Drawn { whole, stores })
+}
+
+/// The tests of a drawing call behind that of the size: 8, 10, 11, then 12 to 15.
+pub(crate) fn accepted_blocks<'a>(
+    size: FrameSize,
+    map: &[u8],
+    data: &'a [u8],
+    front: &[u8],
+    back: &[u8],
+    place: usize,
+) -> Result<Vec<Block<'a>>, Refusal> {
+    if front.len() < size.pixels() || back.len() < size.pixels() {
+        return Err(Refusal::new(refusal::LENT));
+    }
+    check_map_length(size, map)?;
+    if place > size.blocks() {
+        return Err(Refusal::new(refusal::PLACE));
+    }
+    split(size, map, data)
+}
+
+fn check_map_length(size: FrameSize, map: &[u8]) -> Result<(), Refusal> {
+    if map.len() == size.map_length() {
+        Ok(())
+    } else {
+        Err(Refusal::new(refusal::MAP_LENGTH))
+    }
+}
+
+/// Gives each block its part of the data. All blocks are tested from block 0 on, whatever the
+/// place, and the lowest one with a fault speaks (01, "Numbers of refusal").
+fn split<'a>(size: FrameSize, map: &[u8], data: &'a [u8]) -> Result<Vec<Block<'a>>, Refusal> {
+    let mut blocks = Vec::with_capacity(size.blocks());
+    let mut rest = data;
+    for number in 0..size.blocks() {
+        let block = next_block(size, number, map_code(map, number), rest)?;
+        rest = &rest[block.data.len()..];
+        blocks.push(block);
+    }
+    if may_be_left(rest) {
+        Ok(blocks)
+    } else {
+        Err(Refusal::new(refusal::DATA_LEFT))
+    }
+}
+
+/// The block whose data starts `rest`, or 12, 13 or 14, in this order.
+fn next_block(size: FrameSize, number: usize, code: u8, rest: &[u8]) -> Result<Block<'_>, Refusal> {
+    let refuse = |why| Err(Refusal::in_block(why, number));
+    if code == REFUSED_CODE {
+        return refuse(refusal::CODE_6);
+    }
+    let Some(data) = block::length(code, rest).and_then(|length| rest.get(..length)) else {
+        return refuse(refusal::DATA_SHORT);
+    };
+    let (x, y) = size.corner(number);
+    if block::copy(code, data).is_some_and(|copy| !copy.is_inside(size, x, y)) {
+        return refuse(refusal::COPY_OUTSIDE);
+    }
+    Ok(Block { number, code, x, y, data })
+}
+
+/// The code of a block: one nibble each, low nibble first (01). A spare last nibble is not read.
+fn map_code(map: &[u8], block: usize) -> u8 {
+    let byte = map[block / 2];
+    if block.is_multiple_of(2) {
+        byte & 0x0F
+    } else {
+        byte >> 4
+    }
+}
+
+/// The rule on data behind the last block: none may be left (01, refusal 15).
+fn may_be_left(rest: &[u8]) -> bool {
+    rest.is_empty()
+}

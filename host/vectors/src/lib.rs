@@ -1,0 +1,102 @@
+//! Cases of the packet check and the answers that the second decoder gives to them, as two files:
+//! what a checking program reads from standard input, and what it must write.
+//!
+//! Input, little-endian, for each case: words width, height, map length, data length, then the map
+//! and the data. The file ends with the last case. Output, for each case, a line: `accepted`, or
+//! `refused`, the number and the block, in decimal.
+
+use maker::packet::{self, Draft};
+use maker::packet_damage::{damaged, Damage};
+use maker::{Form, Packet, Profile, Seeded, Size};
+
+/// Bytes that the input may have at most.
+pub const MAX_INPUT: usize = 60_000;
+
+/// The two files.
+#[derive(Clone, Debug, PartialEq, Eq)]
+pub struct Vectors {
+    /// The cases.
+    pub input: Vec<u8>,
+    /// The answers.
+    pub output: Vec<u8>,
+}
+
+/// Makes both files; they are the same every time.
+pub fn generate() -> Vectors {
+    let cases = cases();
+    Vectors {
+        input: cases.iter().flat_map(case_bytes).collect(),
+        output: cases.iter().map(answer_line).collect::<String>().into_bytes(),
+    }
+}
+
+/// The cases: those that document 01 checks by hand, then seeded ones.
+pub fn cases() -> Vec<Packet> {
+    let mut rng = Seeded::new(0x4D56_4501);
+    let mut cases = hand_cases();
+    for form in Form::ALL {
+        let draft = Draft::make(&mut rng, Size::new(3, 2), Profile::Only(form));
+        cases.push(draft.packet());
+    }
+    for _ in 0..90 {
+        cases.push(small_draft(&mut rng).packet());
+    }
+    for _ in 0..12 {
+        for damage in Damage::ALL {
+            let draft = small_draft(&mut rng);
+            cases.push(damaged(&mut rng, &draft, damage));
+        }
+    }
+    for _ in 0..30 {
+        cases.push(packet::hostile(&mut rng));
+    }
+    cases
+}
+
+/// Document 01's unmarked cases that concern a packet.
+fn hand_cases() -> Vec<Packet> {
+    let one_copy =
+        |data: [u8; 2]| Packet { width: 8, height: 8, map: vec![0x05], data: data.to_vec() };
+    // Code 1 throughout, and the map as long as the width asks, so that only the width can be
+    // refused.
+    let untouched = |width: usize| Packet {
+        width,
+        height: 8,
+        map: vec![0x11; width.div_ceil(16)],
+        data: Vec::new(),
+    };
+    vec![
+        one_copy([0x00, 0x00]),
+        one_copy([0x01, 0x00]),
+        untouched(640),
+        untouched(0),
+        untouched(648),
+        untouched(12),
+    ]
+}
+
+/// A valid packet of up to 4x4 blocks, now and then a full row or column of light ones.
+fn small_draft(rng: &mut Seeded) -> Draft {
+    match rng.below(16) {
+        0 => Draft::make(rng, Size::new(80, 1), Profile::Light),
+        1 => Draft::make(rng, Size::new(1, 60), Profile::Light),
+        _ => {
+            let size = Size::new(rng.between(1, 4), rng.between(1, 4));
+            let profile = rng.pick(&Profile::MANY);
+            Draft::make(rng, size, profile)
+        }
+    }
+}
+
+fn case_bytes(packet: &Packet) -> Vec<u8> {
+    let numbers = [packet.width, packet.height, packet.map.len(), packet.data.len()];
+    let word = |number| u16::try_from(number).expect("cases are small").to_le_bytes();
+    [numbers.map(word).concat(), packet.map.clone(), packet.data.clone()].concat()
+}
+
+fn answer_line(packet: &Packet) -> String {
+    match reference::check(packet.width, packet.height, &packet.map, &packet.data) {
+        Ok(()) => "accepted\n".to_string(),
+        Err(refusal) => format!("refused {} {}\n", refusal.number, refusal.block),
+    }
+}

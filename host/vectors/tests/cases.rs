@@ -1,0 +1,96 @@
+//! What the cases hold: the ones checked by hand, every form and number of refusal, and bytes that
+//! a reader of the format takes apart again.
+
+use maker::{Form, Packet};
+use std::collections::BTreeMap;
+
+/// How often each form and each number must be there at least.
+const OFTEN: usize = 5;
+
+/// Reads the input as a checking program does.
+fn read(input: &[u8]) -> Vec<Packet> {
+    let mut packets = Vec::new();
+    let mut rest = input;
+    while !rest.is_empty() {
+        let word = |at: usize| usize::from(rest[at]) + 256 * usize::from(rest[at + 1]);
+        let (width, height, map, data) = (word(0), word(2), word(4), word(6));
+        packets.push(Packet {
+            width,
+            height,
+            map: rest[8..8 + map].to_vec(),
+            data: rest[8 + map..8 + map + data].to_vec(),
+        });
+        rest = &rest[8 + map + data..];
+    }
+    packets
+}
+
+fn output_lines() -> Vec<String> {
+    let output = String::from_utf8(vectors::generate().output).expect("text");
+    assert!(output.ends_with('\n'));
+    output.lines().map(str::to_string).collect()
+}
+
+#[test]
+fn input_is_read_back() {
+    let input = vectors::generate().input;
+    assert!(input.len() <= vectors::MAX_INPUT, "{} bytes", input.len());
+    let packets = read(&input);
+    assert_eq!(packets, vectors::cases());
+    assert_eq!(packets.len(), output_lines().len());
+    assert!(packets.len() >= 300, "{} cases", packets.len());
+}
+
+/// The first case byte by byte, and the answers that document 01 gives to the first six.
+#[test]
+fn hand_cases() {
+    let input = vectors::generate().input;
+    assert_eq!(input[..11], [8, 0, 8, 0, 1, 0, 2, 0, 0x05, 0x00, 0x00]);
+    let sizes: Vec<_> = read(&input).iter().take(6).map(|p| (p.width, p.height)).collect();
+    assert_eq!(sizes, [(8, 8), (8, 8), (640, 8), (0, 8), (648, 8), (12, 8)]);
+    let answers =
+        ["accepted", "refused 14 0", "accepted", "refused 6 0", "refused 6 0", "refused 6 0"];
+    assert_eq!(output_lines()[..6], answers);
+}
+
+#[test]
+fn every_number() {
+    let mut counts: BTreeMap<String, usize> = BTreeMap::new();
+    for line in output_lines() {
+        let words: Vec<&str> = line.split(' ').collect();
+        let answer = if words[0] == "refused" { words[1] } else { words[0] };
+        *counts.entry(answer.to_string()).or_insert(0) += 1;
+        let named = ["12", "13", "14"].contains(&answer);
+        assert!(words.len() == 1 || named || words[2] == "0", "{line}");
+        if named && words[2] != "0" {
+            *counts.entry("later block".to_string()).or_insert(0) += 1;
+        }
+    }
+    for wanted in ["accepted", "6", "10", "12", "13", "14", "15", "later block"] {
+        let times = counts.get(wanted).copied().unwrap_or(0);
+        assert!(times >= OFTEN, "{wanted} is there {times} times, wanted {OFTEN}");
+    }
+}
+
+/// Forms by code and falling pairs, counted in the accepted cases.
+#[test]
+fn every_form() {
+    let mut counts: BTreeMap<(u8, bool, bool), usize> = BTreeMap::new();
+    for packet in read(&vectors::generate().input) {
+        let blocks =
+            reference::packet::blocks(packet.width, packet.height, &packet.map, &packet.data);
+        for block in blocks.unwrap_or_default() {
+            let falls = |first: usize| block.data[first] > block.data[first + 1];
+            let (first, second) = match block.code {
+                0x7 => (falls(0), false),
+                0x8 => (falls(0), falls(0) && falls(6)),
+                0x9 => (falls(0), falls(2)),
+                0xA => (falls(0), falls(0) && falls(12)),
+                _ => (false, false),
+            };
+            *counts.entry((block.code, first, second)).or_insert(0) += 1;
+        }
+    }
+    assert_eq!(counts.len(), Form::ALL.len(), "{counts:?}");
+    assert!(counts.values().all(|&times| times >= OFTEN), "{counts:?}");
+}
