@@ -10,6 +10,7 @@ use Rattle.pattern.specs.declared.Form.{Form}
 use Rattle.pattern.specs.declared.Form.the-variants.{Two1x1, Two2x2, TwoQuarters, TwoLeftRight, TwoTopBottom, Four1x1, Four2x2, Four2x1, Four1x2, FourQuarters, FourLeftRight, FourTopBottom}
 use Rattle.pattern.specs.Form.{shape, falling, form7, form8, form9, formA}
 use Rattle.pattern.specs.Pattern.{colours, cells, partLength, patternLength}
+use Rattle.pattern.proofs.Bounds.{small}
 use Rattle.motion.specs.declared.Vector.{Vector}
 use Rattle.motion.specs.Motion.{aheadVector, negated, nearVector, farVector, pointsInside}
 use Rattle.block.specs.Block.{Side, one, two, four, eight, pixels, Kind, same, kept, ahead, behind, near, far, patterned, celled, dithered, refused, kinds, kindOf, dataLength, copyInside}
@@ -208,3 +209,21 @@ cell n i (c, e) h = subst (λ (x : ℕ). Cell x i) e (cell-of c i h)
 
 pub beyond : (a c : ℕ) → a ≤ c → (c ≡ a → ⊥) → a + 1 ≤ c
 beyond a c h n = omega arith
+
+-- ---- no block has more than 64 data bytes
+
+pub length-few : (κ : Kind) → dataLength κ ≤ 64
+unfolding dataLength
+length-few same = omega arith
+length-few kept = omega arith
+length-few (ahead b) = omega arith
+length-few (behind b) = omega arith
+length-few (near b) = omega arith
+length-few (far a b) = omega arith
+length-few (patterned f) = omega (arith, small {q = shape f} (f, refl) .length-few)
+length-few (celled one) = omega arith
+length-few (celled two) = omega arith
+length-few (celled four) = omega arith
+length-few (celled eight) = omega arith
+length-few dithered = omega arith
+length-few refused = omega arith

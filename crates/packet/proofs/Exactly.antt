@@ -14,7 +14,7 @@ use Rattle.words.proofs.Tests.{not-first, first}
 use Rattle.refusal.specs.Number.{Verdict, accept, refuse}
 use Rattle.motion.proofs.Vectors.{inside-each, inside-all}
 use Rattle.block.specs.Block.{Kind, same, kept, ahead, behind, near, far, patterned, celled, dithered, refused, kindOf, dataLength, copyInside}
-use Rattle.packet.specs.Packet.{Packet, blocks, width, height, left, top, code, start, dataOf, kind}
+use Rattle.packet.specs.Packet.{Packet, blocks, width, height, left, top, code, startOf, start, dataOf, kind}
 use Rattle.packet.specs.Verdict.{andThen, blockVerdict, endVerdict, verdictFrom, blocksVerdict, mapFits, legalSize, sized, verdict}
 use Rattle.packet.specs.Accepted.{CopyInside, Takes, Whole, Accepts}
 use Rattle.packet.proofs.Walk.{code-below, code-known, code-refused}
@@ -84,7 +84,7 @@ module _ (p : Packet) (k : ℕ) (within : start p k ≤ length (p .bytes)) where
       )
 
 next-within : (p : Packet) (k : ℕ) → Takes p k → start p (suc k) ≤ length (p .bytes)
-unfolding start
+unfolding startOf
 next-within p k t = t .there
 
 -- ---- the blocks in order
@@ -123,7 +123,7 @@ verdict-from p (suc n) k h f =
     rw (taken p k h t) (verdict-from p n (suc k) (next-within p k t) g)
 
 start-within : (p : Packet) → start p 0 ≤ length (p .bytes)
-unfolding start
+unfolding startOf
 start-within p = zero-le
 
 pub whole-is : (p : Packet) → blocksVerdict p ≡ accept → Whole p

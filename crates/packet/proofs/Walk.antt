@@ -13,8 +13,8 @@ use lib.ListN.{length, take, drop, getD, length-drop}
 use lib.Seq.{take-all}
 use Rattle.refusal.specs.Number.{Verdict, accept, refuse}
 use Rattle.block.specs.Block.{Kind, codeAt, kinds, kindOf, dataLength, isRefused, copyInside}
-use Rattle.block.proofs.Codes.{each-code}
-use Rattle.packet.specs.Packet.{Packet, blocks, width, height, left, top, code, start, dataOf, kind}
+use Rattle.block.proofs.Codes.{each-code, length-few}
+use Rattle.packet.specs.Packet.{Packet, blocks, width, height, left, top, code, startOf, start, dataOf, kind}
 use Rattle.packet.specs.Verdict.{andThen, blockVerdict, endVerdict, verdictFrom, blocksVerdict}
 use Rattle.packet.specs.Asked.{Sized}
 use Rattle.packet.proofs.Grid.{next-column, next-row, column-below, row-below}
@@ -61,7 +61,7 @@ pub record Seen (p : Packet) (k at c l : ℕ) (s : List ℕ) : Type 0 where
   pub long : l ≡ dataLength (kindOf c s)
 
 pub walked-start : (p : Packet) → Walked p 0 0 0 0
-unfolding start blocksVerdict
+unfolding startOf blocksVerdict
 walked-start p =
     let e : blocks p - 0 ≡ blocks p = omega arith in
     record {
@@ -141,7 +141,7 @@ module _ (p : Packet) (k at x y c l : ℕ) (s : List ℕ) (z : Sized p) (w : Wal
           goes-on = rw (first, ← kind-is, known, ← e .long, ← data-is, le-ltb _ _ q, ← w .across, ← w .down, ← f, add-one k)
 
           next-found : at + l ≡ start p (k + 1)
-          unfolding start
+          unfolding startOf
           next-found = rw (add-one k, e .long, kind-is, w .found)
 
           -- the next block, in this row or the next
@@ -170,3 +170,13 @@ module _ (p : Packet) (k at x y c l : ℕ) (s : List ℕ) (z : Sized p) (w : Wal
                 down = omega (arith, m .1, w .down);
                 verdict = goes-on;
               }
+
+-- ---- the position of a block's data
+
+pub position-next : (map bytes s : List ℕ) (i at c l : ℕ) → at ≡ startOf map bytes i → c ≡ codeAt map i → s ≡ drop at bytes → l ≡ dataLength (kindOf c s)
+    → at + l ≡ startOf map bytes (i + 1)
+unfolding startOf
+position-next map bytes s i at c l e f g h = rw (add-one i, h, f, g, ← e)
+
+pub length-64 : (κ : Kind) (l : ℕ) → l ≡ dataLength κ → l ≤ 64
+length-64 κ l e = omega (arith, e, length-few κ)

@@ -36,9 +36,12 @@ abbrev pub code : Packet → ℕ → ℕ
 code p k = codeAt (p .map) k
 
 -- the position of its data, found from the map and the data in front of it
-unfoldable pub start : Packet → ℕ → ℕ
-start p zero = 0
-start p (suc k) = start p k + dataLength (kindOf (code p k) (drop (start p k) (p .bytes)))
+unfoldable pub startOf : List ℕ → List ℕ → ℕ → ℕ
+startOf map bytes zero = 0
+startOf map bytes (suc k) = startOf map bytes k + dataLength (kindOf (codeAt map k) (drop (startOf map bytes k) bytes))
+
+abbrev pub start : Packet → ℕ → ℕ
+start p k = startOf (p .map) (p .bytes) k
 
 -- the packet from there on, and the block's kind
 abbrev pub dataOf : Packet → ℕ → List ℕ

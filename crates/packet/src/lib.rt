@@ -3,10 +3,11 @@ use block::code_at;
 use block::copy_inside;
 use block::data_length;
 use refusal::Refusal;
+use words::part_from;
 ghost use mathlib.Core.Path.{_≡_};
 ghost use Prim.Native.Nat.{_*_, _≤_};
 ghost use lib.ListN.{length};
-ghost use Rattle.packet.specs.Packet.{packet};
+ghost use Rattle.packet.specs.Packet.{packet, startOf};
 ghost use Rattle.packet.specs.Verdict.{told, legal, legalSize, blocksVerdict, verdict};
 ghost use Rattle.packet.specs.Asked.{Sized};
 
@@ -37,6 +38,20 @@ pub fn is_legal_size(w: usize, h: usize) -> bool
         return is_legal(480, h);
     }
     false
+}
+
+// The position of block k's data, found from the map and the data in front of it.
+pub fn data_position(map: &[u8], data: &[u8], k: usize) -> usize
+    requires { ⌜ (k ≤ 4800) × (k ≤ 2 * length (now map)) ⌝ }
+    ensures { λ r. ⌜ r ≡ startOf (now (map .entry)) (now («data» .entry)) k ⌝ }
+{
+    let mut at = 0;
+    let mut i = 0;
+    while i < k {
+        at += data_length(code_at(map, i), part_from(data, at));
+        i += 1;
+    }
+    at
 }
 
 // The blocks of a packet in order, and then what they leave over.

@@ -1,14 +1,15 @@
 -- What is known of the five numbers of a form, and of a pixel under them: one omega for each of the twelve forms.
 -- Assumes nothing.
-use mathlib.Core.Path.{_≡_, refl, sym, subst}
+use mathlib.Core.Path.{_≡_, refl, sym, ap, _∙_, subst}
 use mathlib.Core.Logic.{_⊎_, inl, inr}
+use mathlib.Core.Bool.{Bool, true, false, cond}
 use mathlib.Core.List.{List}
 use Prim.Native.Nat.{ℕ, _+_, _-_, _*_, _/_, _%_, _^_, _≤_, _<_}
 use native.Mathlib.Omega.{arith}
 use Rattle.pattern.specs.declared.Form.{Form}
 use Rattle.pattern.specs.declared.Form.the-variants.{Two1x1, Two2x2, TwoQuarters, TwoLeftRight, TwoTopBottom, Four1x1, Four2x2, Four2x1, Four1x2, FourQuarters, FourLeftRight, FourTopBottom}
-use Rattle.pattern.specs.Form.{Shape, shape}
-use Rattle.pattern.specs.Pattern.{Shaped, colours, cells, partLength, patternLength, partStart, fieldNumber, fieldAt}
+use Rattle.pattern.specs.Form.{Shape, shape, falling, form7, form8, form9, formA}
+use Rattle.pattern.specs.Pattern.{Shaped, colours, cells, partLength, patternLength, partStart, fieldNumber, fieldAt, patternSource}
 
 -- of a form's numbers: no divisor is 0, and nothing is large
 pub record Small (q : Shape) : Type 0 where
@@ -109,3 +110,50 @@ pub field-below : {r : ℕ} (s : List ℕ) (p b n : ℕ) → r ≡ fieldAt s p b
 unfolding fieldAt
 field-below s p b n f (inl e) = rw (f, e) (omega arith)
 field-below s p b n f (inr e) = rw (f, e) (omega arith)
+
+-- the byte that gives a pixel is one of the block's
+pub source-inside : (q : Shape) (s : List ℕ) (i : ℕ) → Shaped q → i < 64 → patternSource q s i < patternLength q
+unfolding patternSource
+source-inside q s i z h =
+    let p = placed i z h in
+    let f = field-below s (partStart q i + colours q) (q .bits) (fieldNumber q i) refl (bits z) in
+    omega (arith, f, p .part-inside, p .field-inside)
+
+-- ---- the bytes that choose a form
+
+chosen-8 : (a b : Bool) → 7 < patternLength (shape (cond a (cond b TwoTopBottom TwoLeftRight) TwoQuarters))
+unfolding patternLength partLength cells colours
+chosen-8 true true = omega arith
+chosen-8 true false = omega arith
+chosen-8 false b = omega arith
+
+chosen-A : (a b : Bool) → 13 < patternLength (shape (cond a (cond b FourTopBottom FourLeftRight) FourQuarters))
+unfolding patternLength partLength cells colours
+chosen-A true true = omega arith
+chosen-A true false = omega arith
+chosen-A false b = omega arith
+
+chosen-7 : (a : Bool) → 1 < patternLength (shape (cond a Two2x2 Two1x1))
+unfolding patternLength partLength cells colours
+chosen-7 true = omega arith
+chosen-7 false = omega arith
+
+chosen-9 : (a b : Bool) → 3 < patternLength (shape (cond a (cond b Four1x2 Four2x1) (cond b Four2x2 Four1x1)))
+unfolding patternLength partLength cells colours
+chosen-9 true true = omega arith
+chosen-9 true false = omega arith
+chosen-9 false true = omega arith
+chosen-9 false false = omega arith
+
+-- a form has more bytes than those that choose it, the last of which are 1, 7, 3 and 13: a block that is too short for them is too short for its form
+pub chosen-inside : (s : List ℕ)
+    → (1 < patternLength (shape (form7 s))) × (7 < patternLength (shape (form8 s)))
+    × (3 < patternLength (shape (form9 s))) × (13 < patternLength (shape (formA s)))
+unfolding form7 form8 form9 formA
+chosen-inside s =
+    (chosen-7 (falling s 0), chosen-8 (falling s 0) (falling s 6), chosen-9 (falling s 0) (falling s 2), chosen-A (falling s 0) (falling s 12))
+
+-- ---- a form's numbers written out as literals
+
+pub numbers-shaped : (f g : Form) (q : Shape) (long : ℕ) → f ≡ g → shape g ≡ q → patternLength (shape f) ≤ long → Shaped q × (patternLength q ≤ long)
+numbers-shaped f g q long e n h = ((g, n), subst (λ (x : Shape). patternLength x ≤ long) (ap shape e ∙ n) h)

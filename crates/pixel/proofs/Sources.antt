@@ -9,6 +9,7 @@ use lib.ListN.{length, getD}
 use Rattle.pattern.specs.declared.Form.{Form}
 use Rattle.pattern.specs.Form.{Shape, shape}
 use Rattle.pattern.specs.Pattern.{Shaped, patternLength, patternSource}
+use Rattle.pattern.proofs.Bounds.{numbers-shaped}
 use Rattle.motion.specs.declared.Vector.{Vector}
 use Rattle.motion.specs.Motion.{aheadVector, negated, nearVector, farVector, pointsInside, rasterIndex, copiedIndex, Short, Inside}
 use Rattle.block.specs.declared.Source.{Source}
@@ -22,7 +23,7 @@ use Rattle.block.proofs.Codes.{copy-ahead, copy-behind, copy-near, copy-far}
 module _ (f g : Form) (q : Shape) (i : ℕ) (e : f ≡ g) (n : shape g ≡ q) where
   -- `long`: how long the data is
   pub numbers-asked : (long : ℕ) → (patternLength (shape f) ≤ long) × (i < 64) → Shaped q × (patternLength q ≤ long) × (i < 64)
-  numbers-asked long h = ((g, n), subst (λ (x : Shape). patternLength x ≤ long) (ap shape e ∙ n) (h .0), h .1)
+  numbers-asked long h = let s = numbers-shaped f g q long e n (h .0) in (s .0, s .1, h .1)
 
   pub numbers-source : (s : List ℕ) (r : ℕ) → r ≡ patternSource q s i → r ≡ patternSource (shape f) s i
   numbers-source s r h = h ∙ ap (λ (x : Shape). patternSource x s i) (sym (ap shape e ∙ n))

@@ -1,7 +1,7 @@
 // Bytes and little-endian words, read at any position.
 ghost use mathlib.Core.Path.{_≡_};
 ghost use Prim.Native.Nat.{_<_};
-ghost use lib.ListN.{getD};
+ghost use lib.ListN.{drop, getD};
 ghost use Rattle.words.specs.Word.{wordAt};
 
 // Byte i of s, or 0 where there is none.
@@ -26,4 +26,14 @@ pub fn word_at(s: &[u8], i: usize) -> usize
         return wide(byte_at(s, i)) + 256 * wide(byte_at(s, i + 1));
     }
     0
+}
+
+// The part of s from byte i on, empty past the end.
+pub fn part_from(s: &[u8], i: usize) -> &[u8]
+    ensures { λ r. ⌜ now r ≡ drop i (now (s .entry)) ⌝ }
+{
+    if i <= s.len() {
+        return &s[i..];
+    }
+    &s[..0]
 }

@@ -9,6 +9,9 @@ pub const PASSED_OVER: [u8; 10] = [0x02, 0x03, 0x04, 0x08, 0x09, 0x0A, 0x12, 0x1
 /// The types that are acted on.
 pub const ACTED_ON: [u8; 9] = [0x00, 0x01, 0x05, 0x07, 0x0B, 0x0C, 0x0D, 0x0F, 0x11];
 
+/// A chunk longer than this is closed. No made opcode has 32,000 bytes, so none passes a word.
+const FULL_CHUNK: usize = 32_000;
+
 /// The film header.
 const HEADER: &[u8; 26] = b"Interplay MVE File\x1A\0\x1A\0\0\x01\x33\x11";
 
@@ -62,6 +65,11 @@ impl Opcode {
 }
 
 impl Chunk {
+    /// Bytes of the opcodes with their heads.
+    pub fn length(&self) -> usize {
+        self.opcodes.iter().map(|opcode| 4 + opcode.body.len()).sum()
+    }
+
     fn bytes(&self) -> Vec<u8> {
         let mut body: Vec<u8> = self.opcodes.iter().flat_map(Opcode::bytes).collect();
         body.extend(&self.loose);
@@ -220,7 +228,7 @@ fn in_chunks(rng: &mut Seeded, opcodes: Vec<Opcode>) -> Vec<Chunk> {
     let mut chunk = new_chunk(rng);
     for opcode in opcodes {
         chunk.opcodes.push(opcode);
-        if rng.one_in(4) {
+        if rng.one_in(4) || chunk.length() > FULL_CHUNK {
             close(rng, &mut chunks, chunk);
             chunk = new_chunk(rng);
         }

@@ -125,6 +125,7 @@ fn damage_made_for_a_number() {
         (Damage::BodyLength, 5),
         (Damage::FrameSize, 6),
         (Damage::TrueColour, 6),
+        (Damage::SecondSize, 6),
         (Damage::PaletteRange, 7),
         (Damage::Component, 7),
         (Damage::GradientRange, 7),
@@ -267,7 +268,7 @@ fn listings() {
         let mut rng = Seeded::new(seed);
         let film = match seed % 2 {
             0 => film::valid(&mut rng).bytes(),
-            _ => film_damage::damaged(&mut rng, Damage::ALL[seed as usize / 2 % 19]),
+            _ => film_damage::damaged(&mut rng, Damage::ALL[seed as usize / 2 % Damage::ALL.len()]),
         };
         let listed = listing::list(&film);
         let mut opcodes = 0;

@@ -5,7 +5,7 @@ use maker::packet::{self, Draft};
 use maker::packet_damage::{damaged, Damage};
 use maker::{Form, Packet, Profile, Seeded, Size};
 use reference::packet::Block;
-use reference::{check, Refusal};
+use reference::{block, check, source, Refusal, Source};
 use std::collections::BTreeMap;
 
 /// How often each thing must be reached at least.
@@ -175,6 +175,46 @@ fn hostile_packets() {
         checked(&packet).err().map(|refusal| refusal.number)
     });
     assert_often(&count(numbers), &[6, 10, 12, 13, 14, 15]);
+}
+
+/// The source of a pixel for any numbers and bytes: a data byte is one of the block's own, and a
+/// picture's pixel lies in the row that the vector names. Nothing wraps around.
+#[test]
+fn sources_of_any_block() {
+    let mut kinds = Vec::new();
+    for seed in 0..20_000 {
+        let mut rng = Seeded::new(seed);
+        let any = [0, 7, 8, 16, 640, usize::MAX / 2, usize::MAX - 8, usize::MAX];
+        let (width, x, y) = (rng.pick(&any), rng.pick(&any), rng.pick(&any));
+        let (code, i) = (rng.byte() % 20, rng.pick(&[0, 7, 8, 40, 63, 64, usize::MAX]));
+        let length = rng.below(70);
+        let data = rng.bytes(length);
+        match source(width, code, &data, x, y, i) {
+            None => kinds.push("none"),
+            Some(Source::Data(index)) => {
+                assert!(Some(index) < block::length(code, &data), "seed {seed}");
+                kinds.push("data");
+            }
+            Some(Source::Front(index) | Source::Back(index)) => {
+                let row = y as i128 + (i / 8) as i128 + i128::from(vertical(code, &data));
+                assert_eq!((index / width) as i128, row, "seed {seed}");
+                kinds.push("picture");
+            }
+        }
+    }
+    assert_often(&count(kinds), &["none", "data", "picture"]);
+}
+
+/// How far down a copy reaches (01's table); codes 0 and 1 copy from their own block.
+fn vertical(code: u8, data: &[u8]) -> i32 {
+    let ahead = |byte: i32| if byte < 56 { byte / 7 } else { 8 + (byte - 56) / 29 };
+    match code {
+        2 => ahead(data[0].into()),
+        3 => -ahead(data[0].into()),
+        4 => i32::from(data[0] / 16) - 8,
+        5 => (data[1] as i8).into(),
+        _ => 0,
+    }
 }
 
 /// The same seed gives the same bytes, another seed others.

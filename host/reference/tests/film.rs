@@ -470,14 +470,11 @@ fn send_buffer() {
     assert_eq!((state.front, state.unsent), (0, false));
     assert_eq!((lent.a, lent.b), (vec![7; 64], vec![7; 64]));
 
-    let mut lent = Lent::zero(64);
-    let fronts: Vec<(usize, bool)> = (1..=11)
-        .map(|count| {
-            lent = Lent::zero(64);
-            let state = lent.steps(&film, open(&film).expect("a good header"), count);
-            (state.front, state.unsent)
-        })
-        .collect();
+    let roles_after = |steps| {
+        let state = Lent::zero(64).steps(&film, open(&film).expect("a good header"), steps);
+        (state.front, state.unsent)
+    };
+    let roles: Vec<(usize, bool)> = (1..=11).map(roles_after).collect();
     // Chunk head, 05, 07, 0F, 11, 07, 07, 0F, 11, 0F, 11; the last 07 is the run above.
     let expected = [
         (0, false),
@@ -492,7 +489,7 @@ fn send_buffer() {
         (1, true),
         (1, true),
     ];
-    assert_eq!(fronts, expected);
+    assert_eq!(roles, expected);
 }
 
 /// Only drawing counts stores and is limited; every other step ignores the number allowed.

@@ -1,0 +1,138 @@
+-- The loop over blocks: after j stores memory is as the first j of those due leave it (`Made`), between blocks. A law for its start, each turn and its ends.
+-- Assumes nothing.
+use mathlib.Core.Path.{_≡_, refl, sym, ap, _∙_, subst}
+use mathlib.Core.List.{List}
+use Prim.Native.Nat.{ℕ, _+_, _-_, _*_, _/_, _%_, _≤_, _<_}
+use native.Mathlib.Omega.{arith}
+use native.Mathlib.Numerals.{add-one}
+use lib.ListN.{length, drop, length-drop}
+use Rattle.motion.specs.Motion.{rasterIndex}
+use Rattle.block.specs.Block.{Kind, kept, codeAt, kinds, kindOf, dataLength}
+use Rattle.block.proofs.Codes.{each-code}
+use Rattle.paint.specs.Paint.{single}
+use Rattle.paint_block.specs.Value.{pixelCount, pixelValue, blockPlan}
+use Rattle.paint_block.specs.Asked.{Canvas, Drawable}
+use Rattle.packet.specs.Packet.{Packet, blocks, width, height, left, top, code, start, dataOf, kind}
+use Rattle.packet.specs.Accepted.{Takes}
+use Rattle.packet.specs.Asked.{Sized}
+use Rattle.packet.proofs.Grid.{column-below, row-below}
+use Rattle.packet.proofs.Walk.{code-below, position-next}
+use Rattle.packet.proofs.Exactly.{is-copy}
+use Rattle.stores.specs.Stores.{Plan, Memory, memory, firstPixels}
+use Rattle.stores.specs.Loop.{Made, Called}
+use Rattle.stores.proofs.Pixels.{first-agree}
+use Rattle.stores.proofs.Loop.{made-none, made-length, made-over, made-part, made-block}
+use Rattle.draw.specs.Drawing.{sizeAt, targetAt, valueAt, plan}
+use Rattle.draw.specs.Asked.{Accepted}
+
+-- ---- the pixels of a code
+
+Counted : List ℕ → ℕ → Type 0
+Counted s c = (c ≡ 1 → ⊥) → 64 ≡ pixelCount (kindOf c s)
+
+pub count-64 : (s : List ℕ) (c : ℕ) → c < 16 → (c ≡ 1 → ⊥) → 64 ≡ pixelCount (kindOf c s)
+unfolding Counted kindOf kinds pixelCount
+count-64 s =
+    each-code (Counted s) (λ n. refl) (λ n. absurd (n refl)) (λ n. refl) (λ n. refl) (λ n. refl) (λ n. refl) (λ n. refl) (λ n. refl)
+    (λ n. refl) (λ n. refl) (λ n. refl) (λ n. refl) (λ n. refl) (λ n. refl) (λ n. refl) (λ n. refl)
+
+pub count-0 : (s : List ℕ) (c : ℕ) → c ≡ 1 → 0 ≡ pixelCount (kindOf c s)
+unfolding kindOf kinds pixelCount
+count-0 s c e = rw e
+
+-- ---- the loop
+
+-- b₀, k₀: the picture and the place that the call found. b, place: as they are now. k: the next block, its data at at. left: the stores still allowed
+pub record Going (p : Packet) (front b₀ : List ℕ) (k₀ allowed : ℕ) (b : List ℕ) (place k at left : ℕ) : Type 0 where
+  pub made : Made (plan p front) (memory b₀ k₀) (allowed - left) k 0 b
+  pub stands : place ≡ k
+  pub found : at ≡ start p k
+  pub below : k ≤ blocks p
+  pub room : left ≤ allowed
+
+pub going-start : (p : Packet) (front b : List ℕ) (k at n f l : ℕ) → Accepted p f l k → at ≡ start p k → Going p front b k n b k k at n
+going-start p front b k at n f l a e =
+    record { made = made-none (plan p front) (memory b k) (n - n) (omega arith); stands = refl; found = e; below = a .at; room = omega arith }
+
+module _ (p : Packet) (front b₀ : List ℕ) (k₀ n : ℕ) (b : List ℕ) (place k at l : ℕ) (g : Going p front b₀ k₀ n b place k at l) where
+  pub going-end : blocks p ≤ k → Called (plan p front) (memory b₀ k₀) n b place (n - l)
+  going-end h = made-over (plan p front) (memory b₀ k₀) (n - l) k 0 b (g .made) n place (n - l) h (omega arith) (g .stands) refl
+
+  pub going-length : length b ≡ length b₀
+  going-length = made-length (plan p front) (memory b₀ k₀) (n - l) k 0 b (g .made)
+
+  -- block k, its code and its data as code found them
+  module _ (a : Accepted p (length front) (length b₀) k₀) (h : k < blocks p) (c : ℕ) (s : List ℕ) (ec : c ≡ code p k) (es : s ≡ drop at (p .bytes)) where
+    data-is : s ≡ dataOf p k
+    data-is = es ∙ ap (λ (i : ℕ). drop i (p .bytes)) (g .found)
+
+    pub kind-is : kindOf c s ≡ kind p k
+    kind-is = rw (ec, data-is)
+
+    takes : Takes p k
+    takes = a .taken .each k h
+
+    some : 0 < p .columns
+    some = omega (arith, a .sized .some-columns)
+
+    pub canvas : Canvas (width p) (height p) (left p k) (top p k) (length front) (length b)
+    canvas =
+        record {
+          width = omega (arith, a .sized .columns);
+          height = omega (arith, a .sized .rows);
+          across = omega (arith, column-below (p .columns) k some);
+          down = omega (arith, row-below (p .columns) (p .rows) k some h);
+          front-room = a .front-room;
+          back-room = rw going-length (a .back-room);
+        }
+
+    there : dataLength (kindOf c s) ≤ length s
+    there = rw (kind-is, data-is) (omega (arith, length-of, takes .there))
+      where
+        length-of : length (dataOf p k) ≡ length (p .bytes) - start p k
+        length-of = length-drop (start p k) (p .bytes)
+
+    pub drawable : (m : ℕ) → m ≤ pixelCount (kindOf c s) → Drawable c s (width p) (height p) (left p k) (top p k) m
+    drawable m q =
+        record {
+          known = rw ec (code-below (p .map) k);
+          taken = λ e. takes .known (sym ec ∙ e);
+          there = there;
+          inside = rw kind-is (is-copy (kind p k) (width p) (height p) (left p k) (top p k) (takes .inside));
+          count = q;
+        }
+
+    -- the block's own plan is the packet's at block k
+    painted : (m : ℕ) (b′ : List ℕ) → b′ ≡ firstPixels (blockPlan (kindOf c s) s (width p) (left p k) (top p k) front) 0 b m → b′ ≡ firstPixels (plan p front) k b m
+    unfolding targetAt valueAt
+    painted m b′ e =
+        (rw (kind-is, data-is) at e)
+        ∙ first-agree (blockPlan (kind p k) (dataOf p k) (width p) (left p k) (top p k) front) (plan p front) 0 k b m (λ i q. refl) (λ i q x y. refl)
+
+    pub at-small : (z : ℕ) → z ≡ dataLength (kindOf c s) → at + z ≤ length (p .bytes)
+    at-small z e = let q : z ≡ dataLength (kind p k) = e ∙ ap dataLength kind-is in omega (arith, g .found, takes .there)
+
+    size-is : sizeAt p k ≡ pixelCount (kindOf c s)
+    unfolding sizeAt
+    size-is = rw kind-is
+
+    -- stopped within the block, or before its place
+    pub going-stop : (u : ℕ) (b′ : List ℕ) → u ≡ pixelCount (kindOf c s) → l ≤ u
+        → b′ ≡ firstPixels (blockPlan (kindOf c s) s (width p) (left p k) (top p k) front) 0 b l → Called (plan p front) (memory b₀ k₀) n b′ place n
+    going-stop u b′ eu q e =
+        made-part (plan p front) (memory b₀ k₀) (n - l) k b (g .made) h l b′ (omega (arith, size-is, eu)) (painted l b′ e) n place n
+        (omega (arith, g .room)) (g .stands) (omega (arith, g .room))
+
+    -- the whole block, and then its place
+    pub going-block : (u z : ℕ) (b′ : List ℕ) (place′ : ℕ) → u ≡ pixelCount (kindOf c s) → z ≡ dataLength (kindOf c s) → u < l
+        → b′ ≡ firstPixels (blockPlan (kindOf c s) s (width p) (left p k) (top p k) front) 0 b u → place′ ≡ k + 1
+        → Going p front b₀ k₀ n b′ place′ (k + 1) (at + z) (l - (u + 1))
+    going-block u z b′ place′ eu ez q e ep =
+        let su : u ≡ sizeAt p k = omega (arith, size-is, eu) in
+        record {
+          made = made-block (plan p front) (memory b₀ k₀) (n - l) k b (g .made) h u b′ su (painted u b′ e) (n - (l - (u + 1))) (k + 1) (omega (arith, g .room)) refl;
+          stands = ep;
+          found = position-next (p .map) (p .bytes) s k at c z (g .found) ec es ez;
+          below = omega arith;
+          room = omega (arith, g .room);
+        }

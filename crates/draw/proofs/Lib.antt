@@ -1,0 +1,3 @@
+pub mod Judged
+pub mod Going
+pub mod Called

@@ -1,0 +1,148 @@
+use Rattle.draw.proofs.Going.{at-small}
+use mathlib.Core.Path.{_∙_}
+use Prim.Native.Nat.{_*_, _-_}
+use native.Mathlib.Omega.{arith}
+use Rattle.block.specs.Block.{kindOf}
+use Rattle.paint_block.proofs.Families.{count-few}
+use Rattle.packet.specs.Packet.{packet}
+use Rattle.packet.proofs.Walk.{blocks-few, mapped, length-64}
+use Rattle.draw.proofs.Going.{Going, going-start, going-end, going-length, canvas, drawable, going-stop, going-block}
+use borrow.Author.Needs.{needs}
+use Rattle.draw.proofs.draw_blocks.Statement.{statement}
+use Rattle.draw.proofs.draw_blocks.Tie as tie
+use Rattle.draw.proofs.draw_blocks.Reads as reads
+use Rattle.draw.proofs.draw_blocks.Lts as lts
+use Rattle.block.proofs.code_at.Reads as code-at-reads
+use Rattle.block.proofs.data_length.Reads as data-length-reads
+use Rattle.draw.proofs.pixel_count.Reads as pixel-count-reads
+use Rattle.packet.proofs.data_position.Reads as data-position-reads
+use Rattle.paint.proofs.set_place.Reads as set-place-reads
+use Rattle.paint_block.proofs.paint_block.Reads as paint-block-reads
+use Rattle.words.proofs.part_from.Reads as part-from-reads
+
+abbrev Inv-loop : tie.InvT-loop
+Inv-loop columns rows map «data» front back₀ place₀ allowed n w h k₀ at₀ left₀ back place k at left =
+    Going (packet columns rows map «data») front back₀ place₀ allowed back place k at left
+
+abbrev μ-loop : tie.MeasureT-loop
+μ-loop columns rows map «data» front back₀ place₀ allowed n w h k₀ at₀ left₀ back place k at left =
+    columns * rows - k
+
+mul-n : tie.Need-mul-n Inv-loop μ-loop
+mul-n c = omega (arith, blocks-few _ (c .before .before .before .before .pre .sized))
+
+mul-w : tie.Need-mul-w Inv-loop μ-loop
+mul-w c = omega (arith, c .before .before .before .before .pre .sized)
+
+mul-h : tie.Need-mul-h Inv-loop μ-loop
+mul-h c = omega (arith, c .before .before .before .before .pre .sized)
+
+data-position-requires : tie.Need-data-position-requires Inv-loop μ-loop
+data-position-requires c κs = let q = c .before .before .before .before .before .pre in (omega (arith, q .at, blocks-few _ (q .sized)), omega (arith, q .at, q .sized .mapped))
+
+loop-holds : tie.Need-loop-holds Inv-loop μ-loop
+loop-holds c = going-start _ _ _ _ _ _ _ _ (c .before .before .before .before .before .before .pre) (c .data-position .ensures)
+
+code-at-requires : tie.Need-code-at-requires Inv-loop μ-loop
+code-at-requires c κs = mapped _ _ (c .before .before .before .before .before .before .before .before .pre .sized) (c .loop-test .taken)
+
+part-from-requires : tie.Need-part-from-requires Inv-loop μ-loop
+part-from-requires c κs = search needs
+
+rem-x : tie.Need-rem-x Inv-loop μ-loop
+rem-x c = omega (arith, c .before .before .before .before .before .before .before .before .before .before .pre .sized)
+
+mul-x : tie.Need-mul-x Inv-loop μ-loop
+mul-x c = let q = canvas _ _ _ _ _ _ _ _ _ _ (c .before .before .before .loop .inv) (c .before .before .before .before .before .before .before .before .before .before .pre) (c .before .before .loop-test .taken) _ _ (c .before .code-at .ensures .0) (c .part-from .ensures) in omega (arith, q .across, q .width)
+
+div-y : tie.Need-div-y Inv-loop μ-loop
+div-y c = omega (arith, c .before .before .before .before .before .before .before .before .before .before .pre .sized)
+
+mul-y : tie.Need-mul-y Inv-loop μ-loop
+mul-y c = let q = canvas _ _ _ _ _ _ _ _ _ _ (c .before .before .before .loop .inv) (c .before .before .before .before .before .before .before .before .before .before .pre) (c .before .before .loop-test .taken) _ _ (c .before .code-at .ensures .0) (c .part-from .ensures) in omega (arith, q .down, q .height)
+
+pixel-count-requires : tie.Need-pixel-count-requires Inv-loop μ-loop
+pixel-count-requires c κs = c .before .code-at .ensures .1
+
+paint-block-requires : tie.Need-paint-block-requires Inv-loop μ-loop
+paint-block-requires c κs = (drawable _ _ _ _ _ _ _ _ _ _ (c .before .before .before .before .before .before .loop .inv) (c .before .before .before .before .before .before .before .before .before .before .before .before .before .pre) (c .before .before .before .before .before .loop-test .taken) _ _ (c .before .before .before .before .code-at .ensures .0) (c .before .before .before .part-from .ensures) _ (omega (arith, c .before .if1 .taken, c .before .before .pixel-count .ensures)), canvas _ _ _ _ _ _ _ _ _ _ (c .before .before .before .before .before .before .loop .inv) (c .before .before .before .before .before .before .before .before .before .before .before .before .before .pre) (c .before .before .before .before .before .loop-test .taken) _ _ (c .before .before .before .before .code-at .ensures .0) (c .before .before .before .part-from .ensures))
+
+same-length : tie.Need-same-length Inv-loop μ-loop
+same-length c = c .before .before .paint-block .kept .1 .1 .1 .0 ∙ going-length _ _ _ _ _ _ _ _ _ _ (c .before .before .before .before .before .before .before .before .before .loop .inv)
+
+returns : tie.Need-returns Inv-loop μ-loop
+returns c = going-stop _ _ _ _ _ _ _ _ _ _ (c .before .before .before .before .before .before .before .before .before .loop .inv) (c .before .before .before .before .before .before .before .before .before .before .before .before .before .before .before .before .pre) (c .before .before .before .before .before .before .before .before .loop-test .taken) _ _ (c .before .before .before .before .before .before .before .code-at .ensures .0) (c .before .before .before .before .before .before .part-from .ensures) _ _ (c .before .before .before .before .before .pixel-count .ensures) (c .before .before .before .before .if1 .taken) (c .before .before .paint-block .ensures)
+
+paint-block-requires-2 : tie.Need-paint-block-requires-2 Inv-loop μ-loop
+paint-block-requires-2 c κs = (drawable _ _ _ _ _ _ _ _ _ _ (c .before .before .before .before .before .before .loop .inv) (c .before .before .before .before .before .before .before .before .before .before .before .before .before .pre) (c .before .before .before .before .before .loop-test .taken) _ _ (c .before .before .before .before .code-at .ensures .0) (c .before .before .before .part-from .ensures) _ (omega (arith, c .before .before .pixel-count .ensures)), canvas _ _ _ _ _ _ _ _ _ _ (c .before .before .before .before .before .before .loop .inv) (c .before .before .before .before .before .before .before .before .before .before .before .before .before .pre) (c .before .before .before .before .before .loop-test .taken) _ _ (c .before .before .before .before .code-at .ensures .0) (c .before .before .before .part-from .ensures))
+
+add-set-place : tie.Need-add-set-place Inv-loop μ-loop
+add-set-place c = omega (arith, blocks-few _ (c .before .before .before .before .before .before .before .before .before .before .before .before .before .before .before .before .before .pre .sized), c .before .before .before .before .before .before .before .before .before .loop-test .taken)
+
+set-place-requires : tie.Need-set-place-requires Inv-loop μ-loop
+set-place-requires c κs = search needs
+
+add-left : tie.Need-add-left Inv-loop μ-loop
+add-left c = omega (arith, c .before .before .before .before .before .before .before .pixel-count .ensures, count-few (kindOf (c .before .before .before .before .before .before .before .before .before .code-at .result) (c .before .before .before .before .before .before .before .before .part-from .result .now)))
+
+sub-left : tie.Need-sub-left Inv-loop μ-loop
+sub-left c = omega (arith, c .before .before .before .before .before .before .if1 .left)
+
+data-length-requires : tie.Need-data-length-requires Inv-loop μ-loop
+data-length-requires c κs = c .before .before .before .before .before .before .before .before .before .code-at .ensures .1
+
+add-at : tie.Need-add-at Inv-loop μ-loop
+add-at c = let q = at-small _ _ _ _ _ _ _ _ _ _ (c .before .before .before .before .before .before .before .before .before .before .before .before .loop .inv) (c .before .before .before .before .before .before .before .before .before .before .before .before .before .before .before .before .before .before .before .pre) (c .before .before .before .before .before .before .before .before .before .before .before .loop-test .taken) _ _ (c .before .before .before .before .before .before .before .before .before .before .code-at .ensures .0) (c .before .before .before .before .before .before .before .before .before .part-from .ensures) _ (c .data-length .ensures) in omega (arith, q, c .before .before .before .before .before .before .before .before .before .before .before .before .before .before .before .before .before .before .before .good .1 .1 .1 .0)
+
+add-k : tie.Need-add-k Inv-loop μ-loop
+add-k c = omega (arith, blocks-few _ (c .before .before .before .before .before .before .before .before .before .before .before .before .before .before .before .before .before .before .before .pre .sized), c .before .before .before .before .before .before .before .before .before .before .before .loop-test .taken)
+
+loop-less : tie.Need-loop-less Inv-loop μ-loop
+loop-less c = omega (arith, c .before .before .before .before .before .before .before .before .before .before .before .loop-test .taken)
+
+loop-again : tie.Need-loop-again Inv-loop μ-loop
+loop-again c = going-block _ _ _ _ _ _ _ _ _ _ (c .before .before .before .before .before .before .before .before .before .before .before .before .loop .inv) (c .before .before .before .before .before .before .before .before .before .before .before .before .before .before .before .before .before .before .before .pre) (c .before .before .before .before .before .before .before .before .before .before .before .loop-test .taken) _ _ (c .before .before .before .before .before .before .before .before .before .before .code-at .ensures .0) (c .before .before .before .before .before .before .before .before .before .part-from .ensures) _ _ _ _ (c .before .before .before .before .before .before .before .before .pixel-count .ensures) (c .data-length .ensures) (c .before .before .before .before .before .before .before .if1 .left) (c .before .before .before .before .before .paint-block2 .ensures) (c .before .set-place .ensures)
+
+sub-result : tie.Need-sub-result Inv-loop μ-loop
+sub-result c = c .before .loop .inv .room
+
+same-length-2 : tie.Need-same-length-2 Inv-loop μ-loop
+same-length-2 c = going-length _ _ _ _ _ _ _ _ _ _ (c .before .loop .inv)
+
+returns-2 : tie.Need-returns-2 Inv-loop μ-loop
+returns-2 c = going-end _ _ _ _ _ _ _ _ _ _ (c .before .loop .inv) (c .loop-test .left)
+
+pub draw-blocks-spec : {M : Type 1} → statement M
+draw-blocks-spec =
+    tie.close
+    (tie.spec
+    Inv-loop
+    μ-loop
+    mul-n
+    mul-w
+    mul-h
+    data-position-requires
+    loop-holds
+    code-at-requires
+    part-from-requires
+    rem-x
+    mul-x
+    div-y
+    mul-y
+    pixel-count-requires
+    paint-block-requires
+    same-length
+    returns
+    paint-block-requires-2
+    add-set-place
+    set-place-requires
+    add-left
+    sub-left
+    data-length-requires
+    add-at
+    add-k
+    loop-less
+    loop-again
+    sub-result
+    same-length-2
+    returns-2)

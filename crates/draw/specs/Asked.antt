@@ -1,0 +1,14 @@
+-- What the functions of the drawing call ask of their callers.
+-- Assumes nothing.
+use Prim.Native.Nat.{ℕ, _*_, _≤_}
+use Rattle.packet.specs.Packet.{Packet, blocks, width, height}
+use Rattle.packet.specs.Asked.{Sized}
+use Rattle.packet.specs.Accepted.{Whole}
+
+-- an accepted packet, pictures this long that hold it, and a place in it
+pub record Accepted (p : Packet) (front back place : ℕ) : Type 0 where
+  pub sized : Sized p
+  pub taken : Whole p
+  pub front-room : height p * width p ≤ front
+  pub back-room : height p * width p ≤ back
+  pub at : place ≤ blocks p

@@ -1,0 +1,69 @@
+-- A drawing call: what it brings, whether it is refused at the memory that it finds, and document 01's values of its answer.
+-- Order of its tests: size 6, pictures 8, map 10, place 11, then block by block 12, 13, 14, then 15.
+-- Assumes nothing.
+use mathlib.Core.Bool.{Bool, true, false, cond}
+use mathlib.Core.List.{List}
+use Prim.Native.Nat.{ℕ, _*_}
+use lib.Dec.{ltb}
+use lib.ListN.{length}
+use Rattle.refusal.specs.Number.{Verdict, accept, refuse, number, block}
+use Rattle.packet.specs.Packet.{Packet, blocks}
+use Rattle.packet.specs.Verdict.{legalSize, mapFits, blocksVerdict, sized}
+use Rattle.stores.specs.Stores.{Memory}
+use Rattle.stores.specs.Calls.{Call, refused, allowed, Answer, whole, unfinished, refusal, Outcome, Calling}
+use Rattle.draw.specs.Drawing.{plan}
+use Rattle.draw.specs.declared.Drawn.{Drawn}
+use Rattle.draw.specs.declared.Drawn.the-variants.{Whole, Unfinished, Refused}
+
+-- the size in pixels, the map, the packet, the shown picture ("front"), and the stores allowed
+pub record Request : Type 0 where
+  pub width : ℕ
+  pub height : ℕ
+  pub map : List ℕ
+  pub bytes : List ℕ
+  pub front : List ℕ
+  pub allowed : ℕ
+
+abbrev pub request : ℕ → ℕ → List ℕ → List ℕ → List ℕ → ℕ → Request
+request w h map bytes front n = record { width = w; height = h; map = map; bytes = bytes; front = front; allowed = n }
+
+abbrev pub packetOf : Request → Packet
+packetOf c = sized (c .width) (c .height) (c .map) (c .bytes)
+
+-- the verdict on a size, a map, a packet, pictures this long and a place
+unfoldable pub callVerdict : ℕ → ℕ → List ℕ → List ℕ → ℕ → ℕ → ℕ → Verdict
+callVerdict w h map bytes front back place =
+    cond (legalSize w h)
+    (cond (ltb front (w * h)) (refuse 8 0)
+    (cond (ltb back (w * h)) (refuse 8 0)
+    (cond (mapFits (sized w h map bytes))
+    (cond (ltb (blocks (sized w h map bytes)) place) (refuse 11 0) (blocksVerdict (sized w h map bytes)))
+    (refuse 10 0))))
+    (refuse 6 0)
+
+-- the verdict on a call at the memory that it finds
+abbrev pub drawVerdict : Request → Memory → Verdict
+drawVerdict c m = callVerdict (c .width) (c .height) (c .map) (c .bytes) (length (c .front)) (length (m .picture)) (m .place)
+
+-- a refusal's number and block
+pub record Reason : Type 0 where
+  pub number : ℕ
+  pub block : ℕ
+
+abbrev pub reason : ℕ → ℕ → Reason
+reason n k = record { number = n; block = k }
+
+-- what a call comes to by its verdict
+unfoldable pub comes : Verdict → ℕ → Call Reason
+comes accept n = allowed n
+comes (refuse number block) n = refused (reason number block)
+
+-- drawing calls: the plan that each draws, and what it comes to
+abbrev pub calling : Calling Request Reason
+calling = record { plan = λ c. plan (packetOf c) (c .front); meets = λ c m. comes (drawVerdict c m) (c .allowed) }
+
+-- document 01's values of each answer: "whole" and "unfinished" with the count of stores made, a refusal with its number and block
+abbrev pub said : Drawn → Outcome Reason
+said (Whole n) = record { answer = whole; count = n }
+said (Unfinished n) = record { answer = unfinished; count = n }
+said (Refused r) = record { answer = refusal (reason (number r) (block r)); count = 0 }

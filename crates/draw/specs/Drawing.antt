@@ -1,0 +1,21 @@
+-- The drawing of a packet as a plan of stores (document 01, "Packet, blocks, place"): 64 for each block but code 1, row by row, then the place.
+-- Assumes nothing.
+use mathlib.Core.List.{List}
+use Prim.Native.Nat.{ℕ}
+use Rattle.motion.specs.Motion.{rasterIndex}
+use Rattle.packet.specs.Packet.{Packet, blocks, width, left, top, dataOf, kind}
+use Rattle.stores.specs.Stores.{Plan}
+use Rattle.paint_block.specs.Value.{pixelCount, pixelValue}
+
+-- of block k: the pixels it stores, the index of pixel i, and its value where back is the picture drawn on as it is then
+unfoldable pub sizeAt : Packet → ℕ → ℕ
+sizeAt p k = pixelCount (kind p k)
+
+unfoldable pub targetAt : Packet → ℕ → ℕ → ℕ
+targetAt p k i = rasterIndex (width p) (left p k) (top p k) i
+
+unfoldable pub valueAt : Packet → List ℕ → ℕ → ℕ → List ℕ → ℕ
+valueAt p front k i back = pixelValue (kind p k) (dataOf p k) (width p) (left p k) (top p k) front i back
+
+abbrev pub plan : Packet → List ℕ → Plan
+plan p front = record { blocks = blocks p; size = sizeAt p; target = targetAt p; value = valueAt p front }

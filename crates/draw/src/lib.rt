@@ -1,0 +1,143 @@
+// The drawing call: every test again, then the stores still due from the place, as many as are allowed.
+use block::code_at;
+use block::data_length;
+use packet::Checked;
+use packet::check_blocks;
+use packet::data_position;
+use packet::is_legal_size;
+use paint::set_place;
+use paint_block::paint_block;
+use refusal::Refusal;
+use words::part_from;
+ghost use mathlib.Core.Path.{_≡_};
+ghost use Prim.Native.Nat.{_<_};
+ghost use lib.ListN.{length};
+ghost use Rattle.block.specs.Block.{kindOf};
+ghost use Rattle.paint_block.specs.Value.{pixelCount};
+ghost use Rattle.packet.specs.Packet.{packet};
+ghost use Rattle.packet.specs.Verdict.{told};
+ghost use Rattle.stores.specs.Stores.{memory};
+ghost use Rattle.stores.specs.Calls.{step, reply};
+ghost use Rattle.stores.specs.Loop.{Called};
+ghost use Rattle.draw.specs.Drawing.{plan};
+ghost use Rattle.draw.specs.Call.{request, callVerdict, calling, said};
+ghost use Rattle.draw.specs.Asked.{Accepted};
+
+// What a drawing call answers: with the stores made, or why it is refused.
+pub enum Drawn {
+    Whole(usize),
+    Unfinished(usize),
+    Refused(Refusal),
+}
+
+// The pixels that a block of this code stores.
+fn pixel_count(code: u8, s: &[u8]) -> usize
+    requires { ⌜ code < 16 ⌝ }
+    ensures { λ r. ⌜ r ≡ pixelCount (kindOf code (now (s .entry))) ⌝ }
+{
+    if code == 1 {
+        return 0;
+    }
+    64
+}
+
+// The tests of a call, where the pictures are front and back bytes long.
+fn judge(
+    width: usize,
+    height: usize,
+    map: &[u8],
+    data: &[u8],
+    front: usize,
+    back: usize,
+    place: usize,
+) -> Checked
+    ensures { λ r. ⌜ told r ≡ callVerdict width height (now (map .entry)) (now («data» .entry)) front back place ⌝ }
+{
+    if is_legal_size(width, height) {
+        if front < width * height {
+            return Checked::Refused(Refusal::Buffer);
+        }
+        if back < width * height {
+            return Checked::Refused(Refusal::Buffer);
+        }
+        let columns = width / 8;
+        let rows = height / 8;
+        if map.len() == (columns * rows + 1) / 2 {
+            if columns * rows < place {
+                return Checked::Refused(Refusal::Place);
+            }
+            return check_blocks(columns, rows, map, data);
+        }
+        return Checked::Refused(Refusal::MapLength);
+    }
+    Checked::Refused(Refusal::Size)
+}
+
+// The first stores due from the place on, at most as many as are allowed; their number is returned.
+fn draw_blocks(
+    columns: usize,
+    rows: usize,
+    map: &[u8],
+    data: &[u8],
+    front: &[u8],
+    back: &mut [u8],
+    place: &mut usize,
+    allowed: usize,
+) -> usize
+    requires { ⌜ Accepted (packet columns rows (now map) (now «data»)) (length (now front)) (length (now back)) (now place) ⌝ }
+    ensures { λ r. ⌜ Called (plan (packet columns rows (now (map .entry)) (now («data» .entry))) (now (front .entry))) (memory (now (back .entry)) (now (place .entry))) allowed (now (back .exit)) (now (place .exit)) r ⌝ }
+{
+    let n = columns * rows;
+    let w = 8 * columns;
+    let h = 8 * rows;
+    let mut k = *place;
+    let mut at = data_position(map, data, k);
+    let mut left = allowed;
+    while k < n {
+        let code = code_at(map, k);
+        let s = part_from(data, at);
+        let x = 8 * (k % columns);
+        let y = 8 * (k / columns);
+        let due = pixel_count(code, s);
+        if left <= due {
+            paint_block(code, s, front, back, w, h, x, y, left);
+            return allowed;
+        }
+        paint_block(code, s, front, back, w, h, x, y, due);
+        set_place(place, k + 1);
+        left -= due + 1;
+        at += data_length(code, s);
+        k += 1;
+    }
+    allowed - left
+}
+
+// Makes the first stores due from the place on, at most as many as are allowed, after every test; a refused call changes nothing.
+pub fn draw(
+    width: usize,
+    height: usize,
+    map: &[u8],
+    data: &[u8],
+    front: &[u8],
+    back: &mut [u8],
+    place: &mut usize,
+    allowed: usize,
+) -> Drawn
+    ensures { λ r. ⌜ memory (now (back .exit)) (now (place .exit)) ≡ step calling (memory (now (back .entry)) (now (place .entry))) (request width height (now (map .entry)) (now («data» .entry)) (now (front .entry)) allowed) ⌝ }
+    ensures { λ r. ⌜ said r ≡ reply calling (memory (now (back .entry)) (now (place .entry))) (request width height (now (map .entry)) (now («data» .entry)) (now (front .entry)) allowed) ⌝ }
+{
+    let at = *place;
+    match judge(width, height, map, data, front.len(), back.len(), at) {
+        Checked::Refused(r) => Drawn::Refused(r),
+        Checked::Accepted => {
+            let columns = width / 8;
+            let rows = height / 8;
+            let count = draw_blocks(columns, rows, map, data, front, back, place, allowed);
+            let next = *place;
+            if next == columns * rows {
+                return Drawn::Whole(count);
+            }
+            Drawn::Unfinished(count)
+        }
+    }
+}

@@ -1,0 +1,2 @@
+pub mod Paint
+pub mod Asked

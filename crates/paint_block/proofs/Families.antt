@@ -1,0 +1,188 @@
+-- Each family of blocks stores the pixels of its kind: what the family's function asks, and that what it stores is the block's plan.
+-- Assumes nothing.
+use mathlib.Core.Path.{_≡_, refl, sym, ap, _∙_, subst}
+use mathlib.Core.Bool.{Bool, true}
+use mathlib.Core.List.{List}
+use Prim.Native.Nat.{ℕ, _+_, _-_, _*_, _/_, _≤_, _<_}
+use native.Mathlib.Omega.{arith}
+use native.Mathlib.Nat.{mul-le-mul-right}
+use lib.ListN.{length, getD}
+use Rattle.pattern.specs.declared.Form.{Form}
+use Rattle.pattern.specs.Form.{Shape, shape}
+use Rattle.pattern.specs.Pattern.{patternLength, patternSource}
+use Rattle.motion.specs.declared.Vector.{Vector}
+use Rattle.motion.specs.Motion.{aheadVector, negated, nearVector, farVector, pointsInside, rasterIndex, copiedIndex, Short}
+use Rattle.motion.proofs.Vectors.{inside-each}
+use Rattle.block.specs.Block.{Side, pixels, Kind, same, kept, ahead, behind, near, far, patterned, celled, dithered, refused, kindOf, dataLength, copyInside, cellSource, ditherSource, source, fetched}
+use Rattle.block.proofs.Codes.{copy-ahead, copy-behind, copy-near, copy-far}
+use Rattle.stores.specs.Stores.{Plan, firstPixels}
+use Rattle.stores.proofs.Pixels.{first-none, first-agree}
+use Rattle.paint.specs.Paint.{single, fixedValue, backValue}
+use Rattle.paint.specs.Asked.{Square}
+use Rattle.paint_block.specs.Value.{pixelCount, pixelValue, blockPlan}
+use Rattle.paint_block.specs.Asked.{Canvas, Pointed, Drawable}
+
+-- ---- the picture
+
+module _ (w h x y front back : ℕ) (c : Canvas w h x y front back) where
+  tall : (y + 8) * w ≤ h * w
+  tall = mul-le-mul-right w (c .down)
+
+  pub front-square : Square w x y front
+  front-square =
+      record { width = c .width; across = c .across; down = omega (arith, c .down, c .height); room = omega (arith, tall, c .front-room) }
+
+  pub back-square : Square w x y back
+  back-square =
+      record { width = c .width; across = c .across; down = omega (arith, c .down, c .height); room = omega (arith, tall, c .back-room) }
+
+  pub back-canvas : Canvas w h x y back back
+  back-canvas =
+      record { width = c .width; height = c .height; across = c .across; down = c .down; front-room = c .back-room; back-room = c .back-room }
+
+  -- the 8x8 that a vector points at
+  module _ (v : Vector) (p : Pointed v w h x y) where
+    pub starts : (v .left ≤ x + v .right) × (v .up ≤ y + v .down)
+    starts = let i = inside-each v w h x y (p .inside) in (i .left, i .up)
+
+    pointed-canvas : Canvas w h (x + v .right - v .left) (y + v .down - v .up) front back
+    pointed-canvas =
+        let i = inside-each v w h x y (p .inside) in
+        record {
+          width = c .width;
+          height = c .height;
+          across = omega (arith, i .left, i .right);
+          down = omega (arith, i .up, i .down);
+          front-room = c .front-room;
+          back-room = c .back-room;
+        }
+
+pub pointed-front : (w h x y front back : ℕ) → Canvas w h x y front back → (v : Vector) → Pointed v w h x y → Square w (x + v .right - v .left) (y + v .down - v .up) front
+pointed-front w h x y front back c v p = front-square _ _ _ _ _ _ (pointed-canvas w h x y front back c v p)
+
+-- ---- the same pixels by another account of their values
+
+module _ (target : ℕ → ℕ) (b b′ : List ℕ) (n : ℕ) where
+  pub same-pixels : (u v : ℕ → List ℕ → ℕ) → ((i : ℕ) (a : List ℕ) → u i a ≡ v i a)
+      → b′ ≡ firstPixels (single target u) 0 b n → b′ ≡ firstPixels (single target v) 0 b n
+  same-pixels u v h e = e ∙ first-agree (single target u) (single target v) 0 0 b n (λ i l. refl) (λ i l a g. h i a)
+
+pub front-copied : (v : Vector) (w x y n : ℕ) (front b b′ : List ℕ)
+    → b′ ≡ firstPixels (single (rasterIndex w x y) (fixedValue (rasterIndex w (x + v .right - v .left) (y + v .down - v .up)) front)) 0 b n
+    → b′ ≡ firstPixels (single (rasterIndex w x y) (fixedValue (copiedIndex v w x y) front)) 0 b n
+unfolding fixedValue copiedIndex
+front-copied v w x y n front b b′ e = same-pixels (rasterIndex w x y) b b′ n _ _ (λ i a. refl) e
+
+pub back-copied : (v : Vector) (w x y n : ℕ) (b b′ : List ℕ)
+    → b′ ≡ firstPixels (single (rasterIndex w x y) (backValue (rasterIndex w (x + v .right - v .left) (y + v .down - v .up)))) 0 b n
+    → b′ ≡ firstPixels (single (rasterIndex w x y) (backValue (copiedIndex v w x y))) 0 b n
+unfolding backValue copiedIndex
+back-copied v w x y n b b′ e = same-pixels (rasterIndex w x y) b b′ n _ _ (λ i a. refl) e
+
+pub form-painted : (f g : Form) (q : Shape) (target : ℕ → ℕ) (s b b′ : List ℕ) (n : ℕ) → f ≡ g → shape g ≡ q
+    → b′ ≡ firstPixels (single target (fixedValue (patternSource q s) s)) 0 b n
+    → b′ ≡ firstPixels (single target (fixedValue (patternSource (shape f) s) s)) 0 b n
+form-painted f g q target s b b′ n e k h =
+    subst (λ (x : Shape). b′ ≡ firstPixels (single target (fixedValue (patternSource x s) s)) 0 b n) (sym (ap shape e ∙ k)) h
+
+-- ---- what each kind asks
+
+pub count-few : (κ : Kind) → pixelCount κ ≤ 64
+unfolding pixelCount
+count-few same = omega arith
+count-few kept = omega arith
+count-few (ahead b) = omega arith
+count-few (behind b) = omega arith
+count-few (near b) = omega arith
+count-few (far a b) = omega arith
+count-few (patterned f) = omega arith
+count-few (celled c) = omega arith
+count-few dithered = omega arith
+count-few refused = omega arith
+
+module _ (code : ℕ) (s : List ℕ) (w h x y n : ℕ) (d : Drawable code s w h x y n) where
+  pub few : n ≤ 64
+  few = omega (arith, d .count, count-few (kindOf code s))
+
+  pub ahead-pointed : (b : ℕ) (v : Vector) → kindOf code s ≡ ahead b → v ≡ aheadVector b → Short (aheadVector b) → Pointed v w h x y
+  ahead-pointed b v k e t =
+      record { short = subst Short (sym e) t; inside = copy-ahead s code w h x y b v _ k e refl ∙ d .inside }
+
+  pub behind-pointed : (b : ℕ) (v : Vector) → kindOf code s ≡ behind b → v ≡ negated (aheadVector b) → Short (negated (aheadVector b)) → Pointed v w h x y
+  behind-pointed b v k e t =
+      record { short = subst Short (sym e) t; inside = copy-behind s code w h x y b v _ k e refl ∙ d .inside }
+
+  pub near-pointed : (b : ℕ) (v : Vector) → kindOf code s ≡ near b → v ≡ nearVector b → Short (nearVector b) → Pointed v w h x y
+  near-pointed b v k e t =
+      record { short = subst Short (sym e) t; inside = copy-near s code w h x y b v _ k e refl ∙ d .inside }
+
+  pub far-pointed : (a b : ℕ) (v : Vector) → kindOf code s ≡ far a b → v ≡ farVector a b → Short (farVector a b) → Pointed v w h x y
+  far-pointed a b v k e t =
+      record { short = subst Short (sym e) t; inside = copy-far s code w h x y a b v _ k e refl ∙ d .inside }
+
+  -- the data bytes of its kind are there
+  pub there : (κ : Kind) → kindOf code s ≡ κ → dataLength κ ≤ length s
+  there κ k = subst (λ (z : Kind). dataLength z ≤ length s) k (d .there)
+
+  pub none-kept : kindOf code s ≡ kept → n ≡ 0
+  unfolding pixelCount
+  none-kept k = let l : n ≤ 0 = subst (λ (z : Kind). n ≤ pixelCount z) k (d .count) in omega arith
+
+-- ---- what each kind's function stores
+
+module _ (code : ℕ) (s : List ℕ) (w x y n : ℕ) (front b b′ : List ℕ) where
+  by-kind : (κ : Kind) → kindOf code s ≡ κ → (u : ℕ → List ℕ → ℕ) → ((i : ℕ) (a : List ℕ) → u i a ≡ pixelValue κ s w x y front i a)
+      → b′ ≡ firstPixels (single (rasterIndex w x y) u) 0 b n → b′ ≡ firstPixels (blockPlan (kindOf code s) s w x y front) 0 b n
+  by-kind κ k u h e =
+      subst (λ (z : Kind). b′ ≡ firstPixels (blockPlan z s w x y front) 0 b n) (sym k)
+      (same-pixels (rasterIndex w x y) b b′ n u (pixelValue κ s w x y front) h e)
+
+  pub paints-same : kindOf code s ≡ same → b′ ≡ firstPixels (single (rasterIndex w x y) (fixedValue (rasterIndex w x y) front)) 0 b n
+      → b′ ≡ firstPixels (blockPlan (kindOf code s) s w x y front) 0 b n
+  unfolding fixedValue pixelValue source fetched
+  paints-same k = by-kind same k _ (λ i a. refl)
+
+  pub paints-ahead : (v : Vector) (c : ℕ) → kindOf code s ≡ ahead c → v ≡ aheadVector c
+      → b′ ≡ firstPixels (single (rasterIndex w x y) (backValue (copiedIndex v w x y))) 0 b n
+      → b′ ≡ firstPixels (blockPlan (kindOf code s) s w x y front) 0 b n
+  unfolding backValue pixelValue source fetched
+  paints-ahead v c k e = by-kind (ahead c) k _ (λ i a. ap (λ (z : Vector). getD a (copiedIndex z w x y i) 0) e)
+
+  pub paints-behind : (v : Vector) (c : ℕ) → kindOf code s ≡ behind c → v ≡ negated (aheadVector c)
+      → b′ ≡ firstPixels (single (rasterIndex w x y) (backValue (copiedIndex v w x y))) 0 b n
+      → b′ ≡ firstPixels (blockPlan (kindOf code s) s w x y front) 0 b n
+  unfolding backValue pixelValue source fetched
+  paints-behind v c k e = by-kind (behind c) k _ (λ i a. ap (λ (z : Vector). getD a (copiedIndex z w x y i) 0) e)
+
+  pub paints-near : (v : Vector) (c : ℕ) → kindOf code s ≡ near c → v ≡ nearVector c
+      → b′ ≡ firstPixels (single (rasterIndex w x y) (fixedValue (copiedIndex v w x y) front)) 0 b n
+      → b′ ≡ firstPixels (blockPlan (kindOf code s) s w x y front) 0 b n
+  unfolding fixedValue pixelValue source fetched
+  paints-near v c k e = by-kind (near c) k _ (λ i a. ap (λ (z : Vector). getD front (copiedIndex z w x y i) 0) e)
+
+  pub paints-far : (v : Vector) (c d : ℕ) → kindOf code s ≡ far c d → v ≡ farVector c d
+      → b′ ≡ firstPixels (single (rasterIndex w x y) (fixedValue (copiedIndex v w x y) front)) 0 b n
+      → b′ ≡ firstPixels (blockPlan (kindOf code s) s w x y front) 0 b n
+  unfolding fixedValue pixelValue source fetched
+  paints-far v c d k e = by-kind (far c d) k _ (λ i a. ap (λ (z : Vector). getD front (copiedIndex z w x y i) 0) e)
+
+  pub paints-form : (f : Form) → kindOf code s ≡ patterned f
+      → b′ ≡ firstPixels (single (rasterIndex w x y) (fixedValue (patternSource (shape f) s) s)) 0 b n
+      → b′ ≡ firstPixels (blockPlan (kindOf code s) s w x y front) 0 b n
+  unfolding fixedValue pixelValue source fetched
+  paints-form f k = by-kind (patterned f) k _ (λ i a. refl)
+
+  pub paints-cells : (c : Side) → kindOf code s ≡ celled c
+      → b′ ≡ firstPixels (single (rasterIndex w x y) (fixedValue (cellSource (pixels c)) s)) 0 b n
+      → b′ ≡ firstPixels (blockPlan (kindOf code s) s w x y front) 0 b n
+  unfolding fixedValue pixelValue source fetched
+  paints-cells c k = by-kind (celled c) k _ (λ i a. refl)
+
+  pub paints-dither : kindOf code s ≡ dithered
+      → b′ ≡ firstPixels (single (rasterIndex w x y) (fixedValue ditherSource s)) 0 b n
+      → b′ ≡ firstPixels (blockPlan (kindOf code s) s w x y front) 0 b n
+  unfolding fixedValue pixelValue source fetched
+  paints-dither k = by-kind dithered k _ (λ i a. refl)
+
+  pub paints-none : n ≡ 0 → b′ ≡ b → b′ ≡ firstPixels (blockPlan (kindOf code s) s w x y front) 0 b n
+  paints-none z e = rw (z, e) (sym (first-none _ _ _))

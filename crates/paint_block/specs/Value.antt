@@ -1,0 +1,29 @@
+-- How many pixels of a block are stored, and what each becomes.
+-- Assumes nothing.
+use mathlib.Core.List.{List}
+use Prim.Native.Nat.{ℕ}
+use Rattle.motion.specs.Motion.{rasterIndex}
+use Rattle.block.specs.Block.{Kind, same, kept, ahead, behind, near, far, patterned, celled, dithered, refused, source, fetched}
+use Rattle.stores.specs.Stores.{Plan}
+use Rattle.paint.specs.Paint.{single}
+
+-- document 01: 64 for each block but code 1
+unfoldable pub pixelCount : Kind → ℕ
+pixelCount same = 64
+pixelCount kept = 0
+pixelCount (ahead b) = 64
+pixelCount (behind b) = 64
+pixelCount (near b) = 64
+pixelCount (far a b) = 64
+pixelCount (patterned f) = 64
+pixelCount (celled c) = 64
+pixelCount dithered = 64
+pixelCount refused = 64
+
+-- pixel i of a block of this kind at x, y, whose data is s, where back is the picture drawn on as it is then: what stands at its source
+unfoldable pub pixelValue : Kind → List ℕ → ℕ → ℕ → ℕ → List ℕ → ℕ → List ℕ → ℕ
+pixelValue κ s w x y front i back = fetched (source κ s w x y i) s front back
+
+-- the block as a plan of its own
+abbrev pub blockPlan : Kind → List ℕ → ℕ → ℕ → ℕ → List ℕ → Plan
+blockPlan κ s w x y front = single (rasterIndex w x y) (pixelValue κ s w x y front)

@@ -1,0 +1,93 @@
+-- The definitions computed, and the theorem applied, for a small plan: two blocks of two pixels. Block 0 is block 1 plus 1, read before block 1 is
+-- drawn; block 1 is block 0 plus 10, read after block 0 is drawn. The calls: one stopped in block 0, one stopped in block 1, a refused one that
+-- brings another plan, one that ends the drawing, and one after the end.
+use mathlib.Core.Path.{_≡_, refl, ap}
+use mathlib.Core.List.{List, [], _∷_}
+use Prim.Native.Nat.{ℕ, zero, suc, _+_, _*_}
+use native.Mathlib.Omega.{arith}
+use lib.ListN.{getD}
+use Rattle.stores.specs.Stores.{Plan, pixels, stores, following, Memory, memory, apply, run, firstPixels, after, count, stage, final, Own, Lawful}
+use Rattle.stores.specs.Calls.{Call, refused, allowed, Answer, whole, unfinished, refusal, Outcome, answered, leave, outcome, Calling, finally, outcomes, Each, Fair, booked, AsBooked}
+use Rattle.stores.proofs.Calls.{as-booked}
+
+abbrev across : ℕ → ℕ → List ℕ → ℕ
+across zero i b = getD b (2 + i) 0 + 1
+across (suc k) i b = getD b i 0 + 10
+
+abbrev two : Plan
+two = record { blocks = 2; size = λ k. 2; target = λ k i. k * 2 + i; value = across }
+
+abbrev other : Plan
+other = record { blocks = 7; size = λ k. 1; target = λ k i. k; value = λ k i b. 0 }
+
+-- draw n: the plan two, allowed n stores. stray: another plan, refused with answer 9.
+data Ask : Type 0 where
+  draw : ℕ → Ask
+  stray : Ask
+
+abbrev planOf : Ask → Plan
+planOf (draw n) = two
+planOf stray = other
+
+abbrev met : Ask → Memory → Call ℕ
+met (draw n) m = allowed n
+met stray m = refused 9
+
+abbrev asked : Calling Ask ℕ
+asked = record { plan = planOf; meets = met }
+
+abbrev asks : List Ask
+asks = draw 1 ∷ draw 4 ∷ stray ∷ draw 100 ∷ draw 5 ∷ []
+
+-- the memory that the calls find
+abbrev found : Memory
+found = memory (1 ∷ 2 ∷ 3 ∷ 4 ∷ []) 0
+
+abbrev says : Answer ℕ → ℕ → Outcome ℕ
+says a n = record { answer = a; count = n }
+
+-- ---- computed
+
+the-final : final two (found .picture) ≡ 4 ∷ 5 ∷ 14 ∷ 15 ∷ []
+unfolding stage firstPixels pixels run apply
+the-final = refl
+
+the-outcomes : outcomes asked found asks ≡ says unfinished 1 ∷ says unfinished 4 ∷ says (refusal 9) 0 ∷ says whole 3 ∷ says whole 0 ∷ []
+unfolding outcomes outcome answered leave after count pixels stores following run apply
+the-outcomes = refl
+
+-- after the second call block 0 is drawn, and one pixel of block 1
+half-way : finally asked found (draw 1 ∷ draw 4 ∷ []) ≡ memory (4 ∷ 5 ∷ 14 ∷ 4 ∷ []) 1
+unfolding finally leave after pixels stores following run apply
+half-way = refl
+
+the-memory : finally asked found asks ≡ memory (4 ∷ 5 ∷ 14 ∷ 15 ∷ []) 2
+unfolding finally leave after pixels stores following run apply
+the-memory = refl
+
+the-book : finally (booked asked two (found .picture)) found (draw 1 ∷ draw 4 ∷ []) ≡ memory (4 ∷ 5 ∷ 14 ∷ 4 ∷ []) 1
+unfolding finally leave after stage firstPixels pixels stores following run apply
+the-book = refl
+
+-- ---- the theorem's hypotheses hold
+
+own : (k : ℕ) → Own two 4 k
+own zero i hi a b la lb f = ap (λ (x : ℕ). x + 1) (f (2 + i) (λ j hj e. omega arith))
+own (suc k) i hi a b la lb f = ap (λ (x : ℕ). x + 10) (f i (λ j hj e. omega arith))
+
+lawful : Lawful two 4
+lawful =
+    record {
+      distinct = λ k k′ i i′ hk hk′ hi hi′ e. omega arith;
+      inside = λ k i hk hi. omega arith;
+      own = λ k hk. own k;
+    }
+
+fair : (cs : List Ask) (m : Memory) → Fair asked two m cs
+unfolding Fair Each
+fair [] m = tt
+fair (draw n ∷ cs) m = (λ n e. refl, fair cs _)
+fair (stray ∷ cs) m = (λ n e. let z : _≡_ {A = ℕ} 0 1 = cc in absurd (let y : ⊥ = omega arith in y), fair cs _)
+
+booked-so : AsBooked asked two (found .picture) asks
+booked-so = as-booked _ _ _ lawful _ (fair asks found)

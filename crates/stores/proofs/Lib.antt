@@ -1,0 +1,6 @@
+pub mod Steps
+pub mod Pixels
+pub mod Loop
+pub mod Recover
+pub mod Calls
+pub mod Example
