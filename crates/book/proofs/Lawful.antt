@@ -1,0 +1,98 @@
+-- The drawing of an accepted packet is lawful: no two pixels have one target, each target is inside the picture, and no block reads a pixel of its own.
+-- Assumes nothing.
+use mathlib.Core.Path.{_≡_, refl, sym, ap, _∙_, subst}
+use mathlib.Core.Logic.{_⊎_, ⊎-elim, _≢_}
+use mathlib.Core.List.{List}
+use Prim.Native.Nat.{ℕ, _+_, _*_, _/_, _%_, _≤_, _<_}
+use native.Mathlib.Omega.{arith}
+use native.Mathlib.Nat.{mul-le-mul-right}
+use lib.ListN.{length, getD}
+use Rattle.motion.specs.Motion.{rasterIndex}
+use Rattle.block.specs.declared.Source.{Source}
+use Rattle.block.specs.declared.Source.the-variants.{Data, Front, Back}
+use Rattle.block.specs.Block.{Kind, kept, source, fetched}
+use Rattle.paint.specs.Asked.{Square}
+use Rattle.paint.proofs.Painting.{square-below}
+use Rattle.paint_block.specs.Value.{pixelCount, pixelValue}
+use Rattle.paint_block.proofs.Families.{count-few}
+use Rattle.packet.specs.Packet.{Packet, blocks, width, height, left, top, dataOf, kind, blockOf}
+use Rattle.packet.specs.Asked.{Sized}
+use Rattle.packet.specs.Accepted.{Whole}
+use Rattle.packet.proofs.Grid.{column-below, row-below, raster-row, raster-column, own-block}
+use Rattle.packet.proofs.Apart.{reads-no-own}
+use Rattle.stores.specs.Stores.{Off, Own, Lawful}
+use Rattle.draw.specs.Drawing.{sizeAt, targetAt, valueAt, plan}
+
+module _ (p : Packet) (z : Sized p) where
+  some : 0 < p .columns
+  some = omega (arith, z .some-columns)
+
+  pub few : (k i : ℕ) → i < sizeAt p k → i < 64
+  unfolding sizeAt
+  few k i h = omega (arith, count-few (kind p k))
+
+  -- pixel i of block k stands in block k
+  pub target-block : (k i : ℕ) → i < 64 → blockOf (p .columns) (targetAt p k i) ≡ k
+  unfolding targetAt
+  target-block k i h = own-block (p .columns) some k i h
+
+  -- two pixels of a block at one index are one
+  same-pixel : (k i i′ : ℕ) → i < 64 → i′ < 64 → targetAt p k i ≡ targetAt p k i′ → i ≡ i′
+  unfolding targetAt
+  same-pixel k i i′ h h′ e =
+      let in-x : left p k + 8 ≤ width p = omega (arith, column-below (p .columns) k some) in
+      let r = ap (λ (n : ℕ). n / width p) e in
+      let c = ap (λ (n : ℕ). n % width p) e in
+      let y : top p k + i / 8 ≡ top p k + i′ / 8 =
+      sym (raster-row (width p) (left p k) (top p k) i in-x) ∙ r ∙ raster-row (width p) (left p k) (top p k) i′ in-x in
+      let x : left p k + i % 8 ≡ left p k + i′ % 8 =
+      sym (raster-column (width p) (left p k) (top p k) i in-x) ∙ c ∙ raster-column (width p) (left p k) (top p k) i′ in-x in
+      omega arith
+
+  pub distinct : (k k′ i i′ : ℕ) → i < 64 → i′ < 64 → targetAt p k i ≡ targetAt p k′ i′ → (k ≡ k′) × (i ≡ i′)
+  distinct k k′ i i′ h h′ e =
+      let q : k ≡ k′ = sym (target-block k i h) ∙ ap (blockOf (p .columns)) e ∙ target-block k′ i′ h′ in
+      (q, same-pixel k i i′ h h′ (e ∙ ap (λ (n : ℕ). targetAt p n i′) (sym q)))
+
+  pub inside : (k i : ℕ) → k < blocks p → i < 64 → targetAt p k i < height p * width p
+  unfolding targetAt
+  inside k i h hi =
+      let down : top p k + 8 ≤ height p = omega (arith, row-below (p .columns) (p .rows) k some h) in
+      let q : Square (width p) (left p k) (top p k) (height p * width p) =
+      record {
+        width = omega (arith, z .columns);
+        across = omega (arith, column-below (p .columns) k some);
+        down = omega (arith, z .rows);
+        room = mul-le-mul-right (width p) down;
+      } in
+      square-below (width p) (left p k) (top p k) (height p * width p) i q hi (rasterIndex (width p) (left p k) (top p k) i) refl
+
+  module _ (w : Whole p) (front : List ℕ) (n : ℕ) where
+    -- a source in back is no pixel of the block, in a block that is drawn
+    off : (k i j : ℕ) → k < blocks p → i < sizeAt p k → source (kind p k) (dataOf p k) (width p) (left p k) (top p k) i ≡ Back j → Off (plan p front) k j
+    unfolding sizeAt pixelCount
+    off k i j h hi e m hm q =
+        ⊎-elim
+        (λ (x : kind p k ≡ kept). none-kept x)
+        (λ (x : blockOf (p .columns) j ≢ k). x (ap (blockOf (p .columns)) q ∙ target-block k m (few k m hm)))
+        (reads-no-own p some k i (few k i hi) (w .each k h .inside) j e)
+      where
+        none-kept : kind p k ≡ kept → ⊥
+        none-kept x = let l : i < 0 = subst (λ (κ : Kind). i < pixelCount κ) x hi in omega arith
+
+    own : (k : ℕ) → k < blocks p → Own (plan p front) n k
+    unfolding valueAt pixelValue fetched
+    own k h i hi a b la lb agree = by (source (kind p k) (dataOf p k) (width p) (left p k) (top p k) i) refl
+      where
+        by : (u : Source) → source (kind p k) (dataOf p k) (width p) (left p k) (top p k) i ≡ u → fetched u (dataOf p k) front a ≡ fetched u (dataOf p k) front b
+        by (Data j) e = refl
+        by (Front j) e = refl
+        by (Back j) e = agree j (off k i j h hi e)
+
+    pub plan-lawful : height p * width p ≤ n → Lawful (plan p front) n
+    plan-lawful long =
+        record {
+          distinct = λ k k′ i i′ h h′ hi hi′ e. distinct k k′ i i′ (few k i hi) (few k′ i′ hi′) e;
+          inside = λ k i h hi. omega (arith, inside k i h (few k i hi));
+          own = own;
+        }
