@@ -125,6 +125,40 @@ impl Form {
         }
     }
 
+    /// The form of a block by its bytes; `None` for code 6, and where bytes that choose the form are
+    /// missing.
+    pub fn of(code: u8, data: &[u8]) -> Option<Form> {
+        let falls = |first: usize| Some(data.get(first)? > data.get(first + 1)?);
+        Some(match code {
+            0x0 => Form::SameBlock,
+            0x1 => Form::Untouched,
+            0x2 => Form::BackAhead,
+            0x3 => Form::BackBehind,
+            0x4 => Form::FrontNear,
+            0x5 => Form::FrontFar,
+            0x7 if falls(0)? => Form::TwoColourCoarse,
+            0x7 => Form::TwoColourFine,
+            0x8 if !falls(0)? => Form::TwoColourQuarters,
+            0x8 if !falls(6)? => Form::TwoColourLeftRight,
+            0x8 => Form::TwoColourTopBottom,
+            0x9 => match (falls(0)?, falls(2)?) {
+                (false, false) => Form::FourColour1x1,
+                (false, true) => Form::FourColour2x2,
+                (true, false) => Form::FourColour2x1,
+                (true, true) => Form::FourColour1x2,
+            },
+            0xA if !falls(0)? => Form::FourColourQuarters,
+            0xA if !falls(12)? => Form::FourColourLeftRight,
+            0xA => Form::FourColourTopBottom,
+            0xB => Form::Raw1x1,
+            0xC => Form::Raw2x2,
+            0xD => Form::Raw4x4,
+            0xE => Form::Solid,
+            0xF => Form::Dithered,
+            _ => return None,
+        })
+    }
+
     /// A block of this form for the given place in a frame; `None` where no vector of a copy
     /// stays inside the frame.
     pub fn block(self, rng: &mut Seeded, size: Size, number: usize) -> Option<Block> {

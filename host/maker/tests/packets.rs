@@ -20,37 +20,8 @@ fn blocks(packet: &Packet) -> Vec<Block<'_>> {
         .unwrap_or_else(|refusal| panic!("{refusal}: {packet:?}"))
 }
 
-/// The form of a block by its bytes, from 01's table.
 fn form_of(block: &Block<'_>) -> Form {
-    let falls = |first: usize| block.data[first] > block.data[first + 1];
-    match block.code {
-        0x0 => Form::SameBlock,
-        0x1 => Form::Untouched,
-        0x2 => Form::BackAhead,
-        0x3 => Form::BackBehind,
-        0x4 => Form::FrontNear,
-        0x5 => Form::FrontFar,
-        0x7 if falls(0) => Form::TwoColourCoarse,
-        0x7 => Form::TwoColourFine,
-        0x8 if !falls(0) => Form::TwoColourQuarters,
-        0x8 if !falls(6) => Form::TwoColourLeftRight,
-        0x8 => Form::TwoColourTopBottom,
-        0x9 => match (falls(0), falls(2)) {
-            (false, false) => Form::FourColour1x1,
-            (false, true) => Form::FourColour2x2,
-            (true, false) => Form::FourColour2x1,
-            (true, true) => Form::FourColour1x2,
-        },
-        0xA if !falls(0) => Form::FourColourQuarters,
-        0xA if !falls(12) => Form::FourColourLeftRight,
-        0xA => Form::FourColourTopBottom,
-        0xB => Form::Raw1x1,
-        0xC => Form::Raw2x2,
-        0xD => Form::Raw4x4,
-        0xE => Form::Solid,
-        0xF => Form::Dithered,
-        code => panic!("code {code} accepted"),
-    }
+    Form::of(block.code, block.data).expect("an accepted block")
 }
 
 fn count<K: Ord>(keys: impl IntoIterator<Item = K>) -> BTreeMap<K, usize> {

@@ -72,25 +72,20 @@ fn every_number() {
     }
 }
 
-/// Forms by code and falling pairs, counted in the accepted cases.
+/// Counted in the accepted cases.
 #[test]
 fn every_form() {
-    let mut counts: BTreeMap<(u8, bool, bool), usize> = BTreeMap::new();
+    let mut counts: BTreeMap<Form, usize> = BTreeMap::new();
     for packet in read(&vectors::generate().input) {
         let blocks =
             reference::packet::blocks(packet.width, packet.height, &packet.map, &packet.data);
         for block in blocks.unwrap_or_default() {
-            let falls = |first: usize| block.data[first] > block.data[first + 1];
-            let (first, second) = match block.code {
-                0x7 => (falls(0), false),
-                0x8 => (falls(0), falls(0) && falls(6)),
-                0x9 => (falls(0), falls(2)),
-                0xA => (falls(0), falls(0) && falls(12)),
-                _ => (false, false),
-            };
-            *counts.entry((block.code, first, second)).or_insert(0) += 1;
+            let form = Form::of(block.code, block.data).expect("an accepted block");
+            *counts.entry(form).or_insert(0) += 1;
         }
     }
-    assert_eq!(counts.len(), Form::ALL.len(), "{counts:?}");
-    assert!(counts.values().all(|&times| times >= OFTEN), "{counts:?}");
+    for form in Form::ALL {
+        let times = counts.get(&form).copied().unwrap_or(0);
+        assert!(times >= OFTEN, "{form:?} is there {times} times, wanted {OFTEN}");
+    }
 }

@@ -1,0 +1,82 @@
+-- The heads of chunks and opcodes, and which opcodes are taken (document 01, "Film, chunks, opcodes"): refusals 2, 3, then 4, 5.
+-- A chunk is a word length, a word type and a body; an opcode a word length, a byte type, a byte version and a body. No length counts its own head.
+-- Assumes nothing.
+use mathlib.Core.Bool.{Bool, true, false, cond}
+use mathlib.Core.List.{List}
+use Prim.Native.Nat.{ℕ, _+_, _*_}
+use lib.Dec.{eqb, leb, ltb}
+use lib.ListN.{length, getD}
+use Rattle.words.specs.Word.{wordAt}
+use Rattle.refusal.specs.declared.Refusal.the-variants.{FilmEnd, ChunkEnd}
+use Rattle.refusal.specs.Number.{Verdict, accept, refuse}
+use Rattle.state.specs.declared.Cursor.{Cursor}
+use Rattle.heads.specs.declared.Opcode.{Opcode}
+use Rattle.heads.specs.declared.ChunkHead.{ChunkHead}
+use Rattle.heads.specs.declared.ChunkHead.the-variants.{Chunk, BadChunk}
+use Rattle.heads.specs.declared.OpcodeHead.{OpcodeHead}
+use Rattle.heads.specs.declared.OpcodeHead.the-variants.{Op, BadOp}
+
+-- ---- 2
+
+abbrev pub cursor : ℕ → ℕ → Cursor
+cursor position end = record { position = position; «chunk_end» = end }
+
+-- the chunk whose head is at e and says this length, in a film this long
+unfoldable pub chunkOf : ℕ → ℕ → ℕ → ChunkHead
+chunkOf film e long =
+    cond (ltb film (e + 4)) (BadChunk FilmEnd) (cond (ltb film (e + 4 + long)) (BadChunk FilmEnd) (Chunk (cursor (e + 4) (e + 4 + long))))
+
+unfoldable pub chunkAt : List ℕ → ℕ → ChunkHead
+chunkAt film e = chunkOf (length film) e (wordAt film e)
+
+-- ---- 3
+
+abbrev pub opcode : ℕ → ℕ → ℕ → ℕ → Opcode
+opcode kind version start long = record { kind = kind; version = version; start = start; long = long }
+
+-- the opcode whose head is at p and says this length, type and version, in a chunk that ends at e; 00 and 01 must be last in their chunk
+unfoldable pub opcodeOf : ℕ → ℕ → ℕ → ℕ → ℕ → OpcodeHead
+opcodeOf p e long kind version =
+    cond (ltb e (p + 4)) (BadOp ChunkEnd)
+    (cond (ltb e (p + 4 + long)) (BadOp ChunkEnd)
+    (cond (ltb 1 kind) (Op (opcode kind version (p + 4) long))
+    (cond (eqb (p + 4 + long) e) (Op (opcode kind version (p + 4) long)) (BadOp ChunkEnd))))
+
+unfoldable pub opcodeAt : List ℕ → ℕ → ℕ → OpcodeHead
+opcodeAt film p e = opcodeOf p e (wordAt film p) (getD film (p + 2) 0) (getD film (p + 3) 0)
+
+-- ---- 4 and 5
+
+-- a version up to most, and a body this long exactly
+unfoldable pub exactly : ℕ → ℕ → ℕ → ℕ → Verdict
+exactly most long version n = cond (ltb most version) (refuse 4 0) (cond (eqb n long) accept (refuse 5 0))
+
+-- a version up to most, and two words and one more for each version after 0
+unfoldable pub byVersion : ℕ → ℕ → ℕ → Verdict
+byVersion most version n = cond (ltb most version) (refuse 4 0) (cond (eqb n (4 + 2 * version)) accept (refuse 5 0))
+
+-- version 0, and a body at least this long
+unfoldable pub atLeast : ℕ → ℕ → ℕ → Verdict
+atLeast long version n = cond (ltb 0 version) (refuse 4 0) (cond (ltb n long) (refuse 5 0) accept)
+
+-- types that are passed over unread: 02 to 04, 08 to 0A, 12 to 15
+unfoldable pub passedOver : ℕ → Bool
+passedOver kind =
+    cond (ltb kind 2) false
+    (cond (ltb kind 5) true
+    (cond (ltb kind 8) false
+    (cond (ltb kind 11) true
+    (cond (ltb kind 18) false (ltb kind 22)))))
+
+-- a type, a version and a body this long; the lengths of 0C and 0D are judged with their content
+unfoldable pub shapeVerdict : ℕ → ℕ → ℕ → Verdict
+shapeVerdict kind version n =
+    cond (ltb kind 2) (exactly 0 0 version n)
+    (cond (eqb kind 5) (byVersion 2 version n)
+    (cond (eqb kind 7) (byVersion 1 version n)
+    (cond (eqb kind 11) (exactly 0 6 version n)
+    (cond (eqb kind 12) (atLeast 0 version n)
+    (cond (eqb kind 13) (atLeast 0 version n)
+    (cond (eqb kind 15) (atLeast 0 version n)
+    (cond (eqb kind 17) (atLeast 14 version n)
+    (cond (passedOver kind) accept (refuse 4 0)))))))))

@@ -1,0 +1,58 @@
+-- The tests of a state, and the shown picture, by what code found.
+-- Assumes nothing.
+use mathlib.Core.Path.{_≡_, refl, sym, ap, _∙_}
+use mathlib.Core.Bool.{Bool, true, false, cond}
+use mathlib.Core.List.{List}
+use Prim.Native.Nat.{ℕ, _+_, _-_, _*_, _≤_, _<_}
+use native.Mathlib.Omega.{arith}
+use borrow.Author.Tests.{lt-leb, le-leb, eq-eqb, ne-eqb}
+use lib.Dec.{eqb, leb}
+use Rattle.refusal.specs.Number.{Verdict}
+use Rattle.packet.specs.Verdict.{legalSize}
+use Rattle.state.specs.declared.Map.{Map}
+use Rattle.state.specs.declared.Map.the-variants.{Missing, Part}
+use Rattle.state.specs.declared.State.{State}
+use Rattle.state.specs.State.{possibleSize, mapInside, boundsVerdict, stateVerdict, area, chosen, shownOf}
+
+-- a part by its start and length, tested without a sum
+pub starts-past : (start long n : ℕ) → n < start → false ≡ leb (start + long) n
+starts-past start long n h = let g : n < start + long = omega arith in sym (lt-leb _ _ g)
+
+pub ends-past : (start long n : ℕ) → start ≤ n → n - start < long → false ≡ leb (start + long) n
+ends-past start long n h l = let g : n < start + long = omega arith in sym (lt-leb _ _ g)
+
+pub lies-inside : (start long n : ℕ) → start ≤ n → long ≤ n - start → true ≡ leb (start + long) n
+lies-inside start long n h l = let g : start + long ≤ n = omega arith in sym (le-leb _ _ g)
+
+pub none-inside : (m : Map) (n : ℕ) → m ≡ Missing → true ≡ mapInside m n
+unfolding mapInside
+none-inside m n e = rw e
+
+pub part-inside : (m : Map) (start long n : ℕ) (r : Bool) → m ≡ Part start long → r ≡ leb (start + long) n → r ≡ mapInside m n
+unfolding mapInside
+part-inside m start long n r e q = rw e q
+
+pub no-size : (w h : ℕ) → w ≡ 0 → eqb h 0 ≡ possibleSize w h
+unfolding possibleSize
+no-size w h e = rw (eq-eqb w 0 e)
+
+pub some-size : (w h : ℕ) (r : Bool) → (w ≡ 0 → ⊥) → r ≡ legalSize w h → r ≡ possibleSize w h
+unfolding possibleSize
+some-size w h r n q = rw (ne-eqb w 0 n) q
+
+pub state-judged : (st : State) (film : ℕ) (map size : Bool) (v : Verdict) → map ≡ mapInside (st .map) film → size ≡ possibleSize (st .width) (st .height)
+    → v ≡ boundsVerdict (st .cursor .position) (st .cursor .«chunk_end») film map (st .front) size → v ≡ stateVerdict st film
+unfolding stateVerdict
+state-judged st film map size v e f q = rw (← e, ← f) q
+
+pub area-legal : (w h : ℕ) → legalSize w h ≡ true → w * h ≡ area w h
+unfolding area
+area-legal w h e = rw e
+
+pub area-none : (w h : ℕ) → legalSize w h ≡ false → 0 ≡ area w h
+unfolding area
+area-none w h e = rw e
+
+pub shown-is : (st : State) (a b r : List ℕ) (n : ℕ) → n ≡ area (st .width) (st .height) → r ≡ chosen (st .front) n a b → r ≡ shownOf st a b
+unfolding shownOf
+shown-is st a b r n e q = rw (← e) q

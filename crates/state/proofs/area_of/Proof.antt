@@ -1,0 +1,28 @@
+use mathlib.Core.Path.{sym, _∙_}
+use native.Mathlib.Omega.{arith}
+use native.Mathlib.Nat.{mul-le-mul}
+use Rattle.packet.proofs.Sizes.{size-is}
+use Rattle.state.proofs.Tests.{area-legal, area-none}
+use Rattle.words.proofs.Tests.{decide}
+use Rattle.state.specs.State.{area}
+use borrow.Author.Needs.{needs}
+use Rattle.state.proofs.area_of.Statement.{statement}
+use Rattle.state.proofs.area_of.Tie as tie
+use Rattle.state.proofs.area_of.Reads as reads
+use Rattle.state.proofs.area_of.Lts as lts
+use Rattle.packet.proofs.is_legal_size.Reads as is-legal-size-reads
+
+is-legal-size-requires : tie.Need-is-legal-size-requires
+is-legal-size-requires c κs = search needs
+
+mul-result : tie.Need-mul-result
+mul-result c = let l = size-is _ _ (sym (c .before .is-legal-size .ensures) ∙ c .if1 .taken) in let q = mul-le-mul (l .0 .bound) (l .1 .bound) in omega (arith, q)
+
+returns : tie.Need-returns
+returns c = area-legal _ _ (sym (c .before .is-legal-size .ensures) ∙ c .if1 .taken)
+
+returns-2 : tie.Need-returns-2
+returns-2 c = area-none _ _ (sym (c .before .is-legal-size .ensures) ∙ c .if1 .left)
+
+pub area-of-spec : {M : Type 1} → statement M
+area-of-spec = tie.close (tie.spec is-legal-size-requires mul-result returns returns-2)

@@ -1,0 +1,21 @@
+use Rattle.state.proofs.Tests.{no-size, some-size}
+use Rattle.words.proofs.Tests.{decide}
+use Rattle.state.specs.State.{possibleSize}
+use borrow.Author.Needs.{needs}
+use Rattle.state.proofs.is_possible_size.Statement.{statement}
+use Rattle.state.proofs.is_possible_size.Tie as tie
+use Rattle.state.proofs.is_possible_size.Reads as reads
+use Rattle.state.proofs.is_possible_size.Lts as lts
+use Rattle.packet.proofs.is_legal_size.Reads as is-legal-size-reads
+
+returns : tie.Need-returns
+returns c = no-size _ _ (c .if1 .taken)
+
+is-legal-size-requires : tie.Need-is-legal-size-requires
+is-legal-size-requires c κs = search needs
+
+returns-2 : tie.Need-returns-2
+returns-2 c = some-size _ _ _ (c .before .if1 .left) (c .is-legal-size .ensures)
+
+pub is-possible-size-spec : {M : Type 1} → statement M
+is-possible-size-spec = tie.close (tie.spec returns is-legal-size-requires returns-2)

@@ -1,0 +1,56 @@
+//! A long comparison of the proved library with the second decoder, run by hand:
+//! `compare SEED COUNT [packets|lists]`.
+
+use compare::{Comparison, Found, Kind, Proved, Second};
+use std::env;
+use std::process::ExitCode;
+use std::time::{Duration, Instant};
+
+/// How often to tell how far the comparison is.
+const PROGRESS: Duration = Duration::from_secs(10);
+
+fn main() -> ExitCode {
+    let arguments: Vec<String> = env::args().skip(1).collect();
+    let Some((seed, count, kinds)) = parsed(&arguments) else {
+        eprintln!("usage: compare SEED COUNT [packets|lists]");
+        return ExitCode::from(2);
+    };
+    match compare(seed, count, kinds) {
+        Ok(compared) => {
+            println!("seed {seed}: {compared}: no difference");
+            ExitCode::SUCCESS
+        }
+        Err(found) => {
+            println!("{found}");
+            println!("again: compare {seed} {} {}", found.number + 1, found.kind);
+            ExitCode::FAILURE
+        }
+    }
+}
+
+/// Seed, cases of each kind, and the kinds.
+fn parsed(arguments: &[String]) -> Option<(u64, u64, &'static [Kind])> {
+    let (numbers, kinds) = match arguments {
+        [seed, count] => ([seed, count], &[Kind::Packets, Kind::Lists][..]),
+        [seed, count, kind] if kind == "packets" => ([seed, count], &[Kind::Packets][..]),
+        [seed, count, kind] if kind == "lists" => ([seed, count], &[Kind::Lists][..]),
+        _ => return None,
+    };
+    let [seed, count] = numbers.map(|number| number.parse().ok());
+    Some((seed?, count?, kinds))
+}
+
+/// Compares so many cases of each kind; what was compared, in words.
+fn compare(seed: u64, count: u64, kinds: &[Kind]) -> Result<String, Found> {
+    let mut comparison = Comparison::new(Proved, Second);
+    let mut told = Instant::now();
+    for &kind in kinds {
+        comparison.run(kind, seed, 0..count, |number, tally| {
+            if told.elapsed() >= PROGRESS {
+                told = Instant::now();
+                println!("seed {seed}: {number} of {count} {kind}; {tally}");
+            }
+        })?;
+    }
+    Ok(comparison.tally().to_string())
+}

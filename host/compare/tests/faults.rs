@@ -1,0 +1,238 @@
+//! A faulty decoder is found out: each fault, in the second decoder's place and with the tests'
+//! cases, is reported, and as what it is. Several are the ones that 01 names ("Slips that look
+//! right", "These must not get through").
+
+use compare::{cases, Answer, Checked, Comparison, Decoder, Found, Kind, Part, Second};
+use maker::{Form, Packet};
+use reference::{Drawn, Refusal};
+
+const SEED: u64 = 2;
+const CASES: u64 = 2000;
+
+/// The second decoder with a fault in checking and one in drawing.
+struct Faulty<C, D> {
+    check: C,
+    draw: D,
+}
+
+/// A drawing call that was made without fault, for one to be put in.
+struct Made<'a> {
+    packet: &'a Packet,
+    /// The picture and the place that the call found.
+    found: (Vec<u8>, usize),
+    front: &'a mut [u8],
+    back: &'a mut [u8],
+    place: &'a mut usize,
+    answer: Answer,
+}
+
+impl<C: Fn(Checked) -> Checked, D: Fn(&mut Made<'_>)> Decoder for Faulty<C, D> {
+    fn name(&self) -> &'static str {
+        "faulty decoder"
+    }
+
+    fn check(&self, packet: &Packet) -> Checked {
+        (self.check)(Second.check(packet))
+    }
+
+    fn draw(
+        &self,
+        packet: &Packet,
+        front: &mut [u8],
+        back: &mut [u8],
+        place: &mut usize,
+        allowed: usize,
+    ) -> Answer {
+        let found = (back.to_vec(), *place);
+        let answer = Second.draw(packet, front, back, place, allowed);
+        let mut made = Made { packet, found, front, back, place, answer };
+        (self.draw)(&mut made);
+        made.answer
+    }
+}
+
+/// The report on a fault in drawing.
+fn reported(fault: impl Fn(&mut Made<'_>)) -> Option<Found> {
+    let faulty = Faulty { check: |answer| answer, draw: fault };
+    Comparison::new(faulty, Second).run(Kind::Lists, SEED, 0..CASES, |_, _| ()).err()
+}
+
+/// What a fault in drawing is reported as.
+#[track_caller]
+fn part(fault: impl Fn(&mut Made<'_>)) -> Part {
+    reported(fault).expect("a difference").difference.part
+}
+
+#[track_caller]
+fn assert_check_found(fault: impl Fn(Checked) -> Checked) {
+    let faulty = Faulty { check: fault, draw: |_: &mut Made<'_>| () };
+    let compared = Comparison::new(faulty, Second).run(Kind::Packets, SEED, 0..CASES, |_, _| ());
+    assert_eq!(compared.expect_err("a difference").difference.part, Part::Answer);
+}
+
+/// The scaffold itself has no fault.
+#[test]
+fn no_fault() {
+    assert_eq!(reported(|_| ()), None);
+    let faulty = Faulty { check: |answer| answer, draw: |_: &mut Made<'_>| () };
+    let compared = Comparison::new(faulty, Second).run(Kind::Packets, SEED, 0..CASES, |_, _| ());
+    assert_eq!(compared, Ok(()));
+}
+
+#[test]
+fn checks() {
+    assert_check_found(|_| Ok(()));
+    assert_check_found(|_| Err(Refusal::new(6)));
+    for number in [6, 10, 12, 13, 14, 15] {
+        // This refusal alone is passed over, has another number, or names another block.
+        let if_met = |other: fn(Refusal) -> Checked| {
+            move |answer: Checked| match answer {
+                Err(refusal) if refusal.number == number => other(refusal),
+                _ => answer,
+            }
+        };
+        assert_check_found(if_met(|_| Ok(())));
+        assert_check_found(if_met(|met| Err(Refusal { number: met.number + 1, ..met })));
+        assert_check_found(if_met(|met| Err(Refusal { block: met.block + 1, ..met })));
+    }
+}
+
+#[test]
+fn answers() {
+    let changed = |change: fn(Answer) -> Answer| {
+        assert_eq!(part(|made| made.answer = change(made.answer)), Part::Answer);
+    };
+    changed(|_| Err(Refusal::new(6)));
+    changed(|answer| answer.map(|drawn| Drawn { stores: drawn.stores + 1, ..drawn }));
+    changed(|answer| answer.map(|drawn| Drawn { whole: true, ..drawn }));
+    changed(|answer| answer.map(|drawn| Drawn { whole: false, ..drawn }));
+    changed(|answer| answer.map_err(|met| Refusal { block: met.block + 1, ..met }));
+    for number in [6, 8, 10, 11, 12, 13, 14, 15] {
+        let fault = |made: &mut Made<'_>| match &mut made.answer {
+            Err(refusal) if refusal.number == number => refusal.number += 1,
+            _ => (),
+        };
+        assert_eq!(part(fault), Part::Answer, "{number}");
+    }
+}
+
+#[test]
+fn places() {
+    // Kept, although blocks were finished.
+    assert_eq!(part(|made| *made.place = made.found.1), Part::Place);
+    // Set back to 0 when the frame is whole.
+    let set_back = |made: &mut Made<'_>| {
+        if made.answer.is_ok_and(|drawn| drawn.whole) {
+            *made.place = 0;
+        }
+    };
+    assert_eq!(part(set_back), Part::Place);
+    // Stored a row of blocks at a time.
+    let by_rows = |made: &mut Made<'_>| {
+        if made.answer.is_ok() {
+            *made.place -= *made.place % (made.packet.width / 8);
+        }
+    };
+    assert_eq!(part(by_rows), Part::Place);
+}
+
+#[test]
+fn pictures() {
+    // Nothing is stored, although the answer says so.
+    assert!(matches!(part(|made| made.back.copy_from_slice(&made.found.0)), Part::Back(_)));
+    // All is drawn in the first call, and later ones only move the place.
+    let all_at_once = |made: &mut Made<'_>| {
+        if made.answer.is_ok() {
+            let mut place = made.found.1;
+            let drawn = Second.draw(made.packet, made.front, made.back, &mut place, usize::MAX);
+            assert_eq!(drawn.map(|drawn| drawn.whole), Ok(true));
+        }
+    };
+    assert!(matches!(part(all_at_once), Part::Back(_)));
+    assert_eq!(part(|made| made.front[0] ^= 1), Part::Front(0));
+    // A refused call changes a byte.
+    let refused_stores = |made: &mut Made<'_>| {
+        if let (Err(_), Some(last)) = (made.answer, made.back.last_mut()) {
+            *last ^= 1;
+        }
+    };
+    assert!(matches!(part(refused_stores), Part::Kept(_)));
+    // The first byte beyond the frame.
+    let beyond = |made: &mut Made<'_>| {
+        let pixels = made.packet.width * made.packet.height;
+        if let (Ok(_), Some(byte)) = (made.answer, made.back.get_mut(pixels)) {
+            *byte ^= 1;
+        }
+    };
+    assert!(matches!(part(beyond), Part::Kept(_)));
+    // The last pixel of the largest frame.
+    let last_pixel = |made: &mut Made<'_>| {
+        let largest = (made.packet.width, made.packet.height) == (640, 480);
+        if largest && made.answer.is_ok_and(|drawn| drawn.whole) {
+            made.back[640 * 480 - 1] ^= 1;
+        }
+    };
+    assert_eq!(part(last_pixel), Part::Back(640 * 480 - 1));
+}
+
+/// A wrong last pixel in the blocks of one form alone.
+#[test]
+fn forms() {
+    for form in Form::ALL {
+        let fault = |made: &mut Made<'_>| {
+            let Packet { width, height, map, data } = made.packet;
+            if made.answer.is_err() {
+                return;
+            }
+            let blocks = reference::packet::blocks(*width, *height, map, data).expect("accepted");
+            for block in &blocks[made.found.1..*made.place] {
+                if Form::of(block.code, block.data) == Some(form) {
+                    made.back[(block.y + 7) * width + block.x + 7] ^= 1;
+                }
+            }
+        };
+        assert!(matches!(part(fault), Part::Back(_)), "{form:?}");
+    }
+}
+
+/// A fault that both decoders share is found by the book.
+#[test]
+fn shared_faults() {
+    let faulty = || Faulty {
+        check: |answer| answer,
+        draw: |made: &mut Made<'_>| {
+            if made.answer.is_ok_and(|drawn| drawn.stores > 0) {
+                made.back[0] ^= 1;
+            }
+        },
+    };
+    let compared = Comparison::new(faulty(), faulty()).run(Kind::Lists, SEED, 0..CASES, |_, _| ());
+    let difference = compared.expect_err("a difference").difference;
+    assert_eq!(difference.part, Part::Back(0));
+    assert_eq!(difference.accounts.map(|(by, _)| by), ["faulty decoder", "book"]);
+}
+
+/// A report names the seed and the case, and that case alone shows the difference again.
+#[test]
+fn reports() {
+    let fault = |made: &mut Made<'_>| {
+        if made.answer.is_ok_and(|drawn| drawn.whole && drawn.stores > 1000) {
+            *made.place += 1;
+        }
+    };
+    let found = reported(fault).expect("a difference");
+    let Found { seed, number, difference, .. } = &found;
+    assert!(*number > 0 && *seed == SEED);
+    let text = found.to_string();
+    let [(_, wrong), (_, right)] = &difference.accounts;
+    let expected = format!(
+        "difference in lists, seed {SEED}, case {number}, call {}: place: \
+         faulty decoder {wrong}, second decoder {right}",
+        difference.call,
+    );
+    assert_eq!(text, expected);
+
+    let faulty = Faulty { check: |answer| answer, draw: fault };
+    let again = Comparison::new(faulty, Second).draw(&cases::list(*seed, *number));
+    assert_eq!(again.as_ref(), Err(&**difference));
+}

@@ -1,0 +1,30 @@
+//! Drawing: after every call of a list the proved library has answered and stored what the second
+//! decoder has, and what the book of demand 3 says.
+
+mod common;
+
+use compare::{Comparison, Event, Kind, Proved, Second};
+
+const SEED: u64 = 2;
+const LISTS: u64 = 6000;
+
+#[test]
+fn lists() {
+    let mut comparison = Comparison::new(Proved, Second);
+    let compared = comparison.run(Kind::Lists, SEED, 0..LISTS, |_, _| ());
+    compared.unwrap_or_else(|found| panic!("{found}"));
+    let answers = [
+        Event::Whole,
+        Event::WholeBefore,
+        Event::Unfinished,
+        Event::NothingAllowed,
+        Event::Cut,
+        Event::RefusedBetween,
+        Event::LaterBlock,
+        Event::Longer,
+        Event::Smallest,
+        Event::Largest,
+    ];
+    let numbers = [6, 8, 10, 11, 12, 13, 14, 15].map(Event::Refused);
+    common::assert_reached(comparison.tally(), &[&answers[..], &numbers].concat());
+}

@@ -1,0 +1,39 @@
+//! The program for long runs.
+
+use std::process::{Command, Output};
+
+fn run(arguments: &[&str]) -> Output {
+    let program = env!("CARGO_BIN_EXE_compare");
+    Command::new(program).args(arguments).output().expect("the program runs")
+}
+
+#[test]
+fn ends_with_the_counts() {
+    let output = run(&["7", "60"]);
+    let text = String::from_utf8(output.stdout).expect("text");
+    let last = text.lines().last().expect("a line");
+    assert!(output.status.success(), "{text}");
+    assert!(last.starts_with("seed 7: 120 packets, "), "{text}");
+    assert!(last.ends_with(" stores: no difference"), "{text}");
+}
+
+#[test]
+fn runs_one_kind() {
+    let output = run(&["7", "60", "packets"]);
+    let text = String::from_utf8(output.stdout).expect("text");
+    assert_eq!(text, "seed 7: 60 packets, 0 calls, 0 stores: no difference\n");
+    let output = run(&["7", "60", "lists"]);
+    let text = String::from_utf8(output.stdout).expect("text");
+    assert!(text.starts_with("seed 7: 60 packets, ") && !text.contains(" 0 calls"), "{text}");
+}
+
+#[test]
+fn tells_its_usage() {
+    for arguments in
+        [&[][..], &["7"], &["7", "many"], &["7", "60", "films"], &["7", "60", "lists", "1"]]
+    {
+        let output = run(arguments);
+        assert_eq!(output.status.code(), Some(2), "{arguments:?}");
+        assert!(output.stderr.starts_with(b"usage: compare SEED COUNT"), "{arguments:?}");
+    }
+}

@@ -1,0 +1,32 @@
+//! The proved player core for Interplay MVE films with 8-bit pictures, for Rust programs.
+//!
+//! The core is a static library whose contracts are proved. This crate hands each call on to it and
+//! gives its answers names; it decides nothing and allocates nothing. Every function takes any
+//! input and answers it; a refused call leaves everything lent to it as it was.
+//!
+//! A frame comes as a packet: a map with a code for each 8x8 block, and the blocks' data. [`check`]
+//! tells whether a packet is valid, [`draw`] draws it, at once or in pieces.
+//!
+//! ```
+//! // One block of code 7: two colours, a bit for each 2x2 pixels.
+//! let (map, data) = ([0x07], [0x22, 0x11, 0xff, 0x81]);
+//! let front = [0; 64];
+//! let (mut back, mut place) = ([0; 64], 0);
+//! let drawn = mve::draw(8, 8, &map, &data, &front, &mut back, &mut place, 312_000)?;
+//! assert_eq!(drawn, mve::Drawn::Whole { stores: 65 });
+//! assert_eq!(back[..32], [0x11; 32]);
+//! for row in back[32..48].chunks(8) {
+//!     assert_eq!(row, [0x11, 0x11, 0x22, 0x22, 0x22, 0x22, 0x22, 0x22]);
+//! }
+//! for row in back[48..].chunks(8) {
+//!     assert_eq!(row, [0x22, 0x22, 0x22, 0x22, 0x22, 0x22, 0x11, 0x11]);
+//! }
+//! # Ok::<(), mve::Refusal>(())
+//! ```
+
+mod ffi;
+mod packet;
+mod refusal;
+
+pub use packet::{check, draw, Drawn};
+pub use refusal::Refusal;

@@ -1,0 +1,147 @@
+//! A packet, the map and the data of one frame: checking and drawing it.
+
+use crate::ffi::{self, kind};
+use crate::Refusal;
+
+/// Checks a packet for a frame of `width` by `height` pixels.
+///
+/// The map has one nibble for each 8x8 block, low nibble first; the data has the blocks' bytes in
+/// the same order.
+///
+/// # Errors
+///
+/// In this order: 6 for the size, 10 for the length of the map, then block by block 12, 13 and 14,
+/// then 15. The first block with a fault speaks.
+///
+/// # Examples
+///
+/// A width is a multiple of 8 from 8 to 640.
+///
+/// ```
+/// use mve::{check, Refusal};
+///
+/// assert_eq!(check(640, 8, &[0x11; 40], &[]), Ok(()));
+/// for width in [0, 648, 12] {
+///     assert_eq!(check(width, 8, &[0x11; 40], &[]), Err(Refusal { number: 6, block: 0 }));
+/// }
+/// ```
+///
+/// A copied block must lie inside the picture. In a frame of one block, code 5 can copy only the
+/// block itself.
+///
+/// ```
+/// # use mve::{check, Refusal};
+/// assert_eq!(check(8, 8, &[0x05], &[0x00, 0x00]), Ok(()));
+/// assert_eq!(check(8, 8, &[0x05], &[0x01, 0x00]), Err(Refusal { number: 14, block: 0 }));
+/// ```
+pub fn check(width: usize, height: usize, map: &[u8], data: &[u8]) -> Result<(), Refusal> {
+    let answer = ffi::check(width, height, map, data).taken()?;
+    match answer.kind {
+        kind::ACCEPTED => Ok(()),
+        _ => answer.unknown(),
+    }
+}
+
+/// How far a drawing call came.
+#[derive(Clone, Copy, Debug, PartialEq, Eq, Hash)]
+pub enum Drawn {
+    /// The frame is drawn: the place is the block count.
+    Whole {
+        /// Stores that the call made.
+        stores: usize,
+    },
+    /// The stores allowed were used up before.
+    Unfinished {
+        /// Stores that the call made.
+        stores: usize,
+    },
+}
+
+impl Drawn {
+    /// Stores that the call made: 64 for each block drawn, and one for each place stored.
+    ///
+    /// ```
+    /// // Code 1, which stores no pixel, then code E.
+    /// let mut back = [5; 128];
+    /// let drawn = mve::draw(16, 8, &[0xE1], &[7], &[0; 128], &mut back, &mut 0, 1000)?;
+    /// assert_eq!(drawn.stores(), 1 + 65);
+    /// # Ok::<(), mve::Refusal>(())
+    /// ```
+    pub const fn stores(self) -> usize {
+        match self {
+            Drawn::Whole { stores } | Drawn::Unfinished { stores } => stores,
+        }
+    }
+}
+
+/// Draws a packet on `back`, going on from `place`, with at most `allowed` stores.
+///
+/// `front` is the shown picture and `back` the one two frames old; both have a byte a pixel, row by
+/// row. They may be longer than the frame: what lies beyond it is never touched.
+///
+/// The place is the number of the block to draw next. Start a frame with 0 and leave it alone: it
+/// is stored once behind each block, after the block's 64 pixels. A call that ends inside a block
+/// leaves that block's first pixels drawn, and the next call draws the block again from its first
+/// pixel. So a drawing can be stopped after any store and taken up again, and comes out the same;
+/// it goes on only by calls that are allowed at least 65 stores. No frame has more than 312,000.
+///
+/// # Errors
+///
+/// In this order: 6 for the size, 8 for a picture shorter than the frame, 10 for the length of the
+/// map, 11 for a place above the block count, then 12 to 15 as in [`check`]. The whole packet is
+/// checked at each call, wherever the place is.
+///
+/// # Examples
+///
+/// Two blocks: the left one is copied from 8 pixels to its right, the right one is solid. After 75
+/// stores the left block is finished and the right one has its first 10 pixels.
+///
+/// ```
+/// use mve::{draw, Drawn};
+///
+/// let (map, data, front) = ([0xE2], [0x00, 0x07], [0; 128]);
+/// let (mut back, mut place) = ([5; 128], 0);
+/// let drawn = draw(16, 8, &map, &data, &front, &mut back, &mut place, 75)?;
+/// assert_eq!(drawn, Drawn::Unfinished { stores: 75 });
+/// assert_eq!(place, 1);
+/// assert_eq!(back[..16], [5, 5, 5, 5, 5, 5, 5, 5, 7, 7, 7, 7, 7, 7, 7, 7]);
+/// assert_eq!(back[16..32], [5, 5, 5, 5, 5, 5, 5, 5, 7, 7, 5, 5, 5, 5, 5, 5]);
+/// assert_eq!(back[32..], [5; 96]);
+///
+/// // The left block is not drawn again: it would now be 7.
+/// let drawn = draw(16, 8, &map, &data, &front, &mut back, &mut place, 75)?;
+/// assert_eq!(drawn, Drawn::Whole { stores: 65 });
+/// assert_eq!(place, 2);
+/// for row in back.chunks(16) {
+///     assert_eq!(row, [[5; 8], [7; 8]].concat());
+/// }
+/// # Ok::<(), mve::Refusal>(())
+/// ```
+///
+/// The same in one call.
+///
+/// ```
+/// # use mve::{draw, Drawn};
+/// let (mut back, mut place) = ([5; 128], 0);
+/// let drawn = draw(16, 8, &[0xE2], &[0, 7], &[0; 128], &mut back, &mut place, 312_000)?;
+/// assert_eq!(drawn, Drawn::Whole { stores: 130 });
+/// # Ok::<(), mve::Refusal>(())
+/// ```
+#[allow(clippy::too_many_arguments)] // a packet, what is lent, and how far to go
+pub fn draw(
+    width: usize,
+    height: usize,
+    map: &[u8],
+    data: &[u8],
+    front: &[u8],
+    back: &mut [u8],
+    place: &mut usize,
+    allowed: usize,
+) -> Result<Drawn, Refusal> {
+    let answer = ffi::draw(width, height, map, data, front, back, place, allowed).taken()?;
+    match answer.kind {
+        kind::WHOLE => Ok(Drawn::Whole { stores: answer.stores }),
+        kind::UNFINISHED => Ok(Drawn::Unfinished { stores: answer.stores }),
+        _ => answer.unknown(),
+    }
+}

@@ -1,0 +1,128 @@
+//! The cases of document 01's "Checked by hand" that concern a packet, in its order. The expected
+//! values are the document's. (Those that stand as examples in the documentation are run there.)
+
+use mve::{check, draw, Drawn, Refusal};
+
+/// The picture that a single block of this code and data gives.
+fn block(code: u8, data: &[u8]) -> [u8; 64] {
+    let (mut back, mut place) = ([0; 64], 0);
+    let drawn = draw(8, 8, &[code], data, &[0; 64], &mut back, &mut place, 65);
+    assert_eq!(drawn, Ok(Drawn::Whole { stores: 65 }));
+    assert_eq!(place, 1);
+    back
+}
+
+/// ★ 7, a bit a pixel.
+#[test]
+fn two_colours_fine() {
+    let picture = block(0x7, &[0x11, 0x22, 0xff, 0x81, 0x81, 0x81, 0x81, 0x81, 0x81, 0xff]);
+    assert_eq!(picture[..8], [0x22; 8]);
+    assert_eq!(picture[8..16], [0x22, 0x11, 0x11, 0x11, 0x11, 0x11, 0x11, 0x22]);
+}
+
+/// ★ 8, left and right halves.
+#[test]
+fn two_colours_left_and_right() {
+    let data = [0x22, 0x00, 0x01, 0x37, 0xf7, 0x31, 0x11, 0x66, 0x8c, 0xe6, 0x73, 0x31];
+    assert_eq!(block(0x8, &data)[..8], [0x22, 0x22, 0x22, 0x22, 0x66, 0x11, 0x11, 0x11]);
+}
+
+/// ★ 8, top and bottom halves.
+#[test]
+fn two_colours_top_and_bottom() {
+    let data = [0x22, 0x00, 0xcc, 0x66, 0x33, 0x19, 0x66, 0x11, 0x18, 0x24, 0x42, 0x81];
+    assert_eq!(block(0x8, &data)[56..], [0x11, 0x66, 0x66, 0x66, 0x66, 0x66, 0x66, 0x11]);
+}
+
+/// ★ 8, quarters.
+#[test]
+fn two_colours_quarters() {
+    let data = [
+        0x00, 0x22, 0xf9, 0x9f, 0x11, 0x33, 0xcc, 0x33, 0x44, 0x55, 0xaa, 0x55, 0x66, 0x77, 0x01,
+        0xef,
+    ];
+    let row = &block(0x8, &data)[32..40];
+    assert_eq!(row, [0x33, 0x33, 0x11, 0x11, 0x66, 0x66, 0x66, 0x66]);
+}
+
+/// ★ The vectors of codes 2 and 4, seen by where the block's first pixel comes from. The block at
+/// (16, 8) of a frame of 40x40 has room for each of them.
+#[test]
+fn motion_vectors() {
+    // Five blocks a row: block 7 is at (16, 8). Two nibbles a byte: block 7 is the high one of
+    // byte 3. Every other block is untouched.
+    let source = |code: u8, byte: u8, from_front: bool| {
+        let mut map = [0x11; 13];
+        map[3] = code << 4 | 0x1;
+        // Each pixel is told apart by its row in one picture and by its column in another.
+        let columns: Vec<u8> = (0..1600).map(|index| (index % 40) as u8).collect();
+        let rows: Vec<u8> = (0..1600).map(|index| (index / 40) as u8).collect();
+        let first_pixel = |picture: &[u8]| {
+            let other = vec![0xff; 1600];
+            let (front, back) =
+                if from_front { (picture, &other[..]) } else { (&other[..], picture) };
+            let (mut back, mut place) = (back.to_vec(), 0);
+            draw(40, 40, &map, &[byte], front, &mut back, &mut place, 1000).expect("inside");
+            i32::from(back[8 * 40 + 16])
+        };
+        (first_pixel(&columns) - 16, first_pixel(&rows) - 8)
+    };
+    assert_eq!(source(0x2, 0, false), (8, 0));
+    assert_eq!(source(0x2, 55, false), (14, 7));
+    assert_eq!(source(0x2, 56, false), (-14, 8));
+    assert_eq!(source(0x2, 255, false), (11, 14));
+    assert_eq!(source(0x4, 0x00, true), (-8, -8));
+    assert_eq!(source(0x4, 0x88, true), (0, 0));
+    assert_eq!(source(0x4, 0xff, true), (7, 7));
+}
+
+/// ★ Map byte E1: code 1, then E.
+#[test]
+fn map_low_nibble_first() {
+    let (mut back, mut place) = ([5; 128], 0);
+    let drawn = draw(16, 8, &[0xE1], &[7], &[0; 128], &mut back, &mut place, 312_000);
+    assert_eq!(drawn, Ok(Drawn::Whole { stores: 66 }));
+    for row in back.chunks(16) {
+        assert_eq!(row, [[5; 8], [7; 8]].concat());
+    }
+}
+
+/// Each number that checking and drawing meet, in the table's order, on the 16x8 case. A refused
+/// call changes neither picture nor place.
+#[test]
+fn refusals() {
+    let meets = |width, map: &[u8], data: &[u8], front: usize, found: usize| {
+        let (mut back, mut place) = ([5; 128], found);
+        let drawn = draw(width, 8, map, data, &[0; 128][..front], &mut back, &mut place, 312_000);
+        assert_eq!(back, [5; 128]);
+        assert_eq!(place, found);
+        let refusal = drawn.expect_err("refused");
+        (refusal.number, refusal.block)
+    };
+    assert_eq!(meets(12, &[], &[], 0, 3), (6, 0));
+    assert_eq!(meets(16, &[], &[], 127, 3), (8, 0));
+    assert_eq!(meets(24, &[], &[], 128, 3), (8, 0));
+    assert_eq!(meets(16, &[], &[], 128, 3), (10, 0));
+    assert_eq!(meets(16, &[0x66], &[], 128, 3), (11, 0));
+    assert_eq!(meets(16, &[0x66], &[], 128, usize::MAX), (11, 0));
+    assert_eq!(meets(16, &[0x6E], &[0], 128, 2), (12, 1));
+    assert_eq!(meets(16, &[0xEE], &[0], 128, 2), (13, 1));
+    assert_eq!(meets(16, &[0x2E], &[0, 0], 128, 2), (14, 1));
+    assert_eq!(meets(16, &[0xEE], &[0, 0, 0], 128, 2), (15, 0));
+}
+
+/// Slices without a byte are lent like others.
+#[test]
+fn empty_slices() {
+    let refused = |number| Err(Refusal { number, block: 0 });
+    assert_eq!(check(0, 0, &[], &[]), refused(6));
+    assert_eq!(check(8, 8, &[], &[]), refused(10));
+    assert_eq!(check(8, 8, &[0x01], &[]), Ok(()));
+    assert_eq!(check(8, 8, &[0x0E], &[]), refused(13));
+    let mut place = 0;
+    assert_eq!(
+        draw(8, 8, &[], &[], &[], &mut [], &mut place, 65),
+        Err(Refusal { number: 8, block: 0 })
+    );
+    assert_eq!(place, 0);
+}
