@@ -205,11 +205,6 @@ cell-of eight i h = omega arith
 pub cell : (n i : ℕ) → Sided n → i < 64 → Cell n i
 cell n i (c, e) h = subst (λ (x : ℕ). Cell x i) e (cell-of c i h)
 
--- ---- the last arm of a choice by code
-
-pub beyond : (a c : ℕ) → a ≤ c → (c ≡ a → ⊥) → a + 1 ≤ c
-beyond a c h n = omega arith
-
 -- ---- no block has more than 64 data bytes
 
 pub length-few : (κ : Kind) → dataLength κ ≤ 64

@@ -2,6 +2,8 @@
 -- Assumes nothing.
 use mathlib.Core.Path.{_≡_, refl}
 use mathlib.Core.Bool.{Bool, true, false, cond}
+use Prim.Native.Nat.{ℕ, _+_, _≤_}
+use native.Mathlib.Omega.{arith}
 use borrow.Author.Tests.{lt-ltb, le-ltb, le-leb, lt-leb, eq-eqb, ne-eqb}
 
 -- closes each return of a ladder of tests on numbers
@@ -15,3 +17,7 @@ not-first false k x y h e = (refl, e)
 pub first : {A : Type 0} (b : Bool) (k x y : A) → (k ≡ y → ⊥) → cond b x k ≡ y → (b ≡ true) × (x ≡ y)
 first true k x y h e = (refl, e)
 first false k x y h e = absurd (h e)
+
+-- one step towards the last arm of a choice by number: it is none of the numbers so far
+pub beyond : (a c : ℕ) → a ≤ c → (c ≡ a → ⊥) → a + 1 ≤ c
+beyond a c h n = omega arith

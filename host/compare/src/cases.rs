@@ -79,6 +79,7 @@ fn list_of_packet(rng: &mut Seeded, packet: Packet, pixels: usize) -> CallList {
     let calls = (0..rng.between(1, 8)).map(|_| {
         let allowed = calls::allowance(rng, pixels.div_ceil(64));
         let cut = rng.one_in(5).then(|| rng.below(allowed.min(pixels) + 1));
+        // Not made to be refused, though it may be.
         Call { packet: packet.clone(), front: front.clone(), allowed, cut, refused: false }
     });
     CallList { calls: calls.collect(), back }

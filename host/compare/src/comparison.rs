@@ -62,16 +62,9 @@ impl<A: Decoder, B: Decoder> Comparison<A, B> {
         Ok(())
     }
 
-    /// Compares cases of a seed, in order; `progress` is told of each one before it is compared.
-    pub fn run(
-        &mut self,
-        kind: Kind,
-        seed: u64,
-        numbers: Range<u64>,
-        mut progress: impl FnMut(u64, &Tally),
-    ) -> Result<(), Found> {
+    /// Compares the cases of these numbers, in order.
+    pub fn run(&mut self, kind: Kind, seed: u64, numbers: Range<u64>) -> Result<(), Found> {
         for number in numbers {
-            progress(number, &self.tally);
             let compared = match kind {
                 Kind::Packets => self.check(&cases::packet(seed, number)),
                 Kind::Lists => self.draw(&cases::list(seed, number)),

@@ -45,12 +45,13 @@ fn compare(seed: u64, count: u64, kinds: &[Kind]) -> Result<String, Found> {
     let mut comparison = Comparison::new(Proved, Second);
     let mut told = Instant::now();
     for &kind in kinds {
-        comparison.run(kind, seed, 0..count, |number, tally| {
+        for number in 0..count {
+            comparison.run(kind, seed, number..number + 1)?;
             if told.elapsed() >= PROGRESS {
                 told = Instant::now();
-                println!("seed {seed}: {number} of {count} {kind}; {tally}");
+                println!("seed {seed}: case {number} of {count} {kind}; {}", comparison.tally());
             }
-        })?;
+        }
     }
     Ok(comparison.tally().to_string())
 }

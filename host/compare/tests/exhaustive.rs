@@ -1,6 +1,6 @@
 //! What there are few enough of to try all: sizes, motion vectors, places.
 
-use compare::{Decoder, Proved, Second};
+use compare::{Answer, Decoder, Proved, Second};
 use maker::packet::Draft;
 use maker::{Packet, Profile, Seeded, Size};
 
@@ -16,9 +16,9 @@ fn check(packet: &Packet) -> bool {
     answer.is_ok()
 }
 
-/// Asserts that a call comes to the same, from this place on pictures of any bytes.
+/// Asserts that a call from this place, on pictures of any bytes, comes to the same.
 #[track_caller]
-fn draw(rng: &mut Seeded, packet: &Packet, found: usize, allowed: usize) {
+fn draw(rng: &mut Seeded, packet: &Packet, found: usize, allowed: usize) -> Answer {
     let pixels = packet.width * packet.height;
     let (front, back) = (rng.bytes(pixels), rng.bytes(pixels));
     let call = |decoder: &dyn Decoder| {
@@ -26,7 +26,9 @@ fn draw(rng: &mut Seeded, packet: &Packet, found: usize, allowed: usize) {
         let answer = decoder.draw(packet, &mut front, &mut back, &mut place, allowed);
         (answer, place, front, back)
     };
-    assert!(call(&Proved) == call(&Second), "place {found}, allowed {allowed}: {packet:?}");
+    let seen = call(&Proved);
+    assert!(seen == call(&Second), "place {found}, allowed {allowed}: {packet:?}");
+    seen.0
 }
 
 /// Widths and heights past the limits, each with the map length that a legal size would have.
@@ -63,7 +65,7 @@ fn every_vector() {
             };
             if check(&packet) {
                 inside[usize::from(code)] += 1;
-                draw(rng, &packet, block, 65);
+                assert!(draw(rng, &packet, block, 65).is_ok());
             }
         }
     }
@@ -88,7 +90,8 @@ fn every_place() {
         let packet = Draft::make(rng, size, profile).packet();
         for place in (0..=size.blocks() + 2).chain(EXTREMES) {
             for allowed in [0, 1, 64, 65, 100, usize::MAX] {
-                draw(rng, &packet, place, allowed);
+                let answer = draw(rng, &packet, place, allowed);
+                assert_eq!(answer.is_err(), place > size.blocks(), "{answer:?}");
             }
         }
     }

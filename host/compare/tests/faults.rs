@@ -54,7 +54,7 @@ impl<C: Fn(Checked) -> Checked, D: Fn(&mut Made<'_>)> Decoder for Faulty<C, D> {
 /// The report on a fault in drawing.
 fn reported(fault: impl Fn(&mut Made<'_>)) -> Option<Found> {
     let faulty = Faulty { check: |answer| answer, draw: fault };
-    Comparison::new(faulty, Second).run(Kind::Lists, SEED, 0..CASES, |_, _| ()).err()
+    Comparison::new(faulty, Second).run(Kind::Lists, SEED, 0..CASES).err()
 }
 
 /// What a fault in drawing is reported as.
@@ -66,7 +66,7 @@ fn part(fault: impl Fn(&mut Made<'_>)) -> Part {
 #[track_caller]
 fn assert_check_found(fault: impl Fn(Checked) -> Checked) {
     let faulty = Faulty { check: fault, draw: |_: &mut Made<'_>| () };
-    let compared = Comparison::new(faulty, Second).run(Kind::Packets, SEED, 0..CASES, |_, _| ());
+    let compared = Comparison::new(faulty, Second).run(Kind::Packets, SEED, 0..CASES);
     assert_eq!(compared.expect_err("a difference").difference.part, Part::Answer);
 }
 
@@ -75,7 +75,7 @@ fn assert_check_found(fault: impl Fn(Checked) -> Checked) {
 fn no_fault() {
     assert_eq!(reported(|_| ()), None);
     let faulty = Faulty { check: |answer| answer, draw: |_: &mut Made<'_>| () };
-    let compared = Comparison::new(faulty, Second).run(Kind::Packets, SEED, 0..CASES, |_, _| ());
+    let compared = Comparison::new(faulty, Second).run(Kind::Packets, SEED, 0..CASES);
     assert_eq!(compared, Ok(()));
 }
 
@@ -99,10 +99,15 @@ fn checks() {
 
 #[test]
 fn answers() {
+    let refuses_everything = |made: &mut Made<'_>| {
+        made.back.copy_from_slice(&made.found.0);
+        *made.place = made.found.1;
+        made.answer = Err(Refusal::new(6));
+    };
+    assert_eq!(part(refuses_everything), Part::Answer);
     let changed = |change: fn(Answer) -> Answer| {
         assert_eq!(part(|made| made.answer = change(made.answer)), Part::Answer);
     };
-    changed(|_| Err(Refusal::new(6)));
     changed(|answer| answer.map(|drawn| Drawn { stores: drawn.stores + 1, ..drawn }));
     changed(|answer| answer.map(|drawn| Drawn { whole: true, ..drawn }));
     changed(|answer| answer.map(|drawn| Drawn { whole: false, ..drawn }));
@@ -206,7 +211,7 @@ fn shared_faults() {
             }
         },
     };
-    let compared = Comparison::new(faulty(), faulty()).run(Kind::Lists, SEED, 0..CASES, |_, _| ());
+    let compared = Comparison::new(faulty(), faulty()).run(Kind::Lists, SEED, 0..CASES);
     let difference = compared.expect_err("a difference").difference;
     assert_eq!(difference.part, Part::Back(0));
     assert_eq!(difference.accounts.map(|(by, _)| by), ["faulty decoder", "book"]);

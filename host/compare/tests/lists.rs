@@ -11,7 +11,7 @@ const LISTS: u64 = 6000;
 #[test]
 fn lists() {
     let mut comparison = Comparison::new(Proved, Second);
-    let compared = comparison.run(Kind::Lists, SEED, 0..LISTS, |_, _| ());
+    let compared = comparison.run(Kind::Lists, SEED, 0..LISTS);
     compared.unwrap_or_else(|found| panic!("{found}"));
     let answers = [
         Event::Whole,

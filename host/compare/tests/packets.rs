@@ -10,7 +10,7 @@ const PACKETS: u64 = 10_000;
 #[test]
 fn packets() {
     let mut comparison = Comparison::new(Proved, Second);
-    let compared = comparison.run(Kind::Packets, SEED, 0..PACKETS, |_, _| ());
+    let compared = comparison.run(Kind::Packets, SEED, 0..PACKETS);
     compared.unwrap_or_else(|found| panic!("{found}"));
     let answers = [Event::Accepted, Event::LaterBlock, Event::Smallest, Event::Largest];
     let numbers = [6, 10, 12, 13, 14, 15].map(Event::Refused);

@@ -7,27 +7,7 @@
 
 #![allow(unsafe_code)]
 
-/// What a call answers, in numbers. The order of the fields is the library's.
-#[repr(C)]
-#[derive(Clone, Copy, Debug)]
-pub(crate) struct Answer {
-    /// One of [`kind`].
-    pub kind: usize,
-    /// The number of a refusal, else 0.
-    pub number: usize,
-    /// The block that met a refusal, else 0.
-    pub block: usize,
-    /// Stores made.
-    pub stores: usize,
-}
-
-/// The kinds of answer.
-pub(crate) mod kind {
-    pub const ACCEPTED: usize = 0;
-    pub const WHOLE: usize = 1;
-    pub const UNFINISHED: usize = 2;
-    pub const REFUSED: usize = 4;
-}
+use crate::answer::Answer;
 
 unsafe extern "C" {
     fn mve_check(

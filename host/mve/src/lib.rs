@@ -24,6 +24,7 @@
 //! # Ok::<(), mve::Refusal>(())
 //! ```
 
+mod answer;
 mod ffi;
 mod packet;
 mod refusal;

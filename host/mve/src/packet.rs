@@ -1,7 +1,7 @@
 //! A packet, the map and the data of one frame: checking and drawing it.
 
-use crate::ffi::{self, kind};
-use crate::Refusal;
+use crate::answer::kind;
+use crate::{ffi, Refusal};
 
 /// Checks a packet for a frame of `width` by `height` pixels.
 ///
@@ -80,10 +80,11 @@ impl Drawn {
 /// row. They may be longer than the frame: what lies beyond it is never touched.
 ///
 /// The place is the number of the block to draw next. Start a frame with 0 and leave it alone: it
-/// is stored once behind each block, after the block's 64 pixels. A call that ends inside a block
+/// is stored once behind each block, after the block's pixels. A call that ends inside a block
 /// leaves that block's first pixels drawn, and the next call draws the block again from its first
-/// pixel. So a drawing can be stopped after any store and taken up again, and comes out the same;
-/// it goes on only by calls that are allowed at least 65 stores. No frame has more than 312,000.
+/// pixel. So a drawing can be stopped after any store and taken up again, and comes out the same.
+/// A call that is allowed 65 stores or more finishes at least one block of those left; no frame has
+/// more than 312,000 stores.
 ///
 /// # Errors
 ///

@@ -1,6 +1,5 @@
 //! Refusals.
 
-use crate::ffi::{kind, Answer};
 use std::fmt;
 
 /// Why a call was refused. Nothing lent to the call was changed.
@@ -66,24 +65,6 @@ impl fmt::Display for Refusal {
 
 impl std::error::Error for Refusal {}
 
-impl Answer {
-    /// The answer, or the refusal that it carries.
-    pub(crate) fn taken(self) -> Result<Answer, Refusal> {
-        if self.kind != kind::REFUSED {
-            return Ok(self);
-        }
-        match u8::try_from(self.number) {
-            Ok(number @ 1..=16) => Err(Refusal { number, block: self.block }),
-            _ => self.unknown(),
-        }
-    }
-
-    /// The library is proved not to give such an answer: another version of it is linked.
-    pub(crate) fn unknown(self) -> ! {
-        panic!("libmve.a is not of the version that this crate is written for: {self:?}")
-    }
-}
-
 #[cfg(test)]
 mod tests {
     use super::*;
@@ -109,16 +90,6 @@ mod tests {
             let named = message.starts_with(&format!("refused {number} in block 3: "));
             assert_eq!(named, (12..=14).contains(&number), "{message}");
             assert!(named || message.starts_with(&format!("refused {number}: ")), "{message}");
-        }
-    }
-
-    #[test]
-    fn numbers_not_in_the_table_are_not_passed_on() {
-        let refused = |number| Answer { kind: kind::REFUSED, number, block: 2, stores: 0 };
-        assert_eq!(refused(13).taken().unwrap_err(), Refusal { number: 13, block: 2 });
-        for number in [0, 17, 256 + 13] {
-            let answer = std::panic::catch_unwind(|| refused(number).taken().map(|_| ()));
-            assert!(answer.is_err(), "{number}");
         }
     }
 }

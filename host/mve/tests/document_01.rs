@@ -45,35 +45,36 @@ fn two_colours_quarters() {
     assert_eq!(row, [0x33, 0x33, 0x11, 0x11, 0x66, 0x66, 0x66, 0x66]);
 }
 
-/// ★ The vectors of codes 2 and 4, seen by where the block's first pixel comes from. The block at
-/// (16, 8) of a frame of 40x40 has room for each of them.
+/// The first pixel of the block at (16, 8) of a 40x40 frame. Back tells the number of each pixel,
+/// and so does front, with the high bit set.
+fn first_pixel(code: u8, byte: u8, number: fn(usize) -> usize) -> u8 {
+    let mut back: Vec<u8> = (0..1600).map(|index| number(index) as u8).collect();
+    let front: Vec<u8> = back.iter().map(|pixel| pixel | 0x80).collect();
+    // Five blocks a row: it is block 7, the high nibble of byte 3. The others are untouched.
+    let mut map = [0x11; 13];
+    map[3] = code << 4 | 0x1;
+    draw(40, 40, &map, &[byte], &front, &mut back, &mut 0, 312_000).expect("a copy inside");
+    back[8 * 40 + 16]
+}
+
+/// Which picture that block is copied from, and by which vector.
+fn copied(code: u8, byte: u8) -> (&'static str, i32, i32) {
+    let column = first_pixel(code, byte, |index| index % 40);
+    let row = first_pixel(code, byte, |index| index / 40);
+    let picture = if column & 0x80 == 0 { "back" } else { "front" };
+    (picture, i32::from(column & 0x7f) - 16, i32::from(row & 0x7f) - 8)
+}
+
+/// ★ The vectors of codes 2 and 4.
 #[test]
 fn motion_vectors() {
-    // Five blocks a row: block 7 is at (16, 8). Two nibbles a byte: block 7 is the high one of
-    // byte 3. Every other block is untouched.
-    let source = |code: u8, byte: u8, from_front: bool| {
-        let mut map = [0x11; 13];
-        map[3] = code << 4 | 0x1;
-        // Each pixel is told apart by its row in one picture and by its column in another.
-        let columns: Vec<u8> = (0..1600).map(|index| (index % 40) as u8).collect();
-        let rows: Vec<u8> = (0..1600).map(|index| (index / 40) as u8).collect();
-        let first_pixel = |picture: &[u8]| {
-            let other = vec![0xff; 1600];
-            let (front, back) =
-                if from_front { (picture, &other[..]) } else { (&other[..], picture) };
-            let (mut back, mut place) = (back.to_vec(), 0);
-            draw(40, 40, &map, &[byte], front, &mut back, &mut place, 1000).expect("inside");
-            i32::from(back[8 * 40 + 16])
-        };
-        (first_pixel(&columns) - 16, first_pixel(&rows) - 8)
-    };
-    assert_eq!(source(0x2, 0, false), (8, 0));
-    assert_eq!(source(0x2, 55, false), (14, 7));
-    assert_eq!(source(0x2, 56, false), (-14, 8));
-    assert_eq!(source(0x2, 255, false), (11, 14));
-    assert_eq!(source(0x4, 0x00, true), (-8, -8));
-    assert_eq!(source(0x4, 0x88, true), (0, 0));
-    assert_eq!(source(0x4, 0xff, true), (7, 7));
+    assert_eq!(copied(0x2, 0), ("back", 8, 0));
+    assert_eq!(copied(0x2, 55), ("back", 14, 7));
+    assert_eq!(copied(0x2, 56), ("back", -14, 8));
+    assert_eq!(copied(0x2, 255), ("back", 11, 14));
+    assert_eq!(copied(0x4, 0x00), ("front", -8, -8));
+    assert_eq!(copied(0x4, 0x88), ("front", 0, 0));
+    assert_eq!(copied(0x4, 0xff), ("front", 7, 7));
 }
 
 /// ★ Map byte E1: code 1, then E.

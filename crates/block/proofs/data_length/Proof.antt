@@ -1,4 +1,4 @@
-use Rattle.block.proofs.Codes.{beyond}
+use Rattle.words.proofs.Tests.{beyond}
 use Prim.Native.Nat.{zero-le}
 use mathlib.Core.Path.{_≡_, refl, ap, ap₂, _∙_}
 use mathlib.Core.Bool.{Bool, cond}

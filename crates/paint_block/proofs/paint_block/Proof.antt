@@ -3,7 +3,8 @@ use Prim.Native.Nat.{_<_, zero-le}
 use native.Mathlib.Omega.{arith}
 use Rattle.motion.proofs.Vectors.{ahead-short, negated-short, near-short, far-short}
 use Rattle.block.specs.Block.{one, two, four, eight, celled, dithered, dataLength}
-use Rattle.block.proofs.Codes.{beyond, kind-0, kind-1, kind-2, kind-3, kind-4, kind-5, kind-7, kind-8, kind-9, kind-A, kind-B, kind-C, kind-D, kind-E, kind-F}
+use Rattle.words.proofs.Tests.{beyond}
+use Rattle.block.proofs.Codes.{kind-0, kind-1, kind-2, kind-3, kind-4, kind-5, kind-7, kind-8, kind-9, kind-A, kind-B, kind-C, kind-D, kind-E, kind-F}
 use Rattle.paint_block.proofs.Families.{front-square, back-square, back-canvas, few, there, none-kept, ahead-pointed, behind-pointed, near-pointed, far-pointed, paints-same, paints-none, paints-ahead, paints-behind, paints-near, paints-far, paints-form, paints-cells, paints-dither}
 use borrow.Author.Needs.{needs}
 use Rattle.paint_block.proofs.paint_block.Statement.{statement}

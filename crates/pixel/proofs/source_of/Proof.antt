@@ -3,7 +3,8 @@ use Prim.Native.Nat.{_<_, zero-le}
 use native.Mathlib.Omega.{arith}
 use Rattle.motion.proofs.Vectors.{ahead-short, negated-short, near-short, far-short}
 use Rattle.block.specs.Block.{one, two, four, eight}
-use Rattle.block.proofs.Codes.{beyond, kind-0, kind-1, kind-2, kind-3, kind-4, kind-5, kind-6, kind-7, kind-8, kind-9, kind-A, kind-B, kind-C, kind-D, kind-E, kind-F}
+use Rattle.words.proofs.Tests.{beyond}
+use Rattle.block.proofs.Codes.{kind-0, kind-1, kind-2, kind-3, kind-4, kind-5, kind-6, kind-7, kind-8, kind-9, kind-A, kind-B, kind-C, kind-D, kind-E, kind-F}
 use Rattle.pixel.proofs.Sources.{ahead-asked, behind-asked, near-asked, far-asked, form-asked, same-source, kept-source, ahead-source, behind-source, near-source, far-source, refused-source, form-source-is, cell-source-is, dither-source-is}
 use borrow.Author.Needs.{needs}
 use Rattle.pixel.proofs.source_of.Statement.{statement}

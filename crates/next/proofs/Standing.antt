@@ -1,0 +1,171 @@
+-- What stands where a state is, by what each test found; and what is known of a state and an opcode that are taken.
+-- Assumes nothing.
+use mathlib.Core.Path.{_≡_, refl, sym, ap, _∙_, subst}
+use mathlib.Core.Bool.{Bool, true, false, cond}
+use mathlib.Core.List.{List}
+use Prim.Native.Nat.{ℕ, _+_, _≤_, _<_}
+use native.Mathlib.Omega.{arith}
+use borrow.Author.Tests.{eq-eqb, ne-eqb, ltb-false, eqb-true}
+use lib.Dec.{eqb, ltb}
+use lib.ListN.{length, getD}
+use Rattle.words.specs.Word.{wordAt}
+use Rattle.words.proofs.Tests.{not-first, first}
+use Rattle.refusal.specs.declared.Refusal.{Refusal}
+use Rattle.refusal.specs.declared.Refusal.the-variants.{ChunkEnd, FilmEnd}
+use Rattle.refusal.specs.Number.{Verdict, accept, refuse, number, block, refusal}
+use Rattle.packet.specs.declared.Checked.{Checked}
+use Rattle.packet.specs.declared.Checked.the-variants.{Accepted, Refused}
+use Rattle.packet.specs.Verdict.{told}
+use Rattle.state.specs.declared.Cursor.{Cursor}
+use Rattle.state.specs.declared.State.{State}
+use Rattle.state.specs.State.{stateVerdict, boundsVerdict, mapInside, possibleSize, area, roomVerdict}
+use Rattle.heads.specs.declared.Opcode.{Opcode}
+use Rattle.heads.specs.declared.ChunkHead.{ChunkHead}
+use Rattle.heads.specs.declared.ChunkHead.the-variants.{Chunk, BadChunk}
+use Rattle.heads.specs.declared.OpcodeHead.{OpcodeHead}
+use Rattle.heads.specs.declared.OpcodeHead.the-variants.{Op, BadOp}
+use Rattle.heads.specs.Heads.{opcode as head, chunkAt, opcodeOf, opcodeAt, atLeast, shapeVerdict}
+use Rattle.next.specs.Next.{Standing, refused, ended, chunk, opcode, on, chunkStanding, opcodeStanding, standingAt, nextOf, Possible, Ready}
+
+-- ---- a verdict, and on
+
+module _ (v : Verdict) (s : Standing) (c : Checked) (e : told c ≡ v) where
+  pub goes-on : (t : Standing) → c ≡ Accepted → t ≡ s → t ≡ on v s
+  unfolding on
+  goes-on t q h = rw (← e, q) h
+
+  pub stops : (r : Refusal) → c ≡ Refused r → refused (number r) (block r) ≡ on v s
+  unfolding on
+  stops r q = rw (← e, q)
+
+-- ---- heads
+
+module _ (film : List ℕ) (e : ℕ) where
+  pub ends-here : e ≡ length film → ended ≡ standingAt film e e
+  unfolding standingAt
+  ends-here q = rw (eq-eqb e e refl, eq-eqb _ _ q)
+
+  module _ (n : e ≡ length film → ⊥) (h : ChunkHead) (q : h ≡ chunkAt film e) where
+    pub chunk-here : (c : Cursor) → h ≡ Chunk c → chunk c ≡ standingAt film e e
+    unfolding standingAt chunkStanding
+    chunk-here c k = rw (eq-eqb e e refl, ne-eqb _ _ n, ← q, k)
+
+    pub no-chunk : (r : Refusal) → h ≡ BadChunk r → refused (number r) (block r) ≡ standingAt film e e
+    unfolding standingAt chunkStanding
+    no-chunk r k = rw (eq-eqb e e refl, ne-eqb _ _ n, ← q, k)
+
+module _ (film : List ℕ) (p e : ℕ) where
+  pub at-end : (s : Standing) → p ≡ e → s ≡ standingAt film e e → s ≡ standingAt film p e
+  at-end s q h = rw q h
+
+  module _ (n : p ≡ e → ⊥) (h : OpcodeHead) (q : h ≡ opcodeAt film p e) where
+    pub opcode-here : (o : Opcode) (s : Standing) → h ≡ Op o → s ≡ on (shapeVerdict (o .kind) (o .version) (o .long)) (opcode o) → s ≡ standingAt film p e
+    unfolding standingAt opcodeStanding
+    opcode-here o s k f = rw (ne-eqb _ _ n, ← q, k) f
+
+    pub no-opcode : (r : Refusal) → h ≡ BadOp r → refused (number r) (block r) ≡ standingAt film p e
+    unfolding standingAt opcodeStanding
+    no-opcode r k = rw (ne-eqb _ _ n, ← q, k)
+
+-- ---- what is known
+
+refuses : (n k : ℕ) → refuse n k ≡ accept → ⊥
+refuses n k e = let z : _≡_ {A = ℕ} 0 1 = cc in omega arith
+
+pub possible : (st : State) (film : ℕ) → stateVerdict st film ≡ accept → Possible st film
+unfolding stateVerdict boundsVerdict
+possible st film v =
+    let a = not-first _ _ _ _ (refuses 16 0) v in
+    let b = not-first _ _ _ _ (refuses 16 0) (a .1) in
+    let c = first _ _ _ _ (refuses 16 0) (b .1) in
+    record { ordered = ltb-false _ _ (a .0); inside = ltb-false _ _ (b .0); mapped = c .0 }
+
+-- an answer that reads an opcode was not refused on the way
+refused-opcode : (n k : ℕ) (o : Opcode) → refused n k ≡ opcode o → ⊥
+refused-opcode n k o e = let z : _≡_ {A = ℕ} 0 1 = cc in omega arith
+
+on-opcode : (v : Verdict) (s : Standing) (o : Opcode) → on v s ≡ opcode o → (v ≡ accept) × (s ≡ opcode o)
+unfolding on
+on-opcode accept s o e = (refl, e)
+on-opcode (refuse n k) s o e = absurd (refused-opcode n k o e)
+
+bad-op : (o : Opcode) → BadOp ChunkEnd ≡ Op o → ⊥
+bad-op o e = let z : _≡_ {A = ℕ} 0 1 = cc in omega arith
+
+-- an opcode's head lies in its chunk
+head-inside : (p e long k v : ℕ) (o : Opcode) → opcodeOf p e long k v ≡ Op o → o .start + o .long ≤ e
+unfolding opcodeOf
+head-inside p e long k v o h =
+    let a = not-first (ltb e (p + 4)) _ _ _ (bad-op o) h in
+    let b = not-first (ltb e (p + 4 + long)) _ _ _ (bad-op o) (a .1) in
+    let l : p + 4 + long ≤ e = ltb-false _ _ (b .0) in
+    by (ltb 1 k) (eqb (p + 4 + long) e) l (b .1)
+  where
+    by : (t u : Bool) → p + 4 + long ≤ e
+        → cond t (Op (head k v (p + 4) long)) (cond u (Op (head k v (p + 4) long)) (BadOp ChunkEnd)) ≡ Op o → o .start + o .long ≤ e
+    by true u l q = let z : head k v (p + 4) long ≡ o = cc in subst (λ (x : Opcode). x .start + x .long ≤ e) z l
+    by false true l q = let z : head k v (p + 4) long ≡ o = cc in subst (λ (x : Opcode). x .start + x .long ≤ e) z l
+    by false false l q = absurd (bad-op o q)
+
+-- 11 has at least its 14 bytes
+packet-long : (k v n : ℕ) → shapeVerdict k v n ≡ accept → k ≡ 17 → 14 ≤ n
+unfolding shapeVerdict atLeast
+packet-long k v n h q =
+    let g : atLeast 14 v n ≡ accept = rw q at h in
+    let a = not-first (ltb 0 v) (refuse 4 0) (cond (ltb n 14) (refuse 5 0) accept) accept (refuses 4 0) g in
+    let b = not-first (ltb n 14) (refuse 5 0) accept accept (refuses 5 0) (a .1) in
+    ltb-false _ _ (b .0)
+
+opcode-ready : (film : List ℕ) (p e : ℕ) (h : OpcodeHead) (o : Opcode) → e ≤ length film → opcodeAt film p e ≡ h → opcodeStanding h ≡ opcode o → Ready (length film) o
+unfolding opcodeStanding opcodeAt
+opcode-ready film p e (BadOp r) o l q h = absurd (refused-opcode _ _ o h)
+opcode-ready film p e (Op x) o l q h =
+    let s = on-opcode _ _ o h in
+    let z : x ≡ o = let w = s .1 in cc in
+    let i = head-inside p e (wordAt film p) (getD film (p + 2) 0) (getD film (p + 3) 0) x q in
+    subst (Ready (length film)) z (record { inside = omega arith; packet = packet-long (x .kind) (x .version) (x .long) (s .0) })
+
+standing-ready : (film : List ℕ) (p e : ℕ) (o : Opcode) → e ≤ length film → standingAt film p e ≡ opcode o → Ready (length film) o
+unfolding standingAt chunkStanding
+standing-ready film p e o l h = by (eqb p e) (eqb e (length film)) (chunkAt film e) h
+  where
+    none : (c : ChunkHead) → chunkStanding c ≡ opcode o → ⊥
+    none (Chunk c) q = let z : _≡_ {A = ℕ} 0 1 = cc in omega arith
+    none (BadChunk r) q = refused-opcode _ _ o q
+
+    by : (t u : Bool) (c : ChunkHead) → cond t (cond u ended (chunkStanding c)) (opcodeStanding (opcodeAt film p e)) ≡ opcode o → Ready (length film) o
+    by true true c q = absurd (let z : _≡_ {A = ℕ} 0 1 = cc in let y : ⊥ = omega arith in y)
+    by true false c q = absurd (none c q)
+    by false u c q = opcode-ready film p e (opcodeAt film p e) o l refl q
+
+pub found-ready : (film : List ℕ) (st : State) (palette a b : ℕ) (o : Opcode) → nextOf film st palette a b ≡ opcode o → Possible st (length film) × Ready (length film) o
+unfolding nextOf
+found-ready film st palette a b o h =
+    let s = on-opcode _ _ o h in
+    let t = on-opcode _ _ o (s .1) in
+    let p = possible st (length film) (s .0) in
+    (p, standing-ready film (st .cursor .position) (st .cursor .«chunk_end») o (p .inside) (t .1))
+
+-- ---- a state and what is lent
+
+pub judged-room : (w h palette a b bytes : ℕ) (s t : Standing) (c : Checked) → bytes ≡ area w h → told c ≡ roomVerdict bytes palette a b
+    → c ≡ Accepted → t ≡ s → t ≡ on (roomVerdict (area w h) palette a b) s
+judged-room w h palette a b bytes s t c e q k g = rw (← e) (goes-on (roomVerdict bytes palette a b) s c q t k g)
+
+pub no-room : (w h palette a b bytes : ℕ) (s : Standing) (c : Checked) (r : Refusal) → bytes ≡ area w h
+    → told c ≡ roomVerdict bytes palette a b → c ≡ Refused r → refused (number r) (block r) ≡ on (roomVerdict (area w h) palette a b) s
+no-room w h palette a b bytes s c r e q k = rw (← e) (stops (roomVerdict bytes palette a b) s c q r k)
+
+module _ (film : List ℕ) (st : State) (palette a b : ℕ) (c : Checked) (e : told c ≡ stateVerdict st (length film)) where
+  pub found-here : (t : Standing) → c ≡ Accepted
+      → t ≡ on (roomVerdict (area (st .width) (st .height)) palette a b) (standingAt film (st .cursor .position) (st .cursor .«chunk_end»))
+      → t ≡ nextOf film st palette a b
+  unfolding nextOf
+  found-here t k h = goes-on (stateVerdict st (length film)) _ c e t k h
+
+  pub no-state : (r : Refusal) → c ≡ Refused r → refused (number r) (block r) ≡ nextOf film st palette a b
+  unfolding nextOf
+  no-state r k = stops (stateVerdict st (length film)) _ c e r k
+
+pub is-possible : (st : State) (film : ℕ) (c : Checked) → told c ≡ stateVerdict st film → c ≡ Accepted → Possible st film
+is-possible st film c e k = possible st film (sym e ∙ ap told k)

@@ -1,0 +1,70 @@
+-- What stands where a state is: refusals 16, 8, then "ended", 2, 3, 4, 5, in this order (document 01, "Numbers of refusal").
+-- Assumes nothing.
+use mathlib.Core.Bool.{Bool, true, false, cond}
+use mathlib.Core.List.{List}
+use Prim.Native.Nat.{ℕ, _+_, _≤_}
+use lib.Dec.{eqb}
+use lib.ListN.{length}
+use mathlib.Core.Path.{_≡_}
+use Rattle.refusal.specs.declared.Refusal.{Refusal}
+use Rattle.refusal.specs.Number.{Verdict, accept, refuse, number, block}
+use Rattle.state.specs.declared.Cursor.{Cursor}
+use Rattle.state.specs.declared.State.{State}
+use Rattle.state.specs.State.{stateVerdict, area, roomVerdict, mapInside}
+use Rattle.heads.specs.declared.Opcode.{Opcode}
+use Rattle.heads.specs.declared.ChunkHead.{ChunkHead}
+use Rattle.heads.specs.declared.ChunkHead.the-variants.{Chunk, BadChunk}
+use Rattle.heads.specs.declared.OpcodeHead.{OpcodeHead}
+use Rattle.heads.specs.declared.OpcodeHead.the-variants.{Op, BadOp}
+use Rattle.heads.specs.Heads.{chunkAt, opcodeAt, shapeVerdict}
+use Rattle.next.specs.declared.Next.{Next}
+use Rattle.next.specs.declared.Next.the-variants as found
+
+-- a refusal by number and block, the film's end, a chunk's head or an opcode that is taken
+pub data Standing : Type 0 where
+  refused : ℕ → ℕ → Standing
+  ended : Standing
+  chunk : Cursor → Standing
+  opcode : Opcode → Standing
+
+-- document 01's values of each answer
+abbrev pub nextAs : Next → Standing
+nextAs (found.Refused r) = refused (number r) (block r)
+nextAs found.Ended = ended
+nextAs (found.Chunk c) = chunk c
+nextAs (found.Opcode o) = opcode o
+
+-- on where a verdict accepts, else its refusal
+unfoldable pub on : Verdict → Standing → Standing
+on accept s = s
+on (refuse n k) s = refused n k
+
+unfoldable pub chunkStanding : ChunkHead → Standing
+chunkStanding (Chunk c) = chunk c
+chunkStanding (BadChunk r) = refused (number r) (block r)
+
+unfoldable pub opcodeStanding : OpcodeHead → Standing
+opcodeStanding (Op o) = on (shapeVerdict (o .kind) (o .version) (o .long)) (opcode o)
+opcodeStanding (BadOp r) = refused (number r) (block r)
+
+-- at a position p in a chunk that ends at e
+unfoldable pub standingAt : List ℕ → ℕ → ℕ → Standing
+standingAt film p e =
+    cond (eqb p e) (cond (eqb e (length film)) ended (chunkStanding (chunkAt film e))) (opcodeStanding (opcodeAt film p e))
+
+-- where a state is, with a palette and two pictures this long
+unfoldable pub nextOf : List ℕ → State → ℕ → ℕ → ℕ → Standing
+nextOf film st palette a b =
+    on (stateVerdict st (length film))
+    (on (roomVerdict (area (st .width) (st .height)) palette a b) (standingAt film (st .cursor .position) (st .cursor .«chunk_end»)))
+
+-- what is known of a state that 16 does not refuse
+pub record Possible (st : State) (film : ℕ) : Type 0 where
+  pub ordered : st .cursor .position ≤ st .cursor .«chunk_end»
+  pub inside : st .cursor .«chunk_end» ≤ film
+  pub mapped : mapInside (st .map) film ≡ true
+
+-- what is known of an opcode that is taken there
+pub record Ready (film : ℕ) (o : Opcode) : Type 0 where
+  pub inside : o .start + o .long ≤ film
+  pub packet : o .kind ≡ 17 → 14 ≤ o .long

@@ -1,0 +1,85 @@
+// What stands where a state is, after all tests that do not read a body.
+use heads::ChunkHead;
+use heads::OpcodeHead;
+use heads::chunk_head;
+use heads::judge_shape;
+use heads::opcode_head;
+use packet::Checked;
+use refusal::Refusal;
+use state::Cursor;
+use state::State;
+use state::area_of;
+use state::judge_room;
+use state::judge_state;
+ghost use mathlib.Core.Path.{_≡_};
+ghost use Prim.Native.Nat.{_≤_};
+ghost use lib.ListN.{length};
+ghost use Rattle.state.specs.State.{area, roomVerdict};
+ghost use Rattle.heads.specs.Heads.{shapeVerdict};
+ghost use Rattle.next.specs.Next.{nextAs, on, opcode, chunkStanding, standingAt, nextOf, Possible};
+
+pub enum Next {
+    Refused(Refusal),
+    Ended,
+    Chunk(Cursor),
+    Opcode(heads::Opcode),
+}
+
+fn shaped(o: heads::Opcode) -> Next
+    ensures { λ r. ⌜ nextAs r ≡ on (shapeVerdict (o .kind) (o .version) (o .long)) (opcode o) ⌝ }
+{
+    match judge_shape(o.kind, o.version, o.long) {
+        Checked::Accepted => Next::Opcode(o),
+        Checked::Refused(r) => Next::Refused(r),
+    }
+}
+
+fn chunk_at(film: &[u8], e: usize) -> Next
+    requires { ⌜ e ≤ length (now film) ⌝ }
+    ensures { λ r. ⌜ nextAs r ≡ standingAt (now (film .entry)) e e ⌝ }
+{
+    if e == film.len() {
+        return Next::Ended;
+    }
+    match chunk_head(film, e) {
+        ChunkHead::Chunk(c) => Next::Chunk(c),
+        ChunkHead::BadChunk(r) => Next::Refused(r),
+    }
+}
+
+fn standing_at(film: &[u8], p: usize, e: usize) -> Next
+    requires { ⌜ (p ≤ e) × (e ≤ length (now film)) ⌝ }
+    ensures { λ r. ⌜ nextAs r ≡ standingAt (now (film .entry)) p e ⌝ }
+{
+    if p == e {
+        return chunk_at(film, e);
+    }
+    match opcode_head(film, p, e) {
+        OpcodeHead::Op(o) => shaped(o),
+        OpcodeHead::BadOp(r) => Next::Refused(r),
+    }
+}
+
+fn next_in_room(film: &[u8], st: State, palette: usize, a: usize, b: usize) -> Next
+    requires { ⌜ Possible st (length (now film)) ⌝ }
+    ensures { λ r. ⌜ nextAs r ≡ on (roomVerdict (area (st .width) (st .height)) palette a b) (standingAt (now (film .entry)) (st .cursor .position) (st .cursor .«chunk_end»)) ⌝ }
+{
+    let bytes = area_of(st.width, st.height);
+    match judge_room(bytes, palette, a, b) {
+        Checked::Accepted => {
+            let c = st.cursor;
+            standing_at(film, c.position, c.chunk_end)
+        }
+        Checked::Refused(r) => Next::Refused(r),
+    }
+}
+
+// What stands where the state is, where the palette and the two pictures are this long.
+pub fn find(film: &[u8], st: State, palette: usize, a: usize, b: usize) -> Next
+    ensures { λ r. ⌜ nextAs r ≡ nextOf (now (film .entry)) st palette a b ⌝ }
+{
+    match judge_state(st, film.len()) {
+        Checked::Accepted => next_in_room(film, st, palette, a, b),
+        Checked::Refused(r) => Next::Refused(r),
+    }
+}
