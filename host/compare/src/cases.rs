@@ -66,10 +66,19 @@ fn draft(rng: &mut Seeded) -> Draft {
     Draft::make(rng, size, profile)
 }
 
-/// A damaged packet, and the frame size that it had before.
+/// A damaged packet, and the frame size that it had before. Some are cut anywhere, so that every
+/// number of bytes is left for a block of every form.
 fn damaged_packet(rng: &mut Seeded) -> (Packet, Size) {
-    let (draft, damage) = (draft(rng), rng.pick(&Damage::ALL));
-    (damaged(rng, &draft, damage), draft.size)
+    let draft = draft(rng);
+    let packet = if rng.one_in(6) {
+        let mut packet = draft.packet();
+        packet.data.truncate(rng.below(packet.data.len() + 1));
+        packet
+    } else {
+        let damage = rng.pick(&Damage::ALL);
+        damaged(rng, &draft, damage)
+    };
+    (packet, draft.size)
 }
 
 /// Calls that all bring one packet, which may be refused, for pictures of about so many pixels.

@@ -27,12 +27,12 @@ pub(crate) mod kind {
 impl Answer {
     /// The answer, if it is not a refusal.
     pub(crate) fn taken(self) -> Result<Answer, Refusal> {
-        if self.kind != kind::REFUSED {
-            return Ok(self);
-        }
-        match u8::try_from(self.number) {
-            Ok(number @ 1..=16) => Err(Refusal { number, block: self.block }),
-            _ => self.unknown(),
+        match self {
+            Answer { kind: kind::REFUSED, number: number @ 1..=16, block, stores: 0 } => {
+                Err(Refusal { number: number as u8, block })
+            }
+            Answer { kind: kind::REFUSED, .. } => self.unknown(),
+            _ => Ok(self),
         }
     }
 
@@ -48,12 +48,13 @@ mod tests {
 
     /// A number that is not in the table must not pass as one that is.
     #[test]
-    fn numbers_of_refusal() {
-        let refused = |number| Answer { kind: kind::REFUSED, number, block: 2, stores: 0 };
-        assert_eq!(refused(13).taken().unwrap_err(), Refusal { number: 13, block: 2 });
-        for number in [0, 17, 256 + 13] {
-            let answer = std::panic::catch_unwind(|| refused(number).taken().map(|_| ()));
-            assert!(answer.is_err(), "{number}");
+    fn refusals() {
+        let refused = |number, stores| Answer { kind: kind::REFUSED, number, block: 2, stores };
+        let known = refused(13, 0).taken();
+        assert_eq!(known.unwrap_err(), Refusal { number: 13, block: 2 });
+        for (number, stores) in [(0, 0), (17, 0), (256 + 13, 0), (13, 1)] {
+            let unknown = std::panic::catch_unwind(|| refused(number, stores).taken().map(|_| ()));
+            assert!(unknown.is_err(), "{number} after {stores} stores");
         }
     }
 }

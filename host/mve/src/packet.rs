@@ -1,6 +1,6 @@
 //! A packet, the map and the data of one frame: checking and drawing it.
 
-use crate::answer::kind;
+use crate::answer::{kind, Answer};
 use crate::{ffi, Refusal};
 
 /// Checks a packet for a frame of `width` by `height` pixels.
@@ -35,10 +35,9 @@ use crate::{ffi, Refusal};
 /// assert_eq!(check(8, 8, &[0x05], &[0x01, 0x00]), Err(Refusal { number: 14, block: 0 }));
 /// ```
 pub fn check(width: usize, height: usize, map: &[u8], data: &[u8]) -> Result<(), Refusal> {
-    let answer = ffi::check(width, height, map, data).taken()?;
-    match answer.kind {
-        kind::ACCEPTED => Ok(()),
-        _ => answer.unknown(),
+    match ffi::check(width, height, map, data).taken()? {
+        Answer { kind: kind::ACCEPTED, number: 0, block: 0, stores: 0 } => Ok(()),
+        other => other.unknown(),
     }
 }
 
@@ -139,10 +138,11 @@ pub fn draw(
     place: &mut usize,
     allowed: usize,
 ) -> Result<Drawn, Refusal> {
-    let answer = ffi::draw(width, height, map, data, front, back, place, allowed).taken()?;
-    match answer.kind {
-        kind::WHOLE => Ok(Drawn::Whole { stores: answer.stores }),
-        kind::UNFINISHED => Ok(Drawn::Unfinished { stores: answer.stores }),
-        _ => answer.unknown(),
+    match ffi::draw(width, height, map, data, front, back, place, allowed).taken()? {
+        Answer { kind: kind::WHOLE, number: 0, block: 0, stores } => Ok(Drawn::Whole { stores }),
+        Answer { kind: kind::UNFINISHED, number: 0, block: 0, stores } => {
+            Ok(Drawn::Unfinished { stores })
+        }
+        other => other.unknown(),
     }
 }

@@ -1,0 +1,9 @@
+pub mod Lists
+pub mod Making
+pub mod Again
+pub mod Judging
+pub mod Outcome
+pub mod Gradients
+pub mod Entries
+pub mod Masks
+pub mod Groups

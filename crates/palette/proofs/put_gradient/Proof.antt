@@ -1,0 +1,98 @@
+-- Turn i makes store i of the gradient: the loop keeps `Making`.
+use mathlib.Core.Path.{refl, _∙_}
+use Prim.Native.Nat.{_-_, _*_}
+use native.Mathlib.Omega.{arith}
+use borrow.Author.Needs.{needs}
+use Rattle.palette.specs.Store.{byte}
+use Rattle.palette.specs.Gradient.{component}
+use Rattle.palette.proofs.Lists.{applied-byte}
+use Rattle.palette.proofs.Making.{Making, making-start, making-more, making-end, making-length}
+use Rattle.palette.proofs.Gradients.{product-below, stored-at, room-at}
+use Rattle.palette.proofs.put_gradient.Statement.{statement}
+use Rattle.palette.proofs.put_gradient.Tie as tie
+use Rattle.palette.proofs.put_gradient.Reads as reads
+use Rattle.palette.proofs.put_gradient.Lts as lts
+use Rattle.palette.proofs.component_of.Reads as component-of-reads
+use Rattle.palette.proofs.number_at.Reads as number-at-reads
+use Rattle.palette.proofs.put.Reads as put-reads
+
+abbrev Inv-loop : tie.InvT-loop
+Inv-loop palette₀ body at second base rows columns n i₀ palette i = Making (byte (3 * base) (component rows columns second)) palette₀ n palette i
+
+abbrev μ-loop : tie.MeasureT-loop
+μ-loop palette₀ body at second base rows columns n i₀ palette i = n - i
+
+number-at-requires : tie.Need-number-at-requires Inv-loop μ-loop
+number-at-requires c κs = search needs
+
+add-number-at : tie.Need-add-number-at Inv-loop μ-loop
+add-number-at c = search needs
+
+number-at-requires-2 : tie.Need-number-at-requires-2 Inv-loop μ-loop
+number-at-requires-2 c κs = search needs
+
+add-number-at-2 : tie.Need-add-number-at-2 Inv-loop μ-loop
+add-number-at-2 c = search needs
+
+number-at-requires-3 : tie.Need-number-at-requires-3 Inv-loop μ-loop
+number-at-requires-3 c κs = search needs
+
+mul-n : tie.Need-mul-n Inv-loop μ-loop
+mul-n c = omega (arith, product-below _ _ (c .before .number-at2 .ensures .1) (c .number-at3 .ensures .1))
+
+mul-n-2 : tie.Need-mul-n-2 Inv-loop μ-loop
+mul-n-2 c = omega (arith, product-below _ _ (c .before .number-at2 .ensures .1) (c .number-at3 .ensures .1))
+
+loop-holds : tie.Need-loop-holds Inv-loop μ-loop
+loop-holds c = making-start _ _ _
+
+mul-put : tie.Need-mul-put Inv-loop μ-loop
+mul-put c = omega (arith, c .before .before .before .before .before .number-at .ensures .1)
+
+add-put : tie.Need-add-put Inv-loop μ-loop
+add-put c = omega (arith, c .before .before .before .before .before .number-at .ensures .1, c .before .loop-test .taken, product-below _ _ (c .before .before .before .before .number-at2 .ensures .1) (c .before .before .before .number-at3 .ensures .1))
+
+component-of-requires : tie.Need-component-of-requires Inv-loop μ-loop
+component-of-requires c κs = record { few-rows = c .before .before .before .before .number-at2 .ensures .1; few-columns = c .before .before .before .number-at3 .ensures .1; within = c .before .loop-test .taken }
+
+put-requires : tie.Need-put-requires Inv-loop μ-loop
+put-requires c κs = room-at (c .before .before .before .before .before .before .before .before .before .args .body .now) (c .before .before .before .before .before .before .before .before .before .args .at) (c .before .before .before .before .before .before .before .before .before .args .second) _ _ _ (c .before .before .before .before .before .before .number-at .ensures .0) (c .before .before .before .before .before .number-at2 .ensures .0) (c .before .before .before .before .number-at3 .ensures .0) (c .before .before .before .before .before .before .before .before .before .pre .2) _ (c .before .before .loop-test .taken) _ (making-length _ _ _ _ _ (c .before .before .before .loop .inv) ∙ c .before .before .before .before .before .before .before .before .before .pre .1)
+
+add-i : tie.Need-add-i Inv-loop μ-loop
+add-i c = omega (arith, c .before .before .before .before .before .loop-test .taken, product-below _ _ (c .before .before .before .before .before .before .before .before .number-at2 .ensures .1) (c .before .before .before .before .before .before .before .number-at3 .ensures .1))
+
+loop-less : tie.Need-loop-less Inv-loop μ-loop
+loop-less c = omega (arith, c .before .before .before .before .before .loop-test .taken)
+
+loop-again : tie.Need-loop-again Inv-loop μ-loop
+loop-again c = making-more _ _ _ _ _ (c .before .before .before .before .before .before .loop .inv) (c .before .before .before .before .before .loop-test .taken) _ (applied-byte _ _ _ _ _ _ _ refl (c .before .before .before .component-of .ensures) (c .before .before .put .ensures))
+
+same-length : tie.Need-same-length Inv-loop μ-loop
+same-length c = making-length _ _ _ _ _ (c .before .loop .inv)
+
+returns : tie.Need-returns Inv-loop μ-loop
+returns c = stored-at (c .before .before .before .before .before .before .before .args .body .now) (c .before .before .before .before .before .before .before .args .at) _ _ _ _ (c .before .before .before .before .number-at .ensures .0) (c .before .before .before .number-at2 .ensures .0) (c .before .before .number-at3 .ensures .0) _ _ (making-end _ _ _ _ _ (c .before .loop .inv) (c .loop-test .left))
+
+pub put-gradient-spec : {M : Type 1} → statement M
+put-gradient-spec =
+    tie.close
+    (tie.spec
+    Inv-loop
+    μ-loop
+    number-at-requires
+    add-number-at
+    number-at-requires-2
+    add-number-at-2
+    number-at-requires-3
+    mul-n
+    mul-n-2
+    loop-holds
+    mul-put
+    add-put
+    component-of-requires
+    put-requires
+    add-i
+    loop-less
+    loop-again
+    same-length
+    returns)

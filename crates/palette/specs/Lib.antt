@@ -1,0 +1,6 @@
+pub mod Store
+pub mod Update
+pub mod Gradient
+pub mod Entries
+pub mod Mask
+pub mod Asked

@@ -1,0 +1,43 @@
+-- What the body of an opcode comes to: the verdict, in document 01's order 8, 5, 7, and the palette that is left. All tests come before all stores.
+-- Assumes nothing.
+use mathlib.Core.Bool.{Bool, true, false, cond}
+use mathlib.Core.List.{List, [], _∷_}
+use Prim.Native.Nat.{ℕ}
+use lib.Dec.{eqb, ltb}
+use lib.ListN.{length}
+use Rattle.refusal.specs.Number.{Verdict, accept, refuse, refusal}
+use Rattle.palette.specs.Store.{Store, applied}
+use Rattle.palette.specs.declared.Updated.{Updated}
+use Rattle.palette.specs.declared.Updated.the-variants.{Taken, Refused}
+
+-- what a body asks for. exact: its length is right. inside: the entries that it names are among the 256. stores: the bytes that it sets, in order
+pub record Update : Type 0 where
+  pub exact : Bool
+  pub inside : Bool
+  pub stores : List Store
+
+-- every component is 0 to 63, as a gradient's always are. (Bytes that stand in the palette already are not tested.)
+unfoldable pub legal : List Store → Bool
+legal [] = true
+legal (s ∷ l) = cond (ltb 63 (s .value)) false (legal l)
+
+-- 5, then 7
+unfoldable pub verdict : Update → Verdict
+verdict u = cond (u .exact) (cond (u .inside) (cond (legal (u .stores)) accept (refuse 7 0)) (refuse 7 0)) (refuse 5 0)
+
+-- on a lent palette: 8 comes first
+unfoldable pub verdictOn : Update → List ℕ → Verdict
+verdictOn u palette = cond (eqb (length palette) 768) (verdict u) (refuse 8 0)
+
+-- the palette that is left: a refusal changes nothing
+unfoldable pub onAccept : Verdict → List ℕ → List ℕ → List ℕ
+onAccept accept changed palette = changed
+onAccept (refuse number block) changed palette = palette
+
+unfoldable pub paletteAfter : Update → List ℕ → List ℕ
+paletteAfter u palette = onAccept (verdictOn u palette) (applied (u .stores) palette) palette
+
+-- document 01's number and block of each answer
+abbrev pub told : Updated → Verdict
+told Taken = accept
+told (Refused r) = refusal r

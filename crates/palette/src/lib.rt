@@ -1,0 +1,274 @@
+// Opcodes 0B, 0C and 0D: a body is tested whole, and then its stores are made one by one on the lent palette.
+use refusal::Refusal;
+use words::byte_at;
+use words::wide;
+use words::word_at;
+ghost use mathlib.Core.Path.{_≡_};
+ghost use mathlib.Core.Bool.{true};
+ghost use Prim.Native.Nat.{_+_, _*_, _≤_, _<_};
+ghost use lib.ListN.{length, getD, set};
+ghost use Rattle.palette.specs.Store.{applied, each, bytes, from};
+ghost use Rattle.palette.specs.Update.{told, legal, verdictOn, paletteAfter};
+ghost use Rattle.palette.specs.Gradient.{gradientAt, gradientStores, fits, gradientFits, level, component, createGradient};
+ghost use Rattle.palette.specs.Entries.{setPalette};
+ghost use Rattle.palette.specs.Mask.{ones, groupEnd, groupAt, masked, groupStores, setPaletteCompressed};
+ghost use Rattle.palette.specs.Asked.{Step, Entry, Group};
+
+// What becomes of a palette opcode.
+pub enum Updated {
+    Taken,
+    Refused(Refusal),
+}
+
+// The one store of a byte: every other function stores through it.
+fn put(palette: &mut [u8], index: usize, value: u8)
+    requires { ⌜ index < length (now palette) ⌝ }
+    ensures { λ _. ⌜ now (palette .exit) ≡ set (now (palette .entry)) index value ⌝ }
+{
+    palette[index] = value;
+}
+
+// n bytes of a body from at on, stored from index first on.
+fn put_bytes(palette: &mut [u8], first: usize, body: &[u8], at: usize, n: usize)
+    requires { ⌜ (first + n ≤ length (now palette)) × (at + n ≤ length (now body)) ⌝ }
+    ensures { λ _. ⌜ now (palette .exit) ≡ applied (bytes first (from (now (body .entry)) at) n) (now (palette .entry)) ⌝ }
+{
+    let mut i = 0;
+    while i < n {
+        put(palette, first + i, body[at + i]);
+        i += 1;
+    }
+}
+
+// Whether n bytes of a body from at on are components, wherever they are stored.
+fn are_components(body: &[u8], at: usize, n: usize) -> bool
+    requires { ⌜ at + n ≤ length (now body) ⌝ }
+    ensures { λ r. ⌜ r ≡ legal (bytes 0 (from (now (body .entry)) at) n) ⌝ }
+{
+    let mut i = 0;
+    while i < n {
+        if 63 < body[at + i] {
+            return false;
+        }
+        i += 1;
+    }
+    true
+}
+
+// The number that byte at of a body is.
+fn number_at(body: &[u8], at: usize) -> usize
+    ensures { λ r. ⌜ (r ≡ getD (now (body .entry)) at 0) × (r < 256) ⌝ }
+{
+    wide(byte_at(body, at))
+}
+
+// Whether n entries from base on are among the 256.
+fn entries_fit(base: usize, n: usize) -> bool
+    requires { ⌜ (base < 256) × (n < 65536) ⌝ }
+    ensures { λ r. ⌜ r ≡ fits base n ⌝ }
+{
+    if n == 0 {
+        return true;
+    }
+    base + n <= 256
+}
+
+// Whether the gradient of three bytes from at on fits.
+fn gradient_fits(body: &[u8], at: usize) -> bool
+    requires { ⌜ at ≤ 3 ⌝ }
+    ensures { λ r. ⌜ r ≡ fits (getD (now (body .entry)) at 0) (getD (now (body .entry)) (at + 1) 0 * getD (now (body .entry)) (at + 2) 0) ⌝ }
+{
+    let base = number_at(body, at);
+    let rows = number_at(body, at + 1);
+    let columns = number_at(body, at + 2);
+    entries_fit(base, rows * columns)
+}
+
+// Step i of n from 0 to most; a step alone is 0.
+fn level_of(most: usize, i: usize, n: usize) -> u8
+    requires { ⌜ Step most i n ⌝ }
+    ensures { λ r. ⌜ r ≡ level most i n ⌝ }
+{
+    if n < 2 {
+        return 0;
+    }
+    (most * i / (n - 1)) as u8
+}
+
+// Byte i of the entries of a gradient.
+fn component_of(rows: usize, columns: usize, second: usize, i: usize) -> u8
+    requires { ⌜ Entry rows columns i ⌝ }
+    ensures { λ r. ⌜ r ≡ component rows columns second i ⌝ }
+{
+    let entry = i / 3;
+    let colour = i % 3;
+    if colour == 0 {
+        return level_of(63, entry / columns, rows);
+    }
+    if colour == second {
+        return level_of(39, entry % columns, columns);
+    }
+    0
+}
+
+// The stores of the gradient of three bytes from at on.
+fn put_gradient(palette: &mut [u8], body: &[u8], at: usize, second: usize)
+    requires { ⌜ (at ≤ 3) × (length (now palette) ≡ 768) × (gradientFits (gradientAt (now body) at second) ≡ true) ⌝ }
+    ensures { λ _. ⌜ now (palette .exit) ≡ applied (gradientStores (gradientAt (now (body .entry)) at second)) (now (palette .entry)) ⌝ }
+{
+    let base = number_at(body, at);
+    let rows = number_at(body, at + 1);
+    let columns = number_at(body, at + 2);
+    let n = 3 * (rows * columns);
+    let mut i = 0;
+    while i < n {
+        put(
+            palette,
+            3 * base + i,
+            component_of(rows, columns, second, i),
+        );
+        i += 1;
+    }
+}
+
+// Opcode 0B, create gradient. Both gradients are tested before either is stored; where they overlap, the second stays.
+pub fn create_gradient(body: &[u8], palette: &mut [u8]) -> Updated
+    ensures { λ r. ⌜ told r ≡ verdictOn (createGradient (now (body .entry))) (now (palette .entry)) ⌝ }
+    ensures { λ _. ⌜ now (palette .exit) ≡ paletteAfter (createGradient (now (body .entry))) (now (palette .entry)) ⌝ }
+{
+    if palette.len() != 768 {
+        return Updated::Refused(Refusal::Buffer);
+    }
+    if body.len() != 6 {
+        return Updated::Refused(Refusal::BodyLength);
+    }
+    if gradient_fits(body, 0) {
+        if gradient_fits(body, 3) {
+            put_gradient(palette, body, 0, 2);
+            put_gradient(palette, body, 3, 1);
+            return Updated::Taken;
+        }
+    }
+    Updated::Refused(Refusal::Palette)
+}
+
+// Opcode 0C, set palette. A body too short for its two words never has the length that they ask for.
+pub fn set_palette(body: &[u8], palette: &mut [u8]) -> Updated
+    ensures { λ r. ⌜ told r ≡ verdictOn (setPalette (now (body .entry))) (now (palette .entry)) ⌝ }
+    ensures { λ _. ⌜ now (palette .exit) ≡ paletteAfter (setPalette (now (body .entry))) (now (palette .entry)) ⌝ }
+{
+    if palette.len() != 768 {
+        return Updated::Refused(Refusal::Buffer);
+    }
+    let start = word_at(body, 0);
+    let count = word_at(body, 2);
+    if body.len() != 4 + 3 * count {
+        return Updated::Refused(Refusal::BodyLength);
+    }
+    if 256 < start + count {
+        return Updated::Refused(Refusal::Palette);
+    }
+    if are_components(body, 4, 3 * count) {
+        put_bytes(palette, 3 * start, body, 4, 3 * count);
+        return Updated::Taken;
+    }
+    Updated::Refused(Refusal::Palette)
+}
+
+// How many bits of a mask are one.
+fn ones_of(mask: usize) -> usize
+    ensures { λ r. ⌜ (r ≡ ones mask 8) × (r ≤ 8) ⌝ }
+{
+    let low = mask % 2 + mask / 2 % 2 + mask / 4 % 2 + mask / 8 % 2;
+    let high = mask / 16 % 2 + mask / 32 % 2 + mask / 64 % 2 + mask / 128 % 2;
+    low + high
+}
+
+// Where the group that starts at position at ends.
+fn group_end(body: &[u8], at: usize) -> usize
+    requires { ⌜ at < 65536 ⌝ }
+    ensures { λ r. ⌜ r ≡ groupEnd (now (body .entry)) at ⌝ }
+{
+    at + 1 + 3 * ones_of(number_at(body, at))
+}
+
+// Where the last group ends.
+fn groups_end(body: &[u8]) -> usize
+    ensures { λ r. ⌜ r ≡ groupAt (now (body .entry)) 32 ⌝ }
+{
+    let mut at = 0;
+    let mut k: usize = 0;
+    while k < 32 {
+        at = group_end(body, at);
+        k += 1;
+    }
+    at
+}
+
+// Whether the groups' bytes behind their masks are components.
+fn are_group_components(body: &[u8]) -> bool
+    requires { ⌜ groupAt (now body) 32 ≡ length (now body) ⌝ }
+    ensures { λ r. ⌜ r ≡ legal (each (groupStores (now (body .entry))) 32) ⌝ }
+{
+    let mut at = 0;
+    let mut k: usize = 0;
+    while k < 32 {
+        let end = group_end(body, at);
+        if are_components(body, at + 1, end - (at + 1)) {
+            at = end;
+            k += 1;
+        } else {
+            return false;
+        }
+    }
+    true
+}
+
+// The stores of one group: the entries whose bits in the mask are one, lowest bit first.
+fn put_group(palette: &mut [u8], entry: usize, mask: usize, body: &[u8], at: usize)
+    requires { ⌜ Group (now body) (now palette) mask at entry ⌝ }
+    ensures { λ _. ⌜ now (palette .exit) ≡ applied (each (masked (now (body .entry)) mask at entry) 8) (now (palette .entry)) ⌝ }
+{
+    let mut bits = mask;
+    let mut next = at;
+    let mut i = 0;
+    while i < 8 {
+        let n = 3 * (bits % 2);
+        put_bytes(palette, 3 * (entry + i), body, next, n);
+        next += n;
+        bits /= 2;
+        i += 1;
+    }
+}
+
+// The stores of all groups in order.
+fn put_groups(palette: &mut [u8], body: &[u8])
+    requires { ⌜ (groupAt (now body) 32 ≡ length (now body)) × (length (now palette) ≡ 768) ⌝ }
+    ensures { λ _. ⌜ now (palette .exit) ≡ applied (each (groupStores (now (body .entry))) 32) (now (palette .entry)) ⌝ }
+{
+    let mut at = 0;
+    let mut k = 0;
+    while k < 32 {
+        put_group(palette, 8 * k, number_at(body, at), body, at + 1);
+        at = group_end(body, at);
+        k += 1;
+    }
+}
+
+// Opcode 0D, set palette entries compressed. Groups that lack bytes end behind the body, so one comparison judges its length.
+pub fn set_palette_compressed(body: &[u8], palette: &mut [u8]) -> Updated
+    ensures { λ r. ⌜ told r ≡ verdictOn (setPaletteCompressed (now (body .entry))) (now (palette .entry)) ⌝ }
+    ensures { λ _. ⌜ now (palette .exit) ≡ paletteAfter (setPaletteCompressed (now (body .entry))) (now (palette .entry)) ⌝ }
+{
+    if palette.len() != 768 {
+        return Updated::Refused(Refusal::Buffer);
+    }
+    if groups_end(body) != body.len() {
+        return Updated::Refused(Refusal::BodyLength);
+    }
+    if are_group_components(body) {
+        put_groups(palette, body);
+        return Updated::Taken;
+    }
+    Updated::Refused(Refusal::Palette)
+}
