@@ -2,7 +2,7 @@
 //! the repository's build leaves it.
 
 use std::env;
-use std::path::{Path, PathBuf};
+use std::path::PathBuf;
 
 fn main() {
     println!("cargo::rerun-if-env-changed=MVE_LIB_DIR");
@@ -24,6 +24,9 @@ fn main() {
 fn library_folder() -> PathBuf {
     match env::var_os("MVE_LIB_DIR") {
         Some(folder) => PathBuf::from(folder),
-        None => Path::new(env!("CARGO_MANIFEST_DIR")).join("../../target/staticlib"),
+        None => {
+            let manifest = env::var_os("CARGO_MANIFEST_DIR").expect("cargo runs build scripts");
+            PathBuf::from(manifest).join("../../target/staticlib")
+        }
     }
 }

@@ -1,12 +1,12 @@
-//! A faulty decoder is found out: each fault, in the second decoder's place and with the tests'
-//! cases, is reported, and as what it is. Several are the ones that 01 names ("Slips that look
-//! right", "These must not get through").
+//! A difference would be found. The second decoder with a fault takes the proved library's place:
+//! each fault is reported, as what it is, within the first cases that the other tests go through.
+//! Several are those that 01 names ("Slips that look right", "These must not get through").
 
 use compare::{cases, Answer, Checked, Comparison, Decoder, Found, Kind, Part, Second};
 use maker::{Form, Packet};
 use reference::{Drawn, Refusal};
 
-const SEED: u64 = 2;
+const SEED: u64 = 1;
 const CASES: u64 = 2000;
 
 /// The second decoder with a fault in checking and one in drawing.

@@ -5,7 +5,7 @@ mod common;
 
 use compare::{Comparison, Event, Kind, Proved, Second};
 
-const SEED: u64 = 2;
+const SEED: u64 = 1;
 const LISTS: u64 = 6000;
 
 #[test]

@@ -53,8 +53,8 @@ pub(crate) fn draw(
     allowed: usize,
 ) -> Answer {
     // SAFETY: each address and length are those of a slice that lives through the call; that of an
-    // empty slice is not null. Only `back` and `place` are written. They are borrowed mutably, so
-    // they overlap neither each other nor what is read.
+    // empty slice is not null. Only `back` and `place` are written; they are borrowed mutably, so
+    // they overlap neither each other nor anything that is only read.
     unsafe {
         mve_draw(
             width,

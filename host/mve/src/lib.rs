@@ -2,7 +2,8 @@
 //!
 //! The core is a static library whose contracts are proved. This crate hands each call on to it and
 //! gives its answers names; it decides nothing and allocates nothing. Every function takes any
-//! input and answers it; a refused call leaves everything lent to it as it was.
+//! input and answers it; a refused call leaves everything lent to it as it was. None panics, unless
+//! the library that is linked is not the one this crate is written for.
 //!
 //! A frame comes as a packet: a map with a code for each 8x8 block, and the blocks' data. [`check`]
 //! tells whether a packet is valid, [`draw`] draws it, at once or in pieces.
