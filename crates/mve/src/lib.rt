@@ -1,17 +1,30 @@
 // The interface for C and Rust. Nothing is done here but to hand on and to write answers as numbers.
 use draw::Drawn;
+use opcodes::Stepped;
+use opening::Opened;
 use packet::Checked;
 use refusal::Refusal;
 use refusal::block_of;
 use refusal::number_of;
+use state::Cursor;
+use state::Map;
+use state::State;
 use words::wide;
 ghost use mathlib.Core.Path.{_≡_};
-ghost use Rattle.refusal.specs.Number.{refusal};
+ghost use mathlib.Core.Bool.{true, false, cond};
+ghost use lib.Dec.{eqb};
+ghost use lib.ListN.{length};
+ghost use Rattle.refusal.specs.Number.{refusal, block, number as refusalNumber};
+ghost use Rattle.state.specs.State.{shownOf};
+ghost use Rattle.opening.specs.Opening.{openingOf};
+ghost use Rattle.opcodes.specs.Opcodes.{steppedAs};
+ghost use Rattle.film.specs.Film.{stepOf};
 ghost use Rattle.packet.specs.Verdict.{verdict};
 ghost use Rattle.stores.specs.Stores.{memory};
 ghost use Rattle.stores.specs.Calls.{step, reply};
 ghost use Rattle.draw.specs.Call.{request, calling};
 ghost use Rattle.mve.specs.Answer.{ofVerdict, ofOutcome};
+ghost use Rattle.mve.specs.Film.{mapOf, stateOf, numbers, ofState, stepped, ofStep, ofOpening, exported, ofOutcome as ofFilm};
 
 // kind: 0 accepted, 1 whole, 2 unfinished, 4 refused. number and block: of a refusal, else 0. stores: how many were made.
 #[repr(C)]
@@ -79,4 +92,190 @@ pub extern "C" fn mve_draw(
         },
         Drawn::Refused(r) => refused(r),
     }
+}
+
+// The state of a walk. has_map: 0 where no map is pending. unsent: 0 where no frame is finished and unsent.
+#[repr(C)]
+pub struct MveState {
+    pub position: usize,
+    pub chunk_end: usize,
+    pub width: usize,
+    pub height: usize,
+    pub front: usize,
+    pub has_map: usize,
+    pub map_start: usize,
+    pub map_length: usize,
+    pub unsent: usize,
+}
+
+// kind: 0 taken, 1 whole, 2 unfinished, 3 ended, 4 refused. number and block: of a refusal, else 0. stores: how many drawing made.
+#[repr(C)]
+pub struct MveStep {
+    pub kind: usize,
+    pub number: usize,
+    pub block: usize,
+    pub stores: usize,
+    pub state: MveState,
+}
+
+fn map_of(has: usize, start: usize, long: usize) -> Map
+    ensures { λ r. ⌜ r ≡ mapOf has start long ⌝ }
+{
+    if has == 0 {
+        return Map::Missing;
+    }
+    Map::Part(start, long)
+}
+
+fn flag(n: usize) -> bool
+    ensures { λ r. ⌜ r ≡ cond (eqb n 0) false true ⌝ }
+{
+    if n == 0 {
+        return false;
+    }
+    true
+}
+
+fn number(b: bool) -> usize
+    ensures { λ r. ⌜ r ≡ cond b 1 0 ⌝ }
+{
+    if b {
+        return 1;
+    }
+    0
+}
+
+fn state_of(m: MveState) -> State
+    ensures { λ r. ⌜ r ≡ stateOf m ⌝ }
+{
+    let map = map_of(m.has_map, m.map_start, m.map_length);
+    let unsent = flag(m.unsent);
+    State {
+        cursor: Cursor {
+            position: m.position,
+            chunk_end: m.chunk_end,
+        },
+        width: m.width,
+        height: m.height,
+        front: m.front,
+        map,
+        unsent,
+    }
+}
+
+fn numbers_of(st: State, has: usize, start: usize, long: usize) -> MveState
+    ensures { λ r. ⌜ r ≡ numbers (st .cursor .position) (st .cursor .«chunk_end») (st .width) (st .height) (st .front) has start long (cond (st .unsent) 1 0) ⌝ }
+{
+    let unsent = number(st.unsent);
+    let c = st.cursor;
+    MveState {
+        position: c.position,
+        chunk_end: c.chunk_end,
+        width: st.width,
+        height: st.height,
+        front: st.front,
+        has_map: has,
+        map_start: start,
+        map_length: long,
+        unsent,
+    }
+}
+
+fn of_state(st: State) -> MveState
+    ensures { λ r. ⌜ r ≡ ofState st ⌝ }
+{
+    let m = st.map;
+    match m {
+        Map::Missing => numbers_of(st, 0, 0, 0),
+        Map::Part(start, long) => numbers_of(st, 1, start, long),
+    }
+}
+
+fn stepped_with(kind: usize, stores: usize, st: State) -> MveStep
+    ensures { λ r. ⌜ r ≡ stepped kind 0 0 stores (ofState st) ⌝ }
+{
+    let state = of_state(st);
+    MveStep {
+        kind,
+        number: 0,
+        block: 0,
+        stores,
+        state,
+    }
+}
+
+fn refused_with(r: Refusal, state: MveState) -> MveStep
+    ensures { λ a. ⌜ a ≡ stepped 4 (refusalNumber r) (block r) 0 state ⌝ }
+{
+    MveStep {
+        kind: 4,
+        number: wide(number_of(r)),
+        block: block_of(r),
+        stores: 0,
+        state,
+    }
+}
+
+fn of_step(m: MveState, x: Stepped) -> MveStep
+    ensures { λ r. ⌜ r ≡ ofStep m (steppedAs x) ⌝ }
+{
+    match x {
+        Stepped::Taken(st) => stepped_with(0, 0, st),
+        Stepped::Whole(st, n) => stepped_with(1, n, st),
+        Stepped::Unfinished(st, n) => stepped_with(2, n, st),
+        Stepped::Ended(st) => stepped_with(3, 0, st),
+        Stepped::Refused(r) => refused_with(r, m),
+    }
+}
+
+// The first state of a film.
+#[no_mangle]
+pub extern "C" fn mve_open(film: &[u8]) -> MveStep
+    ensures { λ r. ⌜ r ≡ ofOpening (openingOf (now (film .entry))) ⌝ }
+{
+    match opening::open(film) {
+        Opened::First(st) => stepped_with(0, 0, st),
+        Opened::Refused(r) => refused_with(
+            r,
+            MveState {
+                position: 0,
+                chunk_end: 0,
+                width: 0,
+                height: 0,
+                front: 0,
+                has_map: 0,
+                map_start: 0,
+                map_length: 0,
+                unsent: 0,
+            },
+        ),
+    }
+}
+
+// One step over a film.
+#[no_mangle]
+pub extern "C" fn mve_step(
+    film: &[u8],
+    state: MveState,
+    palette: &mut [u8],
+    a: &mut [u8],
+    b: &mut [u8],
+    place: &mut usize,
+    allowed: usize,
+) -> MveStep
+    ensures { λ r. ⌜ exported r (now (palette .exit)) (now (a .exit)) (now (b .exit)) (now (place .exit)) ≡ ofFilm state (stepOf (now (film .entry)) (stateOf state) allowed (now (palette .entry)) (now (a .entry)) (now (b .entry)) (now (place .entry))) ⌝ }
+{
+    let st = state_of(state);
+    let x = film::step(film, st, palette, a, b, place, allowed);
+    of_step(state, x)
+}
+
+// How many leading bytes of which lent picture are shown: 0 where none are. The picture is the first where front is 0, else the second.
+#[no_mangle]
+pub extern "C" fn mve_shown<'a>(state: MveState, a: &'a [u8], b: &'a [u8]) -> usize
+    ensures { λ r. ⌜ r ≡ length (shownOf (stateOf state) (now (a .entry)) (now (b .entry))) ⌝ }
+{
+    let st = state_of(state);
+    let s = state::shown(st, a, b);
+    s.len()
 }

@@ -27,7 +27,7 @@ pub enum Event {
     NothingAllowed,
     /// An accepted drawing call is cut.
     Cut,
-    /// A refused call comes where a part of the frame is drawn.
+    /// A drawing call is refused where blocks of the frame are finished.
     RefusedBetween,
     /// The pictures of an accepted drawing call are longer than the frame.
     Longer,

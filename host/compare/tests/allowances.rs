@@ -7,6 +7,7 @@ use compare::{Comparison, Event, Proved, Second};
 use maker::calls::{Call, CallList};
 use maker::packet::Draft;
 use maker::{Form, Profile, Seeded, Size};
+use std::collections::BTreeSet;
 
 /// A valid packet, and the pictures that it is drawn with.
 struct Frame {
@@ -41,12 +42,10 @@ impl Frame {
 
     /// Stops of an earlier call: inside the first block, just before and just after its place is
     /// stored, half-way, a store before the end, and at the end.
-    fn stops(&self) -> Vec<usize> {
+    fn stops(&self) -> impl Iterator<Item = usize> {
         let all = self.draft.stores_from(0);
-        let mut stops = vec![10, 64, 65, all / 2, all - 1, all];
-        stops.retain(|&stop| stop <= all);
-        stops.dedup();
-        stops
+        let stops = BTreeSet::from([10, 64, 65, all / 2, all - 1, all]);
+        stops.into_iter().filter(move |&stop| stop <= all)
     }
 }
 
@@ -88,7 +87,7 @@ fn from_a_place_reached_before() {
             let place = frame.draft.place_after(0, stop);
             frame.allowances(place).map(move |allowed| vec![stop, allowed])
         };
-        frame.stops().into_iter().flat_map(after).collect()
+        frame.stops().flat_map(after).collect()
     };
     let answers = [Event::Whole, Event::WholeBefore, Event::Unfinished, Event::NothingAllowed];
     compare(lists, &answers);

@@ -33,7 +33,8 @@ fn draw(rng: &mut Seeded, packet: &Packet, found: usize, allowed: usize) -> Answ
     seen.0
 }
 
-/// Widths and heights past the limits, each with the map length that a legal size would have.
+/// Widths and heights past the limits, each with the map length that a legal size would have. They
+/// are checked, and drawn on pictures without a byte: 6, or 8 if the size is legal.
 #[test]
 fn every_size() {
     let lengths = || (0..=700).chain(EXTREMES);
@@ -44,6 +45,8 @@ fn every_size() {
             let map = vec![0x11; blocks.div_ceil(2)];
             let packet = Packet { width, height, map, data: Vec::new() };
             accepted += usize::from(check(&packet).is_ok());
+            let drawn = |decoder: &dyn Decoder| decoder.draw(&packet, &mut [], &mut [], &mut 0, 65);
+            assert_eq!(drawn(&Proved), drawn(&Second), "{width}x{height}");
         }
     }
     assert_eq!(accepted, 80 * 60);

@@ -1,8 +1,8 @@
 //! The library's answers, which are numbers.
 
-use crate::Refusal;
+use crate::{Refusal, State};
 
-/// What a call answers. The order of the fields is the library's.
+/// What a call answers. The order of the fields is the library's, here and below.
 #[repr(C)]
 #[derive(Clone, Copy, Debug)]
 pub(crate) struct Answer {
@@ -18,10 +18,40 @@ pub(crate) struct Answer {
 
 /// The kinds of answer.
 pub(crate) mod kind {
+    /// Of a check, an opening, and a step that does not draw.
     pub const ACCEPTED: usize = 0;
     pub const WHOLE: usize = 1;
     pub const UNFINISHED: usize = 2;
+    /// Of a step alone.
+    pub const ENDED: usize = 3;
     pub const REFUSED: usize = 4;
+}
+
+/// What an opening or a step answers.
+#[repr(C)]
+#[derive(Clone, Copy, Debug)]
+pub(crate) struct Moved {
+    pub answer: Answer,
+    /// The state that comes back: of a refused step the one that went in, of a refused opening
+    /// zeros.
+    pub state: Numbers,
+}
+
+/// A state of a film.
+#[repr(C)]
+#[derive(Clone, Copy, Debug, Default, PartialEq, Eq)]
+pub(crate) struct Numbers {
+    pub position: usize,
+    pub chunk_end: usize,
+    pub width: usize,
+    pub height: usize,
+    pub front: usize,
+    /// 0 where no map is pending, and then start and length are not read.
+    pub has_map: usize,
+    pub map_start: usize,
+    pub map_length: usize,
+    /// 0 where no frame is finished and unsent.
+    pub unsent: usize,
 }
 
 impl Answer {
@@ -42,6 +72,59 @@ impl Answer {
     }
 }
 
+impl Moved {
+    /// The answer and the state, if it is not a refusal; `found` is the state that a refused call
+    /// gives back.
+    pub(crate) fn taken(self, found: Numbers) -> Result<(Answer, State), Refusal> {
+        match self.answer.taken() {
+            Err(_) if self.state != found => self.unknown(),
+            Err(refusal) => Err(refusal),
+            Ok(answer) => Ok((answer, self.state.state().unwrap_or_else(|| self.unknown()))),
+        }
+    }
+
+    /// As [`Answer::unknown`].
+    fn unknown(self) -> ! {
+        panic!("libmve.a is not of the version that this crate is written for: {self:?}")
+    }
+}
+
+impl Numbers {
+    /// The state, where the numbers are such as the library gives back.
+    fn state(self) -> Option<State> {
+        let Numbers { position, chunk_end, width, height, front, .. } = self;
+        let map = match (self.has_map, self.map_start, self.map_length) {
+            (0, 0, 0) => None,
+            (1, start, length) => Some((start, length)),
+            _ => return None,
+        };
+        let unsent = match self.unsent {
+            0 => false,
+            1 => true,
+            _ => return None,
+        };
+        Some(State { position, chunk_end, width, height, front, map, unsent })
+    }
+}
+
+impl From<State> for Numbers {
+    fn from(state: State) -> Numbers {
+        let State { position, chunk_end, width, height, front, map, unsent } = state;
+        let (map_start, map_length) = map.unwrap_or((0, 0));
+        Numbers {
+            position,
+            chunk_end,
+            width,
+            height,
+            front,
+            has_map: map.is_some().into(),
+            map_start,
+            map_length,
+            unsent: unsent.into(),
+        }
+    }
+}
+
 #[cfg(test)]
 mod tests {
     use super::*;
@@ -56,5 +139,38 @@ mod tests {
             let unknown = std::panic::catch_unwind(|| refused(number, stores).taken().map(|_| ()));
             assert!(unknown.is_err(), "{number} after {stores} stores");
         }
+    }
+
+    const STATE: State = State {
+        position: 1,
+        chunk_end: 2,
+        width: 3,
+        height: 4,
+        front: 5,
+        map: Some((6, 7)),
+        unsent: true,
+    };
+
+    /// A state goes to the library and comes back the same; flags that are neither 0 nor 1 do not
+    /// come back.
+    #[test]
+    fn states() {
+        for state in [STATE, State { map: None, unsent: false, ..STATE }] {
+            assert_eq!(Numbers::from(state).state(), Some(state));
+        }
+        let numbers = Numbers::from(STATE);
+        assert_eq!(Numbers { has_map: 2, ..numbers }.state(), None);
+        assert_eq!(Numbers { has_map: 0, ..numbers }.state(), None);
+        assert_eq!(Numbers { unsent: 2, ..numbers }.state(), None);
+    }
+
+    /// A refused step that gives another state back must not pass.
+    #[test]
+    fn refused_states() {
+        let answer = Answer { kind: kind::REFUSED, number: 16, block: 0, stores: 0 };
+        let moved = Moved { answer, state: STATE.into() };
+        let refused = |found| std::panic::catch_unwind(move || moved.taken(found).map(|_| ()));
+        assert_eq!(refused(STATE.into()).ok(), Some(Err(Refusal { number: 16, block: 0 })));
+        assert!(refused(State { position: 0, ..STATE }.into()).is_err());
     }
 }

@@ -3,11 +3,11 @@
 //! The library is proved to answer every call, to read no byte that is not lent to it, to write
 //! none that is not lent for writing, and to keep nothing after it returns. It asks nothing of the
 //! values. What is left to this module is the C ABI: a slice goes as the address of its first byte
-//! and its length, and the answer comes back by value.
+//! and its length; a state goes and the answer comes back by value.
 
 #![allow(unsafe_code)]
 
-use crate::answer::Answer;
+use crate::answer::{Answer, Moved, Numbers};
 
 unsafe extern "C" {
     fn mve_check(
@@ -33,6 +33,30 @@ unsafe extern "C" {
         place: *mut usize,
         allowed: usize,
     ) -> Answer;
+
+    fn mve_open(film: *const u8, film_length: usize) -> Moved;
+
+    fn mve_step(
+        film: *const u8,
+        film_length: usize,
+        state: Numbers,
+        palette: *mut u8,
+        palette_length: usize,
+        a: *mut u8,
+        a_length: usize,
+        b: *mut u8,
+        b_length: usize,
+        place: *mut usize,
+        allowed: usize,
+    ) -> Moved;
+
+    fn mve_shown(
+        state: Numbers,
+        a: *const u8,
+        a_length: usize,
+        b: *const u8,
+        b_length: usize,
+    ) -> usize;
 }
 
 pub(crate) fn check(width: usize, height: usize, map: &[u8], data: &[u8]) -> Answer {
@@ -71,4 +95,46 @@ pub(crate) fn draw(
             allowed,
         )
     }
+}
+
+pub(crate) fn open(film: &[u8]) -> Moved {
+    // SAFETY: address and length are those of a slice that lives through the call; that of an
+    // empty slice is not null. It is only read.
+    unsafe { mve_open(film.as_ptr(), film.len()) }
+}
+
+pub(crate) fn step(
+    film: &[u8],
+    state: Numbers,
+    palette: &mut [u8],
+    a: &mut [u8],
+    b: &mut [u8],
+    place: &mut usize,
+    allowed: usize,
+) -> Moved {
+    // SAFETY: each address and length are those of a slice that lives through the call; that of an
+    // empty slice is not null. Only the palette, the pictures and `place` are written; they are
+    // borrowed mutably, so they overlap neither each other nor the film.
+    unsafe {
+        mve_step(
+            film.as_ptr(),
+            film.len(),
+            state,
+            palette.as_mut_ptr(),
+            palette.len(),
+            a.as_mut_ptr(),
+            a.len(),
+            b.as_mut_ptr(),
+            b.len(),
+            place,
+            allowed,
+        )
+    }
+}
+
+/// How many bytes of the front picture are shown.
+pub(crate) fn shown(state: Numbers, a: &[u8], b: &[u8]) -> usize {
+    // SAFETY: each address and length are those of a slice that lives through the call; that of an
+    // empty slice is not null. Both are only read.
+    unsafe { mve_shown(state, a.as_ptr(), a.len(), b.as_ptr(), b.len()) }
 }

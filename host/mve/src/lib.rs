@@ -5,6 +5,9 @@
 //! input and answers it; a refused call leaves everything lent to it as it was. None panics, unless
 //! the library that is linked is not the one this crate is written for.
 //!
+//! [`open`] opens a film, [`step`] takes it chunk by chunk and opcode by opcode, keeping the palette
+//! and drawing the pictures that are lent to it, and [`shown`] is the picture to show.
+//!
 //! A frame comes as a packet: a map with a code for each 8x8 block, and the blocks' data. [`check`]
 //! tells whether a packet is valid, [`draw`] draws it, at once or in pieces.
 //!
@@ -27,8 +30,10 @@
 
 mod answer;
 mod ffi;
+mod film;
 mod packet;
 mod refusal;
 
+pub use film::{open, shown, step, State, Step};
 pub use packet::{check, draw, Drawn};
 pub use refusal::Refusal;

@@ -1,0 +1,16 @@
+use Rattle.mve.proofs.Films.{step-is}
+use borrow.Author.Needs.{needs}
+use Rattle.mve.proofs.stepped_with.Statement.{statement}
+use Rattle.mve.proofs.stepped_with.Tie as tie
+use Rattle.mve.proofs.stepped_with.Reads as reads
+use Rattle.mve.proofs.stepped_with.Lts as lts
+use Rattle.mve.proofs.of_state.Reads as of-state-reads
+
+of-state-requires : tie.Need-of-state-requires
+of-state-requires c κs = search needs
+
+returns : tie.Need-returns
+returns c = step-is _ _ _ _ (c .of-state .ensures)
+
+pub stepped-with-spec : {M : Type 1} → statement M
+stepped-with-spec = tie.close (tie.spec of-state-requires returns)

@@ -1,0 +1,206 @@
+//! A film: opening it, stepping over it, and the picture that it shows.
+
+use crate::answer::{kind, Answer, Numbers};
+use crate::{ffi, Refusal};
+
+/// The state of a film between two steps.
+///
+/// It goes into a step and comes back. Any numbers may stand in it: those that no film gives are
+/// refused with 16.
+#[derive(Clone, Copy, Debug, PartialEq, Eq, Hash)]
+pub struct State {
+    /// Where the next chunk head or opcode is read.
+    pub position: usize,
+    /// The end of the chunk that is being read.
+    pub chunk_end: usize,
+    /// The frame's width in pixels; 0 before opcode 05.
+    pub width: usize,
+    /// The frame's height in pixels; 0 before opcode 05.
+    pub height: usize,
+    /// Which lent picture is the shown one: 0 the first, 1 the second. The other one is drawn on.
+    pub front: usize,
+    /// The start and the length of the map that waits in the film for its video data.
+    pub map: Option<(usize, usize)>,
+    /// Whether a frame is finished and not sent to the display yet.
+    pub unsent: bool,
+}
+
+/// How a step went that was not refused, with the state for the next one.
+#[derive(Clone, Copy, Debug, PartialEq, Eq, Hash)]
+pub enum Step {
+    /// A chunk head, or an opcode other than 11, is taken.
+    Taken(State),
+    /// Opcode 11 is taken and its frame drawn. With the stores that the step made.
+    Whole(State, usize),
+    /// The stores allowed were used up before opcode 11's frame was drawn; the next step goes on
+    /// with it. With the stores that the step made.
+    Unfinished(State, usize),
+    /// The film is at its end. Nothing has changed.
+    Ended(State),
+}
+
+impl Step {
+    /// The state for the next step.
+    ///
+    /// ```
+    /// // A film of no chunk: it ends where it opens.
+    /// let film = b"Interplay MVE File\x1A\0\x1A\0\0\x01\x33\x11";
+    /// let state = mve::open(film)?;
+    /// let step = mve::step(film, state, &mut [0; 768], &mut [], &mut [], &mut 0, 0)?;
+    /// assert_eq!(step, mve::Step::Ended(state));
+    /// assert_eq!(step.state(), state);
+    /// # Ok::<(), mve::Refusal>(())
+    /// ```
+    pub const fn state(self) -> State {
+        match self {
+            Step::Taken(state)
+            | Step::Whole(state, _)
+            | Step::Unfinished(state, _)
+            | Step::Ended(state) => state,
+        }
+    }
+}
+
+/// Opens a film: its first state.
+///
+/// # Errors
+///
+/// 1 where the film's header is wrong or short.
+///
+/// # Examples
+///
+/// ```
+/// use mve::{open, Refusal, State};
+///
+/// let film = b"Interplay MVE File\x1A\0\x1A\0\0\x01\x33\x11";
+/// let first = State {
+///     position: 26,
+///     chunk_end: 26,
+///     width: 0,
+///     height: 0,
+///     front: 0,
+///     map: None,
+///     unsent: false,
+/// };
+/// assert_eq!(open(film), Ok(first));
+/// assert_eq!(open(&film[..25]), Err(Refusal { number: 1, block: 0 }));
+/// ```
+pub fn open(film: &[u8]) -> Result<State, Refusal> {
+    let moved = ffi::open(film);
+    match moved.taken(Numbers::default())? {
+        (Answer { kind: kind::ACCEPTED, number: 0, block: 0, stores: 0 }, state) => Ok(state),
+        (other, _) => other.unknown(),
+    }
+}
+
+/// Takes one step over a film: a chunk head where position and chunk end are equal, else an opcode.
+///
+/// Lend the same film, palette, pictures and place to every step, and give each step the state that
+/// the one before gave. The palette has 256 entries of red, green and blue, 0 to 63. The pictures
+/// have a byte a pixel, row by row; one is shown, the other drawn on, and [`State::front`] tells
+/// which. They may be longer than the frame: what lies beyond it is never touched. The place is
+/// that of [`draw`](crate::draw); start with 0.
+///
+/// `allowed` limits the stores of opcode 11; every other step ignores it. No frame has more than
+/// 312,000 stores.
+///
+/// # Errors
+///
+/// In this order: 16 for the state, 8 for a palette that has not 768 bytes or, once a size is known,
+/// for a picture shorter than the frame, then what is wrong with the film: 2 to 7, 9, and 10 to 15
+/// as in [`draw`](crate::draw). A refused step changes nothing, so the state that went in still
+/// holds.
+///
+/// # Examples
+///
+/// A film of one frame of one block. Its opcodes are 05, the size; 01, the chunk's end; 0F, a map
+/// of code E; 11, that block's colour; 07, which sends the frame to the display; 01.
+///
+/// ```
+/// use mve::{open, shown, step, Refusal, State, Step};
+///
+/// let film = [
+///     &b"Interplay MVE File\x1A\0\x1A\0\0\x01\x33\x11"[..],
+///     &[0x0c, 0, 2, 0, 4, 0, 0x05, 0, 8, 0, 8, 0, 0, 0, 0x01, 0],
+///     &[0x24, 0, 3, 0, 1, 0, 0x0f, 0, 0x0e, 15, 0, 0x11, 0],
+///     &[0; 14],
+///     &[0x2a, 4, 0, 0x07, 0, 0, 0, 0, 0, 0, 0, 0x01, 0],
+/// ]
+/// .concat();
+/// assert_eq!(film.len(), 82);
+///
+/// let (mut palette, mut a, mut b, mut place) = ([0; 768], [0; 64], [0; 64], 0);
+/// let mut state = open(&film)?;
+/// let mut opcodes = Vec::new();
+/// loop {
+///     if state.position < state.chunk_end {
+///         opcodes.push((state.position, film[state.position + 2]));
+///     }
+///     match step(&film, state, &mut palette, &mut a, &mut b, &mut place, 312_000)? {
+///         Step::Ended(_) => break,
+///         Step::Whole(next, stores) => {
+///             assert_eq!(stores, 65);
+///             assert_eq!(shown(&next, &a, &b), [0; 64]); // drawn, but not sent yet
+///             state = next;
+///         }
+///         next => state = next.state(),
+///     }
+/// }
+/// assert_eq!(opcodes, [(30, 5), (38, 1), (46, 15), (51, 17), (70, 7), (78, 1)]);
+/// assert_eq!(state, State { position: 82, chunk_end: 82, front: 1, map: None, ..state });
+/// assert_eq!(shown(&state, &a, &b), [0x2a; 64]);
+///
+/// // No film gives this state.
+/// let wrong = State { position: 83, ..state };
+/// let refused = step(&film, wrong, &mut palette, &mut a, &mut b, &mut place, 312_000);
+/// assert_eq!(refused, Err(Refusal { number: 16, block: 0 }));
+/// # Ok::<(), Refusal>(())
+/// ```
+pub fn step(
+    film: &[u8],
+    state: State,
+    palette: &mut [u8],
+    a: &mut [u8],
+    b: &mut [u8],
+    place: &mut usize,
+    allowed: usize,
+) -> Result<Step, Refusal> {
+    let found = Numbers::from(state);
+    let moved = ffi::step(film, found, palette, a, b, place, allowed);
+    let (answer, state) = moved.taken(found)?;
+    match answer {
+        Answer { kind: kind::ACCEPTED, number: 0, block: 0, stores: 0 } => Ok(Step::Taken(state)),
+        Answer { kind: kind::WHOLE, number: 0, block: 0, stores } => Ok(Step::Whole(state, stores)),
+        Answer { kind: kind::UNFINISHED, number: 0, block: 0, stores } => {
+            Ok(Step::Unfinished(state, stores))
+        }
+        Answer { kind: kind::ENDED, number: 0, block: 0, stores: 0 } => Ok(Step::Ended(state)),
+        other => other.unknown(),
+    }
+}
+
+/// The shown picture: the leading part of the lent picture that is front.
+///
+/// It is empty where there is no size yet, where front or size is one that no film gives, and
+/// where that picture is shorter than the frame.
+///
+/// # Examples
+///
+/// ```
+/// use mve::{open, shown, State};
+///
+/// let (a, b) = ([1; 200], [2; 128]);
+/// let opened = open(b"Interplay MVE File\x1A\0\x1A\0\0\x01\x33\x11")?;
+/// assert_eq!(shown(&opened, &a, &b), []);
+/// let sized = State { width: 16, height: 8, ..opened };
+/// assert_eq!(shown(&sized, &a, &b), [1; 128]);
+/// assert_eq!(shown(&State { front: 1, ..sized }, &a, &b), [2; 128]);
+/// assert_eq!(shown(&State { front: 2, ..sized }, &a, &b), []);
+/// assert_eq!(shown(&sized, &a[..127], &b), []);
+/// # Ok::<(), mve::Refusal>(())
+/// ```
+pub fn shown<'a>(state: &State, a: &'a [u8], b: &'a [u8]) -> &'a [u8] {
+    let count = ffi::shown((*state).into(), a, b);
+    let front = if state.front == 0 { a } else { b };
+    &front[..count]
+}
