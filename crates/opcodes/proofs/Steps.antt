@@ -17,6 +17,10 @@ use Rattle.state.specs.declared.Map.the-variants.{Missing}
 use Rattle.state.specs.declared.State.{State}
 use Rattle.opcodes.specs.Opcodes.{Step, taken, drawnWhole, drawnPart, refused, at, behind, sized, sent, mapped, sizeStep, colourOf, shownNext, quietStep, drawnAs, drawnStep}
 
+-- a cursor moved in its chunk
+pub moved-behind : (st : State) (p q e : ℕ) (r : State) → q ≡ p → e ≡ st .cursor .«chunk_end» → r ≡ at st q e → r ≡ behind st p
+moved-behind st p q e r f g h = h ∙ ap (λ (x : ℕ). at st x e) f ∙ ap (at st p) g
+
 -- ---- 05
 
 module _ (st : State) (p w h colour : ℕ) where

@@ -42,7 +42,8 @@ pub fn state_behind(st: State, p: usize) -> State
     ensures { λ r. ⌜ r ≡ behind st p ⌝ }
 {
     let c = st.cursor;
-    state_at(st, p, c.chunk_end)
+    let next = c.moved(p);
+    state_at(st, next.position, next.chunk_end)
 }
 
 fn state_sized(st: State, p: usize, w: usize, h: usize) -> State

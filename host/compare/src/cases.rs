@@ -1,10 +1,12 @@
-//! The cases: packets and lists of calls, each made from a seed and a number of its own, so that
-//! any one can be made again by itself.
+//! The cases: packets, lists of calls and films, each made from a seed and a number of its own, so
+//! that any one can be made again by itself.
 
 use maker::calls::{self, Call, CallList};
 use maker::packet::{self, Draft};
 use maker::packet_damage::{damaged, Damage};
-use maker::{Form, Packet, Profile, Seeded, Size};
+use maker::states::{self, Start};
+use maker::{film_damage, Form, Packet, Profile, Seeded, Size};
+use reference::film::{State, Stepped};
 
 /// The packet of a case: valid, damaged or hostile.
 pub fn packet(seed: u64, number: u64) -> Packet {
@@ -35,6 +37,109 @@ pub fn list(seed: u64, number: u64) -> CallList {
             list_of_packet(rng, packet, pixels)
         }
     }
+}
+
+/// How many steps over a film are compared at most.
+const STEPS: usize = 300;
+
+/// A film to step over.
+#[derive(Clone, Debug)]
+pub struct Walk {
+    /// The film.
+    pub film: Vec<u8>,
+    /// Where to start; at the opening if none.
+    pub state: Option<State>,
+    /// The lent palette.
+    pub palette: Vec<u8>,
+    /// The two lent pictures.
+    pub pictures: [Vec<u8>; 2],
+    /// The lent place.
+    pub place: usize,
+    /// The stores allowed, step by step; as many steps are taken at most.
+    pub allowances: Vec<usize>,
+}
+
+/// The film of a case. Most are walked from the opening: valid, damaged in an opcode or in a byte,
+/// or hostile. The others are walked on from a state in the middle, good or hostile, and some of
+/// them have bytes changed that the next step reads.
+pub fn film(seed: u64, number: u64) -> Walk {
+    let rng = &mut chance(seed, number);
+    match rng.below(16) {
+        0..=2 => {
+            let film = maker::film::valid(rng).bytes();
+            from_opening(rng, film)
+        }
+        3..=7 => {
+            let damage = rng.pick(&film_damage::Damage::ALL);
+            let film = film_damage::damaged(rng, damage);
+            from_opening(rng, film)
+        }
+        8 | 9 => {
+            let film = film_damage::scratched(rng);
+            from_opening(rng, film)
+        }
+        10 => {
+            let film = maker::film::hostile(rng);
+            from_opening(rng, film)
+        }
+        _ => from_middle(rng),
+    }
+}
+
+fn from_opening(rng: &mut Seeded, film: Vec<u8>) -> Walk {
+    let pixels = pixels(&film);
+    let pictures = [(); 2].map(|()| {
+        let zero = rng.one_in(4);
+        let picture = picture(rng, pixels);
+        if zero {
+            vec![0; picture.len()]
+        } else {
+            picture
+        }
+    });
+    let length = if rng.one_in(32) { rng.pick(&[0, 767, 769]) } else { 768 };
+    let palette = if rng.one_in(4) { vec![0; length] } else { rng.bytes(length) };
+    let place = if rng.one_in(8) { rng.pick(&[1, 5000, usize::MAX]) } else { 0 };
+    let allowances = allowances(rng, pixels.div_ceil(64));
+    Walk { film, state: None, palette, pictures, place, allowances }
+}
+
+fn from_middle(rng: &mut Seeded) -> Walk {
+    let frames = rng.between(1, 2);
+    let film = maker::film::with_frames(rng, frames);
+    let start = match rng.below(4) {
+        0 => states::middle(rng, &film),
+        _ => states::hostile(rng, &film),
+    };
+    let bytes =
+        if rng.one_in(4) { states::scratched_ahead(rng, &film, &start) } else { film.bytes() };
+    let Start { state, palette, picture_a, picture_b, place, .. } = start;
+    let allowances = allowances(rng, film.size.blocks());
+    let pictures = [picture_a, picture_b];
+    Walk { film: bytes, state: Some(state), palette, pictures, place, allowances }
+}
+
+/// The pixels of a film's frames; 0 where no step gives it a size. Pictures without a byte do until
+/// then.
+fn pixels(film: &[u8]) -> usize {
+    let Ok(state) = reference::film::open(film) else { return 0 };
+    let (palette, picture_a, picture_b) = (vec![0; 768], Vec::new(), Vec::new());
+    let mut walk = Start { state, palette, picture_a, picture_b, place: 0, allowed: 0 };
+    while let Stepped::Taken(state) = walk.step(film) {
+        walk.state = state;
+    }
+    walk.state.width * walk.state.height
+}
+
+/// Any allowances, all stores at each step, or few at each.
+fn allowances(rng: &mut Seeded, blocks: usize) -> Vec<usize> {
+    let style = rng.below(4);
+    let allowance = |_| match style {
+        0 => 312_000,
+        1 => rng.between(0, 400),
+        _ => calls::allowance(rng, blocks),
+    };
+    (0..STEPS).map(allowance).collect()
 }
 
 /// The source of chance of one case. Cases of one seed start side by side, those of two seeds far

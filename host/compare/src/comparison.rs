@@ -14,9 +14,9 @@ use std::ops::Range;
 /// Two decoders, and a tally of what they were compared on.
 #[derive(Clone, Debug)]
 pub struct Comparison<A, B> {
-    first: A,
-    second: B,
-    tally: Tally,
+    pub(crate) first: A,
+    pub(crate) second: B,
+    pub(crate) tally: Tally,
 }
 
 impl<A: Decoder, B: Decoder> Comparison<A, B> {
@@ -68,6 +68,7 @@ impl<A: Decoder, B: Decoder> Comparison<A, B> {
             let compared = match kind {
                 Kind::Packets => self.check(&cases::packet(seed, number)),
                 Kind::Lists => self.draw(&cases::list(seed, number)),
+                Kind::Films => self.walk(&cases::film(seed, number)),
             };
             compared.map_err(|difference| Found {
                 kind,
@@ -87,6 +88,13 @@ pub enum Kind {
     Packets,
     /// Packets to draw by a list of calls.
     Lists,
+    /// Films to step over.
+    Films,
+}
+
+impl Kind {
+    /// Every kind.
+    pub const ALL: [Kind; 3] = [Kind::Packets, Kind::Lists, Kind::Films];
 }
 
 impl fmt::Display for Kind {
@@ -94,6 +102,7 @@ impl fmt::Display for Kind {
         f.write_str(match self {
             Kind::Packets => "packets",
             Kind::Lists => "lists",
+            Kind::Films => "films",
         })
     }
 }
@@ -101,7 +110,7 @@ impl fmt::Display for Kind {
 /// A difference, and the case that shows it: [`cases`] makes it again.
 #[derive(Clone, Debug, PartialEq, Eq)]
 pub struct Found {
-    /// Whether a packet or a list shows it.
+    /// The kind of the case.
     pub kind: Kind,
     /// The seed of the cases.
     pub seed: u64,

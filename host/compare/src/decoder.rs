@@ -1,6 +1,8 @@
-//! What is compared: anything that checks packets and draws them.
+//! What is compared: anything that checks packets and draws them, and that walks films.
 
+use maker::states::Start;
 use maker::Packet;
+use reference::film::{self, Span, State, Stepped};
 use reference::{Drawn, Refusal};
 
 /// What a check answers.
@@ -9,7 +11,26 @@ pub type Checked = Result<(), Refusal>;
 /// What a drawing call answers.
 pub type Answer = Result<Drawn, Refusal>;
 
-/// A decoder of packets.
+/// What opening a film answers.
+pub type Opened = Result<State, Refusal>;
+
+/// What a step answers, beside the state.
+pub type Walked = Result<Step, Refusal>;
+
+/// The kinds of a step that is not refused.
+#[derive(Clone, Copy, Debug, PartialEq, Eq)]
+pub enum Step {
+    /// A chunk head, or an opcode other than 11, is taken.
+    Taken,
+    /// Opcode 11 is taken and its frame drawn, with so many stores.
+    Whole(usize),
+    /// Opcode 11's frame is not drawn yet. With the stores made.
+    Unfinished(usize),
+    /// The film is at its end.
+    Ended,
+}
+
+/// A decoder of packets and films.
 pub trait Decoder {
     /// What the decoder is called in a report.
     fn name(&self) -> &'static str;
@@ -27,6 +48,16 @@ pub trait Decoder {
         place: &mut usize,
         allowed: usize,
     ) -> Answer;
+
+    /// Opens a film.
+    fn open(&self, film: &[u8]) -> Opened;
+
+    /// Takes a step over a film: from the state in `walk`, with what is lent there. The state that
+    /// comes back takes its place.
+    fn step(&self, film: &[u8], walk: &mut Start) -> Walked;
+
+    /// The shown picture.
+    fn shown<'a>(&self, state: &State, a: &'a [u8], b: &'a [u8]) -> &'a [u8];
 }
 
 /// The proved library.
@@ -56,6 +87,28 @@ impl Decoder for Proved {
             .map(common_drawn)
             .map_err(common_refusal)
     }
+
+    fn open(&self, film: &[u8]) -> Opened {
+        mve::open(film).map(common_state).map_err(common_refusal)
+    }
+
+    fn step(&self, film: &[u8], walk: &mut Start) -> Walked {
+        let Start { state, palette, picture_a, picture_b, place, allowed } = walk;
+        let stepped =
+            mve::step(film, own_state(state), palette, picture_a, picture_b, place, *allowed)
+                .map_err(common_refusal)?;
+        *state = common_state(stepped.state());
+        Ok(match stepped {
+            mve::Step::Taken(_) => Step::Taken,
+            mve::Step::Whole(_, stores) => Step::Whole(stores),
+            mve::Step::Unfinished(_, stores) => Step::Unfinished(stores),
+            mve::Step::Ended(_) => Step::Ended,
+        })
+    }
+
+    fn shown<'a>(&self, state: &State, a: &'a [u8], b: &'a [u8]) -> &'a [u8] {
+        mve::shown(&own_state(state), a, b)
+    }
 }
 
 fn common_refusal(refusal: mve::Refusal) -> Refusal {
@@ -64,6 +117,18 @@ fn common_refusal(refusal: mve::Refusal) -> Refusal {
 
 fn common_drawn(drawn: mve::Drawn) -> Drawn {
     Drawn { whole: matches!(drawn, mve::Drawn::Whole { .. }), stores: drawn.stores() }
+}
+
+fn common_state(state: mve::State) -> State {
+    let mve::State { position, chunk_end, width, height, front, map, unsent } = state;
+    let map = map.map(|(start, length)| Span { start, length });
+    State { position, chunk_end, width, height, front, map, unsent }
+}
+
+fn own_state(state: &State) -> mve::State {
+    let State { position, chunk_end, width, height, front, map, unsent } = *state;
+    let map = map.map(|Span { start, length }| (start, length));
+    mve::State { position, chunk_end, width, height, front, map, unsent }
 }
 
 /// The second decoder.
@@ -90,5 +155,25 @@ impl Decoder for Second {
     ) -> Answer {
         let Packet { width, height, map, data } = packet;
         reference::draw(*width, *height, map, data, front, back, place, allowed)
+    }
+
+    fn open(&self, film: &[u8]) -> Opened {
+        film::open(film)
+    }
+
+    fn step(&self, film: &[u8], walk: &mut Start) -> Walked {
+        let (step, state) = match walk.step(film) {
+            Stepped::Taken(state) => (Step::Taken, state),
+            Stepped::Whole(state, stores) => (Step::Whole(stores), state),
+            Stepped::Unfinished(state, stores) => (Step::Unfinished(stores), state),
+            Stepped::Ended(state) => (Step::Ended, state),
+            Stepped::Refused(refusal) => return Err(refusal),
+        };
+        walk.state = state;
+        Ok(step)
+    }
+
+    fn shown<'a>(&self, state: &State, a: &'a [u8], b: &'a [u8]) -> &'a [u8] {
+        film::shown(state, a, b)
     }
 }

@@ -16,6 +16,16 @@ pub enum Part {
     /// A byte of the picture drawn on that the call must leave: beyond the frame, or any byte if
     /// the call is refused.
     Kept(usize),
+    /// The state of a film after a step.
+    State,
+    /// A byte of the palette.
+    Palette(usize),
+    /// A byte of the first lent picture.
+    PictureA(usize),
+    /// A byte of the second lent picture.
+    PictureB(usize),
+    /// The part of a lent picture that is shown.
+    Shown,
 }
 
 impl fmt::Display for Part {
@@ -26,6 +36,11 @@ impl fmt::Display for Part {
             Part::Front(index) => write!(f, "byte {index} of front"),
             Part::Back(index) => write!(f, "byte {index} of back"),
             Part::Kept(index) => write!(f, "byte {index} of back, which the call must leave"),
+            Part::State => write!(f, "state"),
+            Part::Palette(index) => write!(f, "byte {index} of the palette"),
+            Part::PictureA(index) => write!(f, "byte {index} of the first picture"),
+            Part::PictureB(index) => write!(f, "byte {index} of the second picture"),
+            Part::Shown => write!(f, "shown picture"),
         }
     }
 }
@@ -33,7 +48,8 @@ impl fmt::Display for Part {
 /// The first thing that two accounts of a case differ in.
 #[derive(Clone, Debug, PartialEq, Eq)]
 pub struct Difference {
-    /// The number of the drawing call in its list, from 0; 0 for a check.
+    /// The number of the drawing call in its list, from 0; 0 for a check. Of a film, the number
+    /// of the step, from 1; 0 for the opening.
     pub call: usize,
     /// What differs.
     pub part: Part,
@@ -50,9 +66,9 @@ impl fmt::Display for Difference {
 
 impl std::error::Error for Difference {}
 
-/// The first index at which two pictures differ; they have one length.
+/// The first index at which two pictures or palettes differ; they have one length.
 pub(crate) fn first_difference(one: &[u8], other: &[u8]) -> Option<usize> {
-    assert_eq!(one.len(), other.len(), "pictures of one call");
+    assert_eq!(one.len(), other.len(), "bytes lent to one call");
     if one == other {
         return None;
     }

@@ -2,9 +2,9 @@
 //!
 //! Both are [`Decoder`]s. A [`Comparison`] gives them the same seeded cases and compares whatever
 //! can be seen of each call: the answer with its number, block and count, the place, and every byte
-//! of both pictures. Lists of drawing calls are held against the book of demand 3, too. The first
-//! thing that differs ends it, with the seed and the number of the case; a [`Tally`] counts what
-//! the cases reached.
+//! of both pictures. Lists of drawing calls are held against the book of demand 3, too. Films are
+//! compared step by step, with their state, palette and shown picture. The first thing that differs
+//! ends it, with the seed and the number of the case; a [`Tally`] counts what the cases reached.
 //!
 //! In comments "01" is the scope document.
 
@@ -12,9 +12,10 @@ pub mod cases;
 pub mod comparison;
 pub mod decoder;
 pub mod difference;
+mod film;
 pub mod tally;
 
 pub use comparison::{Comparison, Found, Kind};
-pub use decoder::{Answer, Checked, Decoder, Proved, Second};
+pub use decoder::{Answer, Checked, Decoder, Opened, Proved, Second, Step, Walked};
 pub use difference::{Difference, Part};
 pub use tally::{Event, Tally};

@@ -1,5 +1,5 @@
 //! A long comparison of the proved library with the second decoder, run by hand:
-//! `compare SEED COUNT [packets|lists]`.
+//! `compare SEED COUNT [packets|lists|films]`.
 
 use compare::{Comparison, Found, Kind, Proved, Second};
 use std::env;
@@ -12,10 +12,10 @@ const PROGRESS: Duration = Duration::from_secs(10);
 fn main() -> ExitCode {
     let arguments: Vec<String> = env::args().skip(1).collect();
     let Some((seed, count, kinds)) = parsed(&arguments) else {
-        eprintln!("usage: compare SEED COUNT [packets|lists]");
+        eprintln!("usage: compare SEED COUNT [packets|lists|films]");
         return ExitCode::from(2);
     };
-    match compare(seed, count, kinds) {
+    match compare(seed, count, &kinds) {
         Ok(compared) => {
             println!("seed {seed}: {compared}: no difference");
             ExitCode::SUCCESS
@@ -29,15 +29,16 @@ fn main() -> ExitCode {
 }
 
 /// Seed, cases of each kind, and the kinds.
-fn parsed(arguments: &[String]) -> Option<(u64, u64, &'static [Kind])> {
-    let (numbers, kinds) = match arguments {
-        [seed, count] => ([seed, count], &[Kind::Packets, Kind::Lists][..]),
-        [seed, count, kind] if kind == "packets" => ([seed, count], &[Kind::Packets][..]),
-        [seed, count, kind] if kind == "lists" => ([seed, count], &[Kind::Lists][..]),
+fn parsed(arguments: &[String]) -> Option<(u64, u64, Vec<Kind>)> {
+    let (seed, count, kinds) = match arguments {
+        [seed, count] => (seed, count, Kind::ALL.to_vec()),
+        [seed, count, name] => {
+            let kind = Kind::ALL.into_iter().find(|kind| kind.to_string() == *name)?;
+            (seed, count, vec![kind])
+        }
         _ => return None,
     };
-    let [seed, count] = numbers.map(|number| number.parse().ok());
-    Some((seed?, count?, kinds))
+    Some((seed.parse().ok()?, count.parse().ok()?, kinds))
 }
 
 /// Compares so many cases of each kind; what was compared, in words.

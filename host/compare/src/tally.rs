@@ -1,9 +1,11 @@
 //! Counts of what the cases reached.
 
-use crate::decoder::{Answer, Checked};
+use crate::decoder::{Answer, Checked, Step, Walked};
 use maker::calls::Call;
+use maker::states::Start;
 use maker::{Form, Packet};
-use reference::Drawn;
+use reference::film::{opcode_head, State};
+use reference::{Drawn, Refusal};
 use std::collections::BTreeMap;
 use std::fmt;
 use std::ops::Range;
@@ -13,15 +15,15 @@ use std::ops::Range;
 pub enum Event {
     /// A packet is accepted by a check.
     Accepted,
-    /// A check or a drawing call is refused with this number.
+    /// A check, a drawing call, an opening or a step is refused with this number.
     Refused(u8),
     /// A refusal names a block behind the first.
     LaterBlock,
-    /// A drawing call finishes the frame.
+    /// A drawing call or a step finishes the frame.
     Whole,
-    /// A drawing call finds the frame finished.
+    /// A drawing call or a step finds the frame finished.
     WholeBefore,
-    /// A drawing call leaves the frame unfinished.
+    /// A drawing call or a step leaves the frame unfinished.
     Unfinished,
     /// An accepted drawing call is allowed no store.
     NothingAllowed,
@@ -31,12 +33,26 @@ pub enum Event {
     RefusedBetween,
     /// The pictures of an accepted drawing call are longer than the frame.
     Longer,
-    /// A block of this form is in an accepted packet, or is finished by a drawing call.
+    /// A block of this form is in an accepted packet, or is finished by a drawing call or a step.
     Form(Form),
     /// A frame of 8x8 is accepted, or finished.
     Smallest,
     /// A frame of 640x480 is accepted, or finished.
     Largest,
+    /// A film is opened.
+    Opened,
+    /// A step takes a chunk head or an opcode other than 11.
+    Taken,
+    /// A step finds the film at its end.
+    Ended,
+    /// A step takes an opcode of this type.
+    Opcode(u8),
+    /// A step makes the picture drawn on the shown one.
+    Turned,
+    /// A step changes the palette.
+    Coloured,
+    /// A picture is shown after a step.
+    Shown,
 }
 
 /// How many cases were compared, and what they reached.
@@ -46,7 +62,11 @@ pub struct Tally {
     pub packets: usize,
     /// Drawing calls made.
     pub calls: usize,
-    /// Stores made by them.
+    /// Films opened, or refused at that.
+    pub films: usize,
+    /// Steps taken over films.
+    pub steps: usize,
+    /// Stores made by calls and steps.
     pub stores: usize,
     reached: BTreeMap<Event, usize>,
 }
@@ -99,7 +119,75 @@ impl Tally {
         }
     }
 
-    fn refused(&mut self, refusal: reference::Refusal) {
+    /// Counts an opening.
+    pub(crate) fn opened(&mut self, answer: Result<State, Refusal>) {
+        self.films += 1;
+        match answer {
+            Err(refusal) => self.refused(refusal),
+            Ok(_) => self.note(Event::Opened),
+        }
+    }
+
+    /// Counts a step over a film; `shown` tells whether a picture is shown after it.
+    pub(crate) fn stepped(
+        &mut self,
+        film: &[u8],
+        found: &Start,
+        left: &Start,
+        answer: Walked,
+        shown: bool,
+    ) {
+        self.steps += 1;
+        match answer {
+            Err(refusal) => self.refused(refusal),
+            Ok(Step::Taken) => {
+                self.note(Event::Taken);
+                self.opcode(film, &found.state);
+            }
+            Ok(Step::Whole(stores)) => {
+                self.stores += stores;
+                self.note(if stores > 0 { Event::Whole } else { Event::WholeBefore });
+                self.opcode(film, &found.state);
+                self.video(film, found, left.place);
+            }
+            Ok(Step::Unfinished(stores)) => {
+                self.stores += stores;
+                self.note(Event::Unfinished);
+                self.video(film, found, left.place);
+            }
+            Ok(Step::Ended) => self.note(Event::Ended),
+        }
+        if found.state.front != left.state.front {
+            self.note(Event::Turned);
+        }
+        if found.palette != left.palette {
+            self.note(Event::Coloured);
+        }
+        if shown {
+            self.note(Event::Shown);
+        }
+    }
+
+    /// The opcode that a step took, if it was no chunk head.
+    fn opcode(&mut self, film: &[u8], state: &State) {
+        if let Ok(head) = opcode_head(film, state.position, state.chunk_end) {
+            self.note(Event::Opcode(head.kind));
+        }
+    }
+
+    /// The blocks that a step over opcode 11 finished.
+    fn video(&mut self, film: &[u8], found: &Start, place: usize) {
+        let State { position, chunk_end, width, height, map, .. } = found.state;
+        let body = opcode_head(film, position, chunk_end).ok().and_then(|head| head.body.of(film));
+        let map = map.and_then(|map| map.of(film));
+        let data = body.and_then(|body| body.get(14..));
+        if let (Some(map), Some(data)) = (map, data) {
+            let packet = Packet { width, height, map: map.to_vec(), data: data.to_vec() };
+            self.forms(&packet, found.place..place);
+        }
+    }
+
+    fn refused(&mut self, refusal: Refusal) {
         self.note(Event::Refused(refusal.number));
         if refusal.block > 0 {
             self.note(Event::LaterBlock);
@@ -148,7 +236,7 @@ impl Tally {
 
 impl fmt::Display for Tally {
     fn fmt(&self, f: &mut fmt::Formatter<'_>) -> fmt::Result {
-        let Tally { packets, calls, stores, .. } = self;
-        write!(f, "{packets} packets, {calls} calls, {stores} stores")
+        let Tally { packets, calls, films, steps, stores, .. } = self;
+        write!(f, "{packets} packets, {calls} calls, {films} films, {steps} steps, {stores} stores")
     }
 }

@@ -2,8 +2,12 @@
 //! each fault is reported, as what it is, within the first cases that the other tests go through.
 //! Several are those that 01 names ("Slips that look right", "These must not get through").
 
-use compare::{cases, Answer, Checked, Comparison, Decoder, Found, Kind, Part, Second};
+use compare::{
+    cases, Answer, Checked, Comparison, Decoder, Found, Kind, Opened, Part, Second, Walked,
+};
+use maker::states::Start;
 use maker::{Form, Packet};
+use reference::film::State;
 use reference::{Drawn, Refusal};
 
 const SEED: u64 = 1;
@@ -48,6 +52,18 @@ impl<C: Fn(Checked) -> Checked, D: Fn(&mut Made<'_>)> Decoder for Faulty<C, D> {
         let mut made = Made { packet, found, front, back, place, answer };
         (self.draw)(&mut made);
         made.answer
+    }
+
+    fn open(&self, film: &[u8]) -> Opened {
+        Second.open(film)
+    }
+
+    fn step(&self, film: &[u8], walk: &mut Start) -> Walked {
+        Second.step(film, walk)
+    }
+
+    fn shown<'a>(&self, state: &State, a: &'a [u8], b: &'a [u8]) -> &'a [u8] {
+        Second.shown(state, a, b)
     }
 }
 

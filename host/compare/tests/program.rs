@@ -21,16 +21,20 @@ fn ends_with_the_counts() {
 fn runs_one_kind() {
     let output = run(&["7", "60", "packets"]);
     let text = String::from_utf8(output.stdout).expect("text");
-    assert_eq!(text, "seed 7: 60 packets, 0 calls, 0 stores: no difference\n");
+    assert_eq!(text, "seed 7: 60 packets, 0 calls, 0 films, 0 steps, 0 stores: no difference\n");
     let output = run(&["7", "60", "lists"]);
     let text = String::from_utf8(output.stdout).expect("text");
     assert!(text.starts_with("seed 7: 60 packets, ") && !text.contains(" 0 calls"), "{text}");
+    let output = run(&["7", "60", "films"]);
+    let text = String::from_utf8(output.stdout).expect("text");
+    assert!(text.starts_with("seed 7: 0 packets, 0 calls, 60 films, "), "{text}");
+    assert!(!text.contains(" 0 steps"), "{text}");
 }
 
 #[test]
 fn tells_its_usage() {
     for arguments in
-        [&[][..], &["7"], &["7", "many"], &["7", "60", "films"], &["7", "60", "lists", "1"]]
+        [&[][..], &["7"], &["7", "many"], &["7", "60", "film"], &["7", "60", "lists", "1"]]
     {
         let output = run(arguments);
         assert_eq!(output.status.code(), Some(2), "{arguments:?}");

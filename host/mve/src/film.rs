@@ -204,3 +204,26 @@ pub fn shown<'a>(state: &State, a: &'a [u8], b: &'a [u8]) -> &'a [u8] {
     let front = if state.front == 0 { a } else { b };
     &front[..count]
 }
+
+#[cfg(test)]
+mod tests {
+    use super::*;
+
+    const HEADER: &[u8] = b"Interplay MVE File\x1A\0\x1A\0\0\x01\x33\x11";
+
+    /// The library takes every number but 0 as a flag that is set, and gives 1 back for it; of a
+    /// refused step it gives the very numbers back.
+    #[test]
+    fn flags() {
+        let map = Some((3, 4));
+        let state = State { map, unsent: true, ..open(HEADER).expect("a header") };
+        let numbers = Numbers { has_map: 7, unsent: usize::MAX, ..state.into() };
+        let step = |palette: &mut [u8]| {
+            ffi::step(HEADER, numbers, palette, &mut [], &mut [], &mut 0, usize::MAX)
+        };
+        let ended = step(&mut [0; 768]);
+        assert_eq!((ended.answer.kind, ended.state), (kind::ENDED, Numbers::from(state)));
+        let refused = step(&mut []);
+        assert_eq!((refused.answer.number, refused.state), (8, numbers));
+    }
+}

@@ -1,0 +1,129 @@
+//! Comparing two decoders on films.
+
+use crate::cases::Walk;
+use crate::comparison::Comparison;
+use crate::decoder::{Decoder, Step, Walked};
+use crate::difference::{first_difference, Difference, Part};
+use maker::states::Start;
+use reference::film::State;
+use std::fmt;
+
+impl<A: Decoder, B: Decoder> Comparison<A, B> {
+    /// Compares the opening of a film, and all that can be seen after every step: to its end, to
+    /// the first refusal, or as many as there are allowances. Each decoder has memory of its own.
+    pub fn walk(&mut self, walk: &Walk) -> Result<(), Difference> {
+        let (one, other) = (self.first.open(&walk.film), self.second.open(&walk.film));
+        if one != other {
+            return differs(0, Part::Answer, (self.first.name(), one), (self.second.name(), other));
+        }
+        self.tally.opened(one);
+        let Some(state) = walk.state.or(one.ok()) else { return Ok(()) };
+
+        let mut first = lent(walk, state);
+        let mut second = first.clone();
+        for (number, &allowed) in walk.allowances.iter().enumerate() {
+            (first.allowed, second.allowed) = (allowed, allowed);
+            let found = first.clone();
+            let seen = Seen::step(&self.first, number + 1, &walk.film, &mut first);
+            seen.keeps(&found)?;
+            seen.agrees(&Seen::step(&self.second, number + 1, &walk.film, &mut second))?;
+            let Seen { answer, left, shown, .. } = seen;
+            self.tally.stepped(&walk.film, &found, left, answer, !shown.is_empty());
+            if matches!(answer, Ok(Step::Ended) | Err(_)) {
+                break;
+            }
+        }
+        Ok(())
+    }
+}
+
+/// What the first step is given.
+fn lent(walk: &Walk, state: State) -> Start {
+    let [picture_a, picture_b] = walk.pictures.clone();
+    let (palette, place) = (walk.palette.clone(), walk.place);
+    Start { state, palette, picture_a, picture_b, place, allowed: 0 }
+}
+
+/// All that can be seen after a step.
+struct Seen<'a> {
+    by: &'static str,
+    step: usize,
+    answer: Walked,
+    left: &'a Start,
+    shown: &'a [u8],
+}
+
+impl<'a> Seen<'a> {
+    fn step(decoder: &impl Decoder, number: usize, film: &[u8], walk: &'a mut Start) -> Self {
+        let answer = decoder.step(film, walk);
+        let shown = decoder.shown(&walk.state, &walk.picture_a, &walk.picture_b);
+        Seen { by: decoder.name(), step: number, answer, left: walk, shown }
+    }
+
+    /// Two accounts of one step are the same.
+    fn agrees(&self, other: &Seen<'_>) -> Result<(), Difference> {
+        if self.answer != other.answer {
+            return self.differs(Part::Answer, self.answer, other.by, other.answer);
+        }
+        self.leaves(other.by, other.left)?;
+        if self.shown != other.shown {
+            return self.differs(Part::Shown, self.shown, other.by, other.shown);
+        }
+        Ok(())
+    }
+
+    /// A step that is refused, or that finds the film at its end, leaves everything as found.
+    fn keeps(&self, found: &Start) -> Result<(), Difference> {
+        match self.answer {
+            Ok(Step::Ended) | Err(_) => self.leaves("as found", found),
+            Ok(_) => Ok(()),
+        }
+    }
+
+    /// The state and what is lent are left as another account has them.
+    fn leaves(&self, by: &'static str, other: &Start) -> Result<(), Difference> {
+        let left = self.left;
+        if left.state != other.state {
+            return self.differs(Part::State, left.state, by, other.state);
+        }
+        if left.place != other.place {
+            return self.differs(Part::Place, left.place, by, other.place);
+        }
+        self.same_bytes(Part::Palette, &left.palette, by, &other.palette)?;
+        self.same_bytes(Part::PictureA, &left.picture_a, by, &other.picture_a)?;
+        self.same_bytes(Part::PictureB, &left.picture_b, by, &other.picture_b)
+    }
+
+    fn same_bytes(
+        &self,
+        part: fn(usize) -> Part,
+        bytes: &[u8],
+        by: &'static str,
+        others: &[u8],
+    ) -> Result<(), Difference> {
+        match first_difference(bytes, others) {
+            None => Ok(()),
+            Some(at) => self.differs(part(at), bytes[at], by, others[at]),
+        }
+    }
+
+    fn differs<T: fmt::Debug>(
+        &self,
+        part: Part,
+        value: T,
+        other: &'static str,
+        other_value: T,
+    ) -> Result<(), Difference> {
+        differs(self.step, part, (self.by, value), (other, other_value))
+    }
+}
+
+fn differs<T: fmt::Debug>(
+    call: usize,
+    part: Part,
+    one: (&'static str, T),
+    other: (&'static str, T),
+) -> Result<(), Difference> {
+    let accounts = [one, other].map(|(by, value)| (by, format!("{value:?}")));
+    Err(Difference { call, part, accounts })
+}

@@ -1,0 +1,32 @@
+//! Films: after every step the proved library has answered and left the state, the palette, the
+//! place, both pictures and the shown one as the second decoder has.
+
+mod common;
+
+use compare::{Comparison, Event, Kind, Proved, Second};
+use maker::film::{ACTED_ON, PASSED_OVER};
+
+const SEED: u64 = 1;
+const FILMS: u64 = 20_000;
+
+#[test]
+fn films() {
+    let mut comparison = Comparison::new(Proved, Second);
+    let compared = comparison.run(Kind::Films, SEED, 0..FILMS);
+    compared.unwrap_or_else(|found| panic!("{found}"));
+    let answers = [
+        Event::Opened,
+        Event::Taken,
+        Event::Whole,
+        Event::WholeBefore,
+        Event::Unfinished,
+        Event::Ended,
+        Event::LaterBlock,
+        Event::Turned,
+        Event::Coloured,
+        Event::Shown,
+    ];
+    let numbers: Vec<Event> = (1..=16).map(Event::Refused).collect();
+    let opcodes: Vec<Event> = ACTED_ON.into_iter().chain(PASSED_OVER).map(Event::Opcode).collect();
+    common::assert_reached(comparison.tally(), &[&answers[..], &numbers, &opcodes].concat());
+}
