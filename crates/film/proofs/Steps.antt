@@ -139,5 +139,5 @@ module _ (film : List ℕ) (st : State) (allowed : ℕ) (palette a b : List ℕ)
   step-opcode o x q f = rw (← e, q) f
 
 pub step-ready : (film : List ℕ) (st : State) (palette a b : ℕ) (n : Next) (o : Opcode) → nextAs n ≡ nextOf film st palette a b → n ≡ found.Opcode o
-    → Possible st (length film) × Ready (length film) o
+    → Possible st (length film) × Ready (length film) (st .cursor) o
 step-ready film st palette a b n o e q = found-ready film st palette a b o (sym e ∙ ap nextAs q)

@@ -122,7 +122,7 @@ fn act_on(
     place: &mut usize,
     allowed: usize,
 ) -> Stepped
-    requires { ⌜ Ready (length (now film)) o ⌝ }
+    requires { ⌜ Ready (length (now film)) (st .cursor) o ⌝ }
     requires { ⌜ mapInside (st .map) (length (now film)) ≡ true ⌝ }
     ensures { λ r. ⌜ after (steppedAs r) (now (palette .exit)) (now (a .exit)) (now (b .exit)) (now (place .exit)) ≡ act (now (film .entry)) st (o .kind) (o .version) (o .start) (o .start + o .long) allowed (now (palette .entry)) (now (a .entry)) (now (b .entry)) (now (place .entry)) ⌝ }
 {

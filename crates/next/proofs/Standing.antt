@@ -24,7 +24,7 @@ use Rattle.heads.specs.declared.ChunkHead.{ChunkHead}
 use Rattle.heads.specs.declared.ChunkHead.the-variants.{Chunk, BadChunk}
 use Rattle.heads.specs.declared.OpcodeHead.{OpcodeHead}
 use Rattle.heads.specs.declared.OpcodeHead.the-variants.{Op, BadOp}
-use Rattle.heads.specs.Heads.{opcode as head, chunkAt, opcodeOf, opcodeAt, atLeast, shapeVerdict}
+use Rattle.heads.specs.Heads.{cursor, opcode as head, chunkOf, chunkAt, opcodeOf, opcodeAt, atLeast, shapeVerdict}
 use Rattle.next.specs.Next.{Standing, refused, ended, chunk, opcode, on, chunkStanding, opcodeStanding, standingAt, nextOf, Possible, Ready}
 
 -- ---- a verdict, and on
@@ -93,7 +93,7 @@ bad-op : (o : Opcode) → BadOp ChunkEnd ≡ Op o → ⊥
 bad-op o e = let z : _≡_ {A = ℕ} 0 1 = cc in omega arith
 
 -- an opcode's head lies in its chunk
-head-inside : (p e long k v : ℕ) (o : Opcode) → opcodeOf p e long k v ≡ Op o → o .start + o .long ≤ e
+head-inside : (p e long k v : ℕ) (o : Opcode) → opcodeOf p e long k v ≡ Op o → (o .start ≡ p + 4) × (o .start + o .long ≤ e)
 unfolding opcodeOf
 head-inside p e long k v o h =
     let a = not-first (ltb e (p + 4)) _ _ _ (bad-op o) h in
@@ -101,10 +101,13 @@ head-inside p e long k v o h =
     let l : p + 4 + long ≤ e = ltb-false _ _ (b .0) in
     by (ltb 1 k) (eqb (p + 4 + long) e) l (b .1)
   where
+    same : p + 4 + long ≤ e → head k v (p + 4) long ≡ o → (o .start ≡ p + 4) × (o .start + o .long ≤ e)
+    same l z = subst (λ (x : Opcode). (x .start ≡ p + 4) × (x .start + x .long ≤ e)) z (refl, l)
+
     by : (t u : Bool) → p + 4 + long ≤ e
-        → cond t (Op (head k v (p + 4) long)) (cond u (Op (head k v (p + 4) long)) (BadOp ChunkEnd)) ≡ Op o → o .start + o .long ≤ e
-    by true u l q = let z : head k v (p + 4) long ≡ o = cc in subst (λ (x : Opcode). x .start + x .long ≤ e) z l
-    by false true l q = let z : head k v (p + 4) long ≡ o = cc in subst (λ (x : Opcode). x .start + x .long ≤ e) z l
+        → cond t (Op (head k v (p + 4) long)) (cond u (Op (head k v (p + 4) long)) (BadOp ChunkEnd)) ≡ Op o → (o .start ≡ p + 4) × (o .start + o .long ≤ e)
+    by true u l q = same l (cc)
+    by false true l q = same l (cc)
     by false false l q = absurd (bad-op o q)
 
 -- 11 has at least its 14 bytes
@@ -116,16 +119,22 @@ packet-long k v n h q =
     let b = not-first (ltb n 14) (refuse 5 0) accept accept (refuses 5 0) (a .1) in
     ltb-false _ _ (b .0)
 
-opcode-ready : (film : List ℕ) (p e : ℕ) (h : OpcodeHead) (o : Opcode) → e ≤ length film → opcodeAt film p e ≡ h → opcodeStanding h ≡ opcode o → Ready (length film) o
+opcode-ready : (film : List ℕ) (p e : ℕ) (h : OpcodeHead) (o : Opcode) → e ≤ length film → opcodeAt film p e ≡ h → opcodeStanding h ≡ opcode o → Ready (length film) (cursor p e) o
 unfolding opcodeStanding opcodeAt
 opcode-ready film p e (BadOp r) o l q h = absurd (refused-opcode _ _ o h)
 opcode-ready film p e (Op x) o l q h =
     let s = on-opcode _ _ o h in
     let z : x ≡ o = let w = s .1 in cc in
     let i = head-inside p e (wordAt film p) (getD film (p + 2) 0) (getD film (p + 3) 0) x q in
-    subst (Ready (length film)) z (record { inside = omega arith; packet = packet-long (x .kind) (x .version) (x .long) (s .0) })
+    subst (Ready (length film) (cursor p e)) z
+    (record {
+      behind = omega (arith, i .0);
+      within = i .1;
+      inside = omega (arith, i .1);
+      packet = packet-long (x .kind) (x .version) (x .long) (s .0);
+    })
 
-standing-ready : (film : List ℕ) (p e : ℕ) (o : Opcode) → e ≤ length film → standingAt film p e ≡ opcode o → Ready (length film) o
+standing-ready : (film : List ℕ) (p e : ℕ) (o : Opcode) → e ≤ length film → standingAt film p e ≡ opcode o → Ready (length film) (cursor p e) o
 unfolding standingAt chunkStanding
 standing-ready film p e o l h = by (eqb p e) (eqb e (length film)) (chunkAt film e) h
   where
@@ -133,18 +142,77 @@ standing-ready film p e o l h = by (eqb p e) (eqb e (length film)) (chunkAt film
     none (Chunk c) q = let z : _≡_ {A = ℕ} 0 1 = cc in omega arith
     none (BadChunk r) q = refused-opcode _ _ o q
 
-    by : (t u : Bool) (c : ChunkHead) → cond t (cond u ended (chunkStanding c)) (opcodeStanding (opcodeAt film p e)) ≡ opcode o → Ready (length film) o
+    by : (t u : Bool) (c : ChunkHead) → cond t (cond u ended (chunkStanding c)) (opcodeStanding (opcodeAt film p e)) ≡ opcode o → Ready (length film) (cursor p e) o
     by true true c q = absurd (let z : _≡_ {A = ℕ} 0 1 = cc in let y : ⊥ = omega arith in y)
     by true false c q = absurd (none c q)
     by false u c q = opcode-ready film p e (opcodeAt film p e) o l refl q
 
-pub found-ready : (film : List ℕ) (st : State) (palette a b : ℕ) (o : Opcode) → nextOf film st palette a b ≡ opcode o → Possible st (length film) × Ready (length film) o
+pub found-ready : (film : List ℕ) (st : State) (palette a b : ℕ) (o : Opcode) → nextOf film st palette a b ≡ opcode o → Possible st (length film) × Ready (length film) (st .cursor) o
 unfolding nextOf
 found-ready film st palette a b o h =
     let s = on-opcode _ _ o h in
     let t = on-opcode _ _ o (s .1) in
     let p = possible st (length film) (s .0) in
     (p, standing-ready film (st .cursor .position) (st .cursor .«chunk_end») o (p .inside) (t .1))
+
+-- a chunk's head lies in the film
+bad-chunk : (c : Cursor) → BadChunk FilmEnd ≡ Chunk c → ⊥
+bad-chunk c e = let z : _≡_ {A = ℕ} 0 1 = cc in omega arith
+
+-- a chunk that begins at e
+pub record Opens (film e : ℕ) (c : Cursor) : Type 0 where
+  pub behind : c .position ≡ e + 4
+  pub ordered : c .position ≤ c .«chunk_end»
+  pub inside : c .«chunk_end» ≤ film
+
+chunk-opens : (film e long : ℕ) (c : Cursor) → chunkOf film e long ≡ Chunk c → Opens film e c
+unfolding chunkOf
+chunk-opens film e long c h =
+    let a = not-first (ltb film (e + 4)) _ _ _ (bad-chunk c) h in
+    let b = not-first (ltb film (e + 4 + long)) _ _ _ (bad-chunk c) (a .1) in
+    let l : e + 4 + long ≤ film = ltb-false _ _ (b .0) in
+    let w = b .1 in
+    let z : cursor (e + 4) (e + 4 + long) ≡ c = cc in
+    subst (Opens film e) z (record { behind = refl; ordered = omega arith; inside = l })
+
+on-chunk : (v : Verdict) (s : Standing) (c : Cursor) → on v s ≡ chunk c → (v ≡ accept) × (s ≡ chunk c)
+unfolding on
+on-chunk accept s c e = (refl, e)
+on-chunk (refuse n k) s c e = absurd (let z : _≡_ {A = ℕ} 0 1 = cc in let y : ⊥ = omega arith in y)
+
+standing-opens : (film : List ℕ) (p e : ℕ) (c : Cursor) → standingAt film p e ≡ chunk c → (p ≡ e) × Opens (length film) e c
+unfolding standingAt chunkStanding opcodeStanding chunkAt on
+standing-opens film p e c h = by (eqb p e) (eqb e (length film)) (chunkAt film e) (opcodeAt film p e) refl refl h
+  where
+    no : (n k : ℕ) → refused n k ≡ chunk c → ⊥
+    no n k q = let z : _≡_ {A = ℕ} 0 1 = cc in omega arith
+
+    none : (o : OpcodeHead) → opcodeStanding o ≡ chunk c → ⊥
+    none (Op o) q = shaped (shapeVerdict (o .kind) (o .version) (o .long)) q
+      where
+        shaped : (v : Verdict) → on v (opcode o) ≡ chunk c → ⊥
+        shaped accept r = let z : _≡_ {A = ℕ} 0 1 = cc in omega arith
+        shaped (refuse n k) r = no n k r
+    none (BadOp r) q = no _ _ q
+
+    opens : (h : ChunkHead) → chunkAt film e ≡ h → chunkStanding h ≡ chunk c → Opens (length film) e c
+    opens (Chunk x) q r = let z : x ≡ c = cc in subst (Opens (length film) e) z (chunk-opens (length film) e (wordAt film e) x q)
+    opens (BadChunk x) q r = absurd (no _ _ r)
+
+    by : (t u : Bool) (h : ChunkHead) (o : OpcodeHead) → eqb p e ≡ t → chunkAt film e ≡ h → cond t (cond u ended (chunkStanding h)) (opcodeStanding o) ≡ chunk c
+        → (p ≡ e) × Opens (length film) e c
+    by true true h o t q r = absurd (let z : _≡_ {A = ℕ} 0 1 = cc in let y : ⊥ = omega arith in y)
+    by true false h o t q r = (eqb-true p e t, opens h q r)
+    by false u h o t q r = absurd (none o r)
+
+pub found-chunk : (film : List ℕ) (st : State) (palette a b : ℕ) (c : Cursor) → nextOf film st palette a b ≡ chunk c
+    → Possible st (length film) × (st .cursor .position ≡ st .cursor .«chunk_end») × Opens (length film) (st .cursor .«chunk_end») c
+unfolding nextOf
+found-chunk film st palette a b c h =
+    let s = on-chunk _ _ c h in
+    let t = on-chunk _ _ c (s .1) in
+    let o = standing-opens film (st .cursor .position) (st .cursor .«chunk_end») c (t .1) in
+    (possible st (length film) (s .0), o .0, o .1)
 
 -- ---- a state and what is lent
 

@@ -64,7 +64,9 @@ pub record Possible (st : State) (film : ℕ) : Type 0 where
   pub inside : st .cursor .«chunk_end» ≤ film
   pub mapped : mapInside (st .map) film ≡ true
 
--- what is known of an opcode that is taken there
-pub record Ready (film : ℕ) (o : Opcode) : Type 0 where
+-- what is known of an opcode that is taken where a cursor stands
+pub record Ready (film : ℕ) (c : Cursor) (o : Opcode) : Type 0 where
+  pub behind : c .position + 4 ≤ o .start
+  pub within : o .start + o .long ≤ c .«chunk_end»
   pub inside : o .start + o .long ≤ film
   pub packet : o .kind ≡ 17 → 14 ≤ o .long
