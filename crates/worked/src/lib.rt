@@ -1,0 +1,1 @@
+// The marked cases of document 01's "Checked by hand", computed of the definitions that the contracts cite. There is no code.
