@@ -1,0 +1,189 @@
+/* mve.h - a player core for Interplay MVE films, 8-bit pictures
+
+SYNOPSIS
+
+    #include "mve.h"
+
+    struct mve_stepped s = mve_open(film, film_length);
+    size_t place = 0;
+    while (s.kind != MVE_ENDED && s.kind != MVE_REFUSED) {
+        s = mve_step(film, film_length, s.state, palette, 768, a, a_length, b, b_length, &place, 1000);
+        size_t shown = mve_shown(s.state, a, a_length, b, b_length);
+        ... show the first `shown` bytes of s.state.front ? b : a ...
+    }
+
+mve_open   the first state of a film
+mve_step   one step: a chunk's head, or one opcode with its palette change or its drawing
+mve_shown  how many bytes of the front picture are to be shown
+mve_check  whether a packet is accepted, without drawing
+mve_draw   the drawing of a packet, without a film
+
+MEMORY
+
+Nothing is allocated and nothing is kept between calls; all memory is lent by the caller. What is lent must be private
+to the call while it runs: nobody else writes it, and nobody else reads what is lent for writing (palette, pictures,
+place). What is lent for writing shares no byte with anything else that is lent. Every address comes with its length
+and is not null, also where the length is 0. Nothing else is asked: any bytes, state, place and number are answered.
+
+A refused call changes nothing that is lent, and gives back the state that it was given.
+
+STOPS
+
+Drawing makes stores, one pixel or the place at a time, in one order. A call may be allowed fewer than are due: it
+makes the first of them, answers MVE_UNFINISHED, and the next call goes on. The place is the number of the first block
+that is not finished. No block reads a pixel of its own, so one that was begun is drawn again from its first pixel, and
+the picture is the same.
+
+A watchdog may therefore stop the program inside mve_step or mve_draw, between any two stores. To go on, call again
+with the same film, the state last given back, and the palette, pictures and place as the stop left them. Keep those
+in memory that outlives the stop, and the old state until the new one is saved in full. A step that was stopped while
+it changed the palette stores the same entries again.
+
+A block has at most 65 stores, the largest picture 312,000. A call that is allowed 64 or fewer finishes no block that has
+pixels to store, so allow 65 or more.
+
+THE FILM
+
+Numbers are little-endian, a word is 16 bits.
+
+    header   "Interplay MVE File", 1A 00, words 001A 0100 1133      26 bytes
+    chunk    word length, word type (not read), body                length counts the body alone
+    opcode   word length, byte type, byte version, body             the same; opcodes fill a chunk's body exactly
+
+    type  version  body
+    00    0        none, last in its chunk; ends the film
+    01    0        none, last in its chunk; ends the chunk
+    05    0 to 2   4, 6, 8 bytes: words width and height in pixels, a count, and in version 2 the true-colour word 0.
+                   Multiples of 8, width 8 to 640, height 8 to 480, once in a film.
+    07    0, 1     4, 6 bytes, not read: sends the frame. If one is finished and unsent, front and back change roles.
+    0B    0        6 bytes: two gradients of the palette, red-blue and red-green: base, rows, columns of each
+    0C    0        words start and count, then 3 bytes an entry
+    0D    0        32 groups: a mask byte, lowest bit first, and 3 bytes for each bit that is one
+    0F    0        the map for the next 11; the place becomes 0
+    11    0        14 bytes that are skipped, then the packet
+    02 to 04, 08 to 0A, 12 to 15: passed over unread. Other types are refused.
+
+The palette is 256 entries of red, green and blue, 0 to 63: 768 bytes.
+
+THE PACKET
+
+Blocks are 8x8 pixels, left to right, then down. The map has a code for each: a nibble, low nibble first. The data has
+the bytes of each block in the same order, and is used up exactly. "Front" is the picture shown; "back" is the one two
+frames old that is drawn on. A copied 8x8 lies inside its picture.
+
+    code     bytes           pixels
+    0        0               the same block of front
+    1        0               left as they are
+    2, 3     1               copied from back, forward or the negated offset
+    4, 5     1, 2            copied from front, nibble or byte offsets
+    7        10, 4           two colours, a bit a pixel or a 2x2
+    8        16, 12          two colours for each quarter or half
+    9        20, 8, 12, 12   four colours, two bits a pixel, 2x2, 2 wide or 2 high
+    A        32, 24          four colours for each quarter or half
+    B to E   64, 16, 4, 1    a byte a pixel, 2x2, 4x4, 8x8
+    F        2               two colours in turn, as on a chessboard
+*/
+
+#ifndef MVE_H
+#define MVE_H
+
+#include <stddef.h>
+#include <stdint.h>
+
+#ifdef __cplusplus
+extern "C" {
+#endif
+
+/* What a call answers. */
+enum mve_kind {
+    MVE_ACCEPTED = 0,   /* mve_check: the packet gives a picture and is used up */
+    MVE_TAKEN = 0,      /* mve_open, mve_step: done; nothing was drawn */
+    MVE_WHOLE = 1,      /* the picture is drawn to its end */
+    MVE_UNFINISHED = 2, /* the stores allowed were made; more are due */
+    MVE_ENDED = 3,      /* mve_step: the film has ended; nothing is changed */
+    MVE_REFUSED = 4     /* nothing is changed; see the number */
+};
+
+/* Numbers of refusal. Where more than one is met the first in this order is given; of blocks the lowest speaks.
+   mve_draw alone tests the size before the lengths lent. */
+enum mve_refusal {
+    MVE_STATE = 16,          /* a state that no film gives */
+    MVE_LENT_LENGTH = 8,     /* palette not 768 bytes, or a picture shorter than the frame */
+    MVE_HEADER = 1,          /* film header wrong or short (mve_open alone) */
+    MVE_CHUNK = 2,           /* a chunk or its head passes the end of the film */
+    MVE_OPCODE = 3,          /* an opcode or its head passes its chunk, or bytes follow 00 or 01 */
+    MVE_TYPE = 4,            /* opcode type or version not taken */
+    MVE_BODY_LENGTH = 5,     /* opcode body of a wrong length */
+    MVE_FRAME_SIZE = 6,      /* frame size or true-colour word wrong, or a second size */
+    MVE_PALETTE = 7,         /* palette range or colour component too large */
+    MVE_NO_FRAME = 9,        /* 11 without a frame size or a map */
+    MVE_MAP_LENGTH = 10,     /* map length does not fit the frame size */
+    MVE_PLACE = 11,          /* place above the block count */
+    MVE_CODE_6 = 12,         /* code 6 is not taken in 8-bit films */
+    MVE_DATA_SHORT = 13,     /* too few data bytes */
+    MVE_COPY_OUTSIDE = 14,   /* copied from outside the picture */
+    MVE_DATA_LEFT = 15       /* data bytes left over */
+};
+
+/* Where a walk over a film is. It goes into a step and comes back; keep it as it came. */
+struct mve_state {
+    size_t position;   /* in the film */
+    size_t chunk_end;
+    size_t width;      /* 0 by 0 before opcode 05 */
+    size_t height;
+    size_t front;      /* 0: picture a is shown, 1: picture b */
+    size_t has_map;    /* 0: no map is pending */
+    size_t map_start;  /* the pending map's part of the film */
+    size_t map_length;
+    size_t unsent;     /* 0: no frame is finished and unsent */
+};
+
+/* number and block: of a refusal, else 0; block only for 12 to 14. stores: how many the call made. */
+struct mve_answer {
+    size_t kind;
+    size_t number;
+    size_t block;
+    size_t stores;
+};
+
+struct mve_stepped {
+    size_t kind;
+    size_t number;
+    size_t block;
+    size_t stores;
+    struct mve_state state;
+};
+
+/* The first state of a film: MVE_TAKEN, or MVE_REFUSED by MVE_HEADER with a state of zeros. Reads the film alone. */
+struct mve_stepped mve_open(const uint8_t *film, size_t film_length);
+
+/* One step. MVE_TAKEN: a chunk's head or an opcode but 11. MVE_WHOLE, MVE_UNFINISHED: opcode 11, by at most `allowed`
+   stores; while it is unfinished the position stays. a and b are the two pictures, each at least width times height
+   bytes once the size is known. The place starts at 0. Every number of refusal but 1
+   can be met. */
+struct mve_stepped mve_step(const uint8_t *film, size_t film_length, struct mve_state state,
+                         uint8_t *palette, size_t palette_length, uint8_t *a, size_t a_length,
+                         uint8_t *b, size_t b_length, size_t *place, size_t allowed);
+
+/* How many bytes of the front picture (b where state.front is 1, else a) are shown: width times height, or 0 where no
+   size is known yet, the state is one that no film gives, or that picture is shorter. */
+size_t mve_shown(struct mve_state state, const uint8_t *a, size_t a_length,
+                 const uint8_t *b, size_t b_length);
+
+/* Whether a packet is accepted for a picture of width by height pixels: MVE_ACCEPTED, or MVE_REFUSED by 6, 10, 12 to
+   15. */
+struct mve_answer mve_check(size_t width, size_t height, const uint8_t *map, size_t map_length,
+                            const uint8_t *data, size_t data_length);
+
+/* Draws a packet on `back` from the block *place on, by at most `allowed` stores: MVE_WHOLE, MVE_UNFINISHED, or
+   MVE_REFUSED by 6, 8, 10 to 15. A call that is refused makes no store. */
+struct mve_answer mve_draw(size_t width, size_t height, const uint8_t *map, size_t map_length,
+                           const uint8_t *data, size_t data_length, const uint8_t *front,
+                           size_t front_length, uint8_t *back, size_t back_length, size_t *place,
+                           size_t allowed);
+
+#ifdef __cplusplus
+}
+#endif
+
+#endif
