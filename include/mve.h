@@ -25,7 +25,8 @@ to the call while it runs: nobody else writes it, and nobody else reads what is 
 place). What is lent for writing shares no byte with anything else that is lent. Every address comes with its length
 and is not null, also where the length is 0. Nothing else is asked: any bytes, state, place and number are answered.
 
-A refused call changes nothing that is lent, and gives back the state that it was given.
+A refused call changes nothing that is lent. A step that is refused, ended or unfinished gives back the state that it
+was given.
 
 STOPS
 
@@ -107,7 +108,7 @@ enum mve_kind {
 /* Numbers of refusal. Where more than one is met the first in this order is given; of blocks the lowest speaks.
    mve_draw alone tests the size before the lengths lent. */
 enum mve_refusal {
-    MVE_STATE = 16,          /* a state that no film gives */
+    MVE_STATE = 16,          /* a state with position, chunk end, map, front or size out of bounds */
     MVE_LENT_LENGTH = 8,     /* palette not 768 bytes, or a picture shorter than the frame */
     MVE_HEADER = 1,          /* film header wrong or short (mve_open alone) */
     MVE_CHUNK = 2,           /* a chunk or its head passes the end of the film */
@@ -165,8 +166,8 @@ struct mve_stepped mve_step(const uint8_t *film, size_t film_length, struct mve_
                          uint8_t *palette, size_t palette_length, uint8_t *a, size_t a_length,
                          uint8_t *b, size_t b_length, size_t *place, size_t allowed);
 
-/* How many bytes of the front picture (b where state.front is 1, else a) are shown: width times height, or 0 where no
-   size is known yet, the state is one that no film gives, or that picture is shorter. */
+/* How many bytes of the front picture (a where state.front is 0, b where it is 1) are shown: width times height, or 0
+   where no size is known yet, front is above 1, the size is not one that 05 may give, or that picture is shorter. */
 size_t mve_shown(struct mve_state state, const uint8_t *a, size_t a_length,
                  const uint8_t *b, size_t b_length);
 

@@ -68,11 +68,11 @@ module _ (m : MveState) (x : Stepped) (a : MveStep) where
   unfolding ofStep
   whole-as st n e q = rw e q
 
-  pub unfinished-as : (st : State) (n : ℕ) → x ≡ step.Unfinished st n → a ≡ stepped 2 0 0 n (ofState st) → a ≡ ofStep m (steppedAs x)
+  pub unfinished-as : (st : State) (n : ℕ) → x ≡ step.Unfinished st n → a ≡ stepped 2 0 0 n m → a ≡ ofStep m (steppedAs x)
   unfolding ofStep
   unfinished-as st n e q = rw e q
 
-  pub ended-as : (st : State) → x ≡ step.Ended st → a ≡ stepped 3 0 0 0 (ofState st) → a ≡ ofStep m (steppedAs x)
+  pub ended-as : (st : State) → x ≡ step.Ended st → a ≡ stepped 3 0 0 0 m → a ≡ ofStep m (steppedAs x)
   unfolding ofStep
   ended-as st e q = rw e q
 

@@ -46,12 +46,12 @@ ofState st = withMap st (st .map)
 abbrev pub stepped : ℕ → ℕ → ℕ → ℕ → MveState → MveStep
 stepped kind number block stores state = record { kind = kind; number = number; block = block; stores = stores; state = state }
 
--- kinds: 0 taken, 1 whole, 2 unfinished, 3 ended, 4 refused. A refusal gives the state m back as it came
+-- kinds: 0 taken, 1 whole, 2 unfinished, 3 ended, 4 refused. Where the state stays, m comes back number by number
 unfoldable pub ofStep : MveState → Step → MveStep
 ofStep m (taken st) = stepped 0 0 0 0 (ofState st)
 ofStep m (drawnWhole st n) = stepped 1 0 0 n (ofState st)
-ofStep m (drawnPart st n) = stepped 2 0 0 n (ofState st)
-ofStep m (ended st) = stepped 3 0 0 0 (ofState st)
+ofStep m (drawnPart st n) = stepped 2 0 0 n m
+ofStep m (ended st) = stepped 3 0 0 0 m
 ofStep m (refused number block) = stepped 4 number block 0 m
 
 -- kinds: 0 opened, 4 refused, with a state of zeros

@@ -204,6 +204,19 @@ fn stepped_with(kind: usize, stores: usize, st: State) -> MveStep
     }
 }
 
+// The answer of a step that leaves the state as it came.
+fn kept_with(kind: usize, stores: usize, state: MveState) -> MveStep
+    ensures { λ r. ⌜ r ≡ stepped kind 0 0 stores state ⌝ }
+{
+    MveStep {
+        kind,
+        number: 0,
+        block: 0,
+        stores,
+        state,
+    }
+}
+
 fn refused_with(r: Refusal, state: MveState) -> MveStep
     ensures { λ a. ⌜ a ≡ stepped 4 (refusalNumber r) (block r) 0 state ⌝ }
 {
@@ -222,8 +235,8 @@ fn of_step(m: MveState, x: Stepped) -> MveStep
     match x {
         Stepped::Taken(st) => stepped_with(0, 0, st),
         Stepped::Whole(st, n) => stepped_with(1, n, st),
-        Stepped::Unfinished(st, n) => stepped_with(2, n, st),
-        Stepped::Ended(st) => stepped_with(3, 0, st),
+        Stepped::Unfinished(_, n) => kept_with(2, n, m),
+        Stepped::Ended(_) => kept_with(3, 0, m),
         Stepped::Refused(r) => refused_with(r, m),
     }
 }
@@ -270,7 +283,7 @@ pub extern "C" fn mve_step(
     of_step(state, x)
 }
 
-// How many leading bytes of which lent picture are shown: 0 where none are. The picture is the first where front is 0, else the second.
+// How many leading bytes of which lent picture are shown: 0 where none are. The picture is the first where front is 0, the second where it is 1.
 #[no_mangle]
 pub extern "C" fn mve_shown<'a>(state: MveState, a: &'a [u8], b: &'a [u8]) -> usize
     ensures { λ r. ⌜ r ≡ length (shownOf (stateOf state) (now (a .entry)) (now (b .entry))) ⌝ }

@@ -211,19 +211,22 @@ mod tests {
 
     const HEADER: &[u8] = b"Interplay MVE File\x1A\0\x1A\0\0\x01\x33\x11";
 
-    /// The library takes every number but 0 as a flag that is set, and gives 1 back for it; of a
-    /// refused step it gives the very numbers back.
+    /// The library takes every number but 0 as a flag that is set. A taken step gives 1 back for it;
+    /// a step that leaves the state gives the very numbers back.
     #[test]
     fn flags() {
         let map = Some((3, 4));
         let state = State { map, unsent: true, ..open(HEADER).expect("a header") };
         let numbers = Numbers { has_map: 7, unsent: usize::MAX, ..state.into() };
-        let step = |palette: &mut [u8]| {
-            ffi::step(HEADER, numbers, palette, &mut [], &mut [], &mut 0, usize::MAX)
+        let step = |film: &[u8], palette: &mut [u8]| {
+            ffi::step(film, numbers, palette, &mut [], &mut [], &mut 0, usize::MAX)
         };
-        let ended = step(&mut [0; 768]);
-        assert_eq!((ended.answer.kind, ended.state), (kind::ENDED, Numbers::from(state)));
-        let refused = step(&mut []);
+        let taken = step(&[HEADER, &[0; 4]].concat(), &mut [0; 768]);
+        let moved = State { position: 30, chunk_end: 30, ..state };
+        assert_eq!((taken.answer.kind, taken.state), (kind::ACCEPTED, Numbers::from(moved)));
+        let ended = step(HEADER, &mut [0; 768]);
+        assert_eq!((ended.answer.kind, ended.state), (kind::ENDED, numbers));
+        let refused = step(HEADER, &mut []);
         assert_eq!((refused.answer.number, refused.state), (8, numbers));
     }
 }

@@ -49,6 +49,13 @@ int main(void) {
     EXPECT(s.state.width == 8 && s.state.height == 8 && s.state.unsent == 0 && s.state.has_map == 0);
     EXPECT(mve_shown(s.state, a, sizeof a, b, sizeof b) == 64 && memcmp(b, drawn, 64) == 0);
 
+    /* Where the state stays, its numbers come back as they came. */
+    struct mve_state odd = s.state;
+    odd.map_start = 7;
+    odd.unsent = 2;
+    s = mve_step(film, sizeof film, odd, palette, sizeof palette, a, sizeof a, b, sizeof b, &place, 70);
+    EXPECT(s.kind == MVE_ENDED && memcmp(&s.state, &odd, sizeof odd) == 0);
+
     struct mve_stepped short_palette =
         mve_step(film, sizeof film, s.state, palette, 767, a, sizeof a, b, sizeof b, &place, 70);
     EXPECT(short_palette.kind == MVE_REFUSED && short_palette.number == MVE_LENT_LENGTH);
