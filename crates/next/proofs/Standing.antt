@@ -67,6 +67,27 @@ module _ (film : List ℕ) (p e : ℕ) where
     unfolding standingAt opcodeStanding
     no-opcode r k = rw (ne-eqb _ _ n, ← q, k)
 
+-- ---- a state and what is lent
+
+pub judged-room : (w h palette a b bytes : ℕ) (s t : Standing) (c : Checked) → bytes ≡ area w h → told c ≡ roomVerdict bytes palette a b
+    → c ≡ Accepted → t ≡ s → t ≡ on (roomVerdict (area w h) palette a b) s
+judged-room w h palette a b bytes s t c e q k g = rw (← e) (goes-on (roomVerdict bytes palette a b) s c q t k g)
+
+pub no-room : (w h palette a b bytes : ℕ) (s : Standing) (c : Checked) (r : Refusal) → bytes ≡ area w h
+    → told c ≡ roomVerdict bytes palette a b → c ≡ Refused r → refused (number r) (block r) ≡ on (roomVerdict (area w h) palette a b) s
+no-room w h palette a b bytes s c r e q k = rw (← e) (stops (roomVerdict bytes palette a b) s c q r k)
+
+module _ (film : List ℕ) (st : State) (palette a b : ℕ) (c : Checked) (e : told c ≡ stateVerdict st (length film)) where
+  pub found-here : (t : Standing) → c ≡ Accepted
+      → t ≡ on (roomVerdict (area (st .width) (st .height)) palette a b) (standingAt film (st .cursor .position) (st .cursor .«chunk_end»))
+      → t ≡ nextOf film st palette a b
+  unfolding nextOf
+  found-here t k h = goes-on (stateVerdict st (length film)) _ c e t k h
+
+  pub no-state : (r : Refusal) → c ≡ Refused r → refused (number r) (block r) ≡ nextOf film st palette a b
+  unfolding nextOf
+  no-state r k = stops (stateVerdict st (length film)) _ c e r k
+
 -- ---- what is known
 
 refuses : (n k : ℕ) → refuse n k ≡ accept → ⊥
@@ -213,27 +234,6 @@ found-chunk film st palette a b c h =
     let t = on-chunk _ _ c (s .1) in
     let o = standing-opens film (st .cursor .position) (st .cursor .«chunk_end») c (t .1) in
     (possible st (length film) (s .0), o .0, o .1)
-
--- ---- a state and what is lent
-
-pub judged-room : (w h palette a b bytes : ℕ) (s t : Standing) (c : Checked) → bytes ≡ area w h → told c ≡ roomVerdict bytes palette a b
-    → c ≡ Accepted → t ≡ s → t ≡ on (roomVerdict (area w h) palette a b) s
-judged-room w h palette a b bytes s t c e q k g = rw (← e) (goes-on (roomVerdict bytes palette a b) s c q t k g)
-
-pub no-room : (w h palette a b bytes : ℕ) (s : Standing) (c : Checked) (r : Refusal) → bytes ≡ area w h
-    → told c ≡ roomVerdict bytes palette a b → c ≡ Refused r → refused (number r) (block r) ≡ on (roomVerdict (area w h) palette a b) s
-no-room w h palette a b bytes s c r e q k = rw (← e) (stops (roomVerdict bytes palette a b) s c q r k)
-
-module _ (film : List ℕ) (st : State) (palette a b : ℕ) (c : Checked) (e : told c ≡ stateVerdict st (length film)) where
-  pub found-here : (t : Standing) → c ≡ Accepted
-      → t ≡ on (roomVerdict (area (st .width) (st .height)) palette a b) (standingAt film (st .cursor .position) (st .cursor .«chunk_end»))
-      → t ≡ nextOf film st palette a b
-  unfolding nextOf
-  found-here t k h = goes-on (stateVerdict st (length film)) _ c e t k h
-
-  pub no-state : (r : Refusal) → c ≡ Refused r → refused (number r) (block r) ≡ nextOf film st palette a b
-  unfolding nextOf
-  no-state r k = stops (stateVerdict st (length film)) _ c e r k
 
 pub is-possible : (st : State) (film : ℕ) (c : Checked) → told c ≡ stateVerdict st film → c ≡ Accepted → Possible st film
 is-possible st film c e k = possible st film (sym e ∙ ap told k)

@@ -9,7 +9,7 @@ use native.Mathlib.Omega.{arith}
 use Rattle.pattern.specs.declared.Form.{Form}
 use Rattle.pattern.specs.declared.Form.the-variants.{Two1x1, Two2x2, TwoQuarters, TwoLeftRight, TwoTopBottom, Four1x1, Four2x2, Four2x1, Four1x2, FourQuarters, FourLeftRight, FourTopBottom}
 use Rattle.pattern.specs.Form.{Shape, shape, falling, form7, form8, form9, formA}
-use Rattle.pattern.specs.Pattern.{Shaped, colours, cells, partLength, patternLength, partStart, fieldNumber, fieldAt, patternSource}
+use Rattle.pattern.specs.Pattern.{Shaped, FieldInside, colours, cells, partLength, patternLength, partStart, fieldNumber, fieldAt, patternSource}
 
 -- of a form's numbers: no divisor is 0, and nothing is large
 pub record Small (q : Shape) : Type 0 where
@@ -104,6 +104,21 @@ bits (f, e) = subst (λ (q : Shape). (q .bits ≡ 1) ⊎ (q .bits ≡ 2)) e (bit
 pub colours-twice : {q : Shape} → Shaped q → 2 * q .bits ≡ colours q
 unfolding colours
 colours-twice {q} s = field (q .bits) 0 (bits s) (omega arith) .twice
+
+-- pixel i's field, found from the start of its part, lies in the block's data
+pub field-lies : {q : Shape} {part n long : ℕ} (i : ℕ) → Shaped q → i < 64 → patternLength q ≤ long → part ≡ partStart q i → n ≡ fieldNumber q i → FieldInside long (part + 2 * q .bits) (q .bits) n
+field-lies i z h l e g =
+    let p = placed i z h in
+    rw (e, g) (record { bits = bits z; number = p .field-few; byte = omega (arith, p .part-inside, p .field-inside) })
+
+-- and what it numbers, counted from the start of the part, is the byte that gives the pixel
+pub source-met : {q : Shape} {part n f : ℕ} (s : List ℕ) (i : ℕ) → Shaped q → part ≡ partStart q i → n ≡ fieldNumber q i → f ≡ fieldAt s (part + 2 * q .bits) (q .bits) n → part + f ≡ patternSource q s i
+unfolding patternSource
+source-met s i z e g h = rw (h, e, g, colours-twice z)
+
+-- a test b is of the pair at byte p
+pub by-pair : {b : Bool} (s : List ℕ) (p : ℕ) → b ≡ falling s p → b ≡ falling s p
+by-pair s p e = e
 
 -- a field is the number of a colour
 pub field-below : {r : ℕ} (s : List ℕ) (p b n : ℕ) → r ≡ fieldAt s p b n → (b ≡ 1) ⊎ (b ≡ 2) → r < 2 * b

@@ -1,4 +1,5 @@
-use mathlib.Core.Path.{_≡_, refl, sym, ap, _∙_}
+use mathlib.Core.Path.{refl}
+use Rattle.words.proofs.Tests.{on, off}
 use Rattle.pattern.specs.Form.{form9}
 use borrow.Author.Needs.{needs}
 use Rattle.pattern.proofs.form_of_9.Statement.{statement}
@@ -15,22 +16,22 @@ is-falling-requires-2 c κs = search needs
 
 returns : tie.Need-returns
 unfolding form9
-returns c = rw (sym (c .before .before .before .is-falling .ensures) ∙ c .before .before .if1 .taken, sym (c .before .is-falling2 .ensures) ∙ c .if2 .taken)
+returns c = on _ (c .before .before .before .is-falling .ensures) (c .before .before .if1 .taken) (on _ (c .before .is-falling2 .ensures) (c .if2 .taken) refl)
 
 returns-2 : tie.Need-returns-2
 unfolding form9
-returns-2 c = rw (sym (c .before .before .before .is-falling .ensures) ∙ c .before .before .if1 .taken, sym (c .before .is-falling2 .ensures) ∙ c .if2 .left)
+returns-2 c = on _ (c .before .before .before .is-falling .ensures) (c .before .before .if1 .taken) (off _ (c .before .is-falling2 .ensures) (c .if2 .left) refl)
 
 is-falling-requires-3 : tie.Need-is-falling-requires-3
 is-falling-requires-3 c κs = search needs
 
 returns-3 : tie.Need-returns-3
 unfolding form9
-returns-3 c = rw (sym (c .before .before .before .is-falling .ensures) ∙ c .before .before .if1 .left, sym (c .before .is-falling3 .ensures) ∙ c .if3 .taken)
+returns-3 c = off _ (c .before .before .before .is-falling .ensures) (c .before .before .if1 .left) (on _ (c .before .is-falling3 .ensures) (c .if3 .taken) refl)
 
 returns-4 : tie.Need-returns-4
 unfolding form9
-returns-4 c = rw (sym (c .before .before .before .is-falling .ensures) ∙ c .before .before .if1 .left, sym (c .before .is-falling3 .ensures) ∙ c .if3 .left)
+returns-4 c = off _ (c .before .before .before .is-falling .ensures) (c .before .before .if1 .left) (off _ (c .before .is-falling3 .ensures) (c .if3 .left) refl)
 
 pub form-of-9-spec : {M : Type 1} → statement M
 form-of-9-spec =

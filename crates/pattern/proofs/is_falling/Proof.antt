@@ -1,5 +1,4 @@
-use mathlib.Core.Path.{_≡_, refl, sym, ap, _∙_}
-use native.Mathlib.Omega.{arith}
+use Rattle.words.proofs.Tests.{less}
 use Rattle.pattern.specs.Form.{falling}
 use borrow.Author.Needs.{needs}
 use Rattle.pattern.proofs.is_falling.Statement.{statement}
@@ -19,7 +18,7 @@ byte-at-requires-2 c κs = search needs
 
 returns : tie.Need-returns
 unfolding falling
-returns c = cc
+returns c = less (c .before .byte-at .ensures) (c .byte-at2 .ensures)
 
 pub is-falling-spec : {M : Type 1} → statement M
 is-falling-spec =

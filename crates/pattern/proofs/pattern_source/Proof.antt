@@ -1,9 +1,6 @@
-use Rattle.pattern.proofs.Bounds.{field-below}
 use native.Mathlib.Omega.{arith}
-use Rattle.pattern.proofs.Bounds.{small, placed, bits, field, colours-twice}
-use mathlib.Core.Path.{_≡_, refl, sym, ap, _∙_}
+use Rattle.pattern.proofs.Bounds.{small, placed, bits, field-below, field-lies, source-met}
 use Rattle.pattern.specs.Pattern.{patternLength}
-use Rattle.pattern.specs.Pattern.{patternSource}
 use borrow.Author.Needs.{needs}
 use Rattle.pattern.proofs.pattern_source.Statement.{statement}
 use Rattle.pattern.proofs.pattern_source.Tie as tie
@@ -26,14 +23,14 @@ add-field-at : tie.Need-add-field-at
 add-field-at c = let l = placed _ (c .before .before .before .pre .0) (c .before .before .before .pre .2) in let k = small (c .before .before .before .pre .0) in let e = c .before .part-start .ensures in omega arith
 
 field-at-requires : tie.Need-field-at-requires
-field-at-requires c κs = let l = placed _ (c .before .before .before .pre .0) (c .before .before .before .pre .2) in let k = small (c .before .before .before .pre .0) in let e = c .before .part-start .ensures in let g = c .field-number .ensures in rw (e, g) (record { bits = bits (c .before .before .before .pre .0); number = l .field-few; byte = omega (arith, c .before .before .before .pre .1) })
+field-at-requires c κs = field-lies _ (c .before .before .before .pre .0) (c .before .before .before .pre .2) (c .before .before .before .pre .1) (c .before .part-start .ensures) (c .field-number .ensures)
 
 add-result : tie.Need-add-result
 add-result c = let l = placed _ (c .before .before .before .before .pre .0) (c .before .before .before .before .pre .2) in let k = small (c .before .before .before .before .pre .0) in let f = field-below _ _ _ _ (c .field-at .ensures) (bits (c .before .before .before .before .pre .0)) in omega (arith, f, c .before .before .part-start .ensures)
 
 returns : tie.Need-returns
-unfolding patternLength patternSource
-returns c = rw (c .field-at .ensures, c .before .field-number .ensures, c .before .before .part-start .ensures, colours-twice (c .before .before .before .before .pre .0))
+unfolding patternLength
+returns c = source-met _ _ (c .before .before .before .before .pre .0) (c .before .before .part-start .ensures) (c .before .field-number .ensures) (c .field-at .ensures)
 
 pub pattern-source-spec : {M : Type 1} → statement M
 pattern-source-spec =
