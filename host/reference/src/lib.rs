@@ -17,6 +17,7 @@
 //! | [`palette`] | opcodes 0B, 0C, 0D |
 //! | [`film`] | header, chunks, opcodes, one step, the shown picture |
 //! | [`listing`] | the text that the listing program writes |
+//! | [`pictures`] | the pictures that a film sends, as the example players write them |
 
 pub mod block;
 pub mod book;
@@ -25,6 +26,7 @@ pub mod frame;
 pub mod listing;
 pub mod packet;
 pub mod palette;
+pub mod pictures;
 pub mod refusal;
 
 pub use block::{source, Source};

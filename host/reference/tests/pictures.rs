@@ -1,0 +1,63 @@
+//! The pictures that a film sends, as PPM files.
+
+mod common;
+
+use common::{chunk, film, opcode, send, size, video};
+use reference::pictures::play;
+use reference::Refusal;
+
+/// Opcodes 0F and 11 of a frame of one solid block.
+fn solid(colour: u8) -> [Vec<u8>; 2] {
+    [opcode(0x0F, 0, &[0x0E]), video(&[colour])]
+}
+
+/// Opcode 0C with one entry.
+fn entry(index: u8, colour: [u8; 3]) -> Vec<u8> {
+    opcode(0x0C, 0, &[&[index, 0, 1, 0], &colour[..]].concat())
+}
+
+fn ppm(colour: [u8; 3]) -> Vec<u8> {
+    [&b"P6\n8 8\n255\n"[..], &colour.repeat(64)].concat()
+}
+
+/// Components are scaled to the nearest: 63 is 255, 1 is 4.05, 11 is 44.5 and a little.
+#[test]
+fn palette_is_scaled() {
+    let [map, frame] = solid(7);
+    let opcodes = [entry(7, [63, 1, 11]), size(8, 8), map, frame, send()];
+    let played = play(&film(&[chunk(&opcodes)]));
+    assert_eq!(played.pictures, [ppm([255, 4, 45])]);
+    assert_eq!((played.position, played.refusal), (26 + 4 + 11 + 8 + 5 + 19 + 8, None));
+}
+
+/// A picture for each frame that is sent, with the palette as it then stands: none for a frame that
+/// is not sent, and none for a 07 with nothing to send.
+#[test]
+fn one_for_each_sent() {
+    let (one, two, three) = (solid(1), solid(2), solid(3));
+    let opcodes = [
+        vec![send(), entry(1, [63, 0, 0]), size(8, 8), send()],
+        one.to_vec(),
+        vec![send(), send(), entry(1, [0, 63, 0])],
+        two.to_vec(),
+        one.to_vec(),
+        vec![send()],
+        three.to_vec(),
+    ];
+    let played = play(&film(&[chunk(&opcodes.concat())]));
+    assert_eq!(played.pictures, [ppm([255, 0, 0]), ppm([0, 255, 0])]);
+    assert_eq!(played.refusal, None);
+}
+
+/// What was sent before a refusal stays; a refused opening has position 0.
+#[test]
+fn refused() {
+    let [map, frame] = solid(0);
+    let film = film(&[chunk(&[size(8, 8), map, frame, send(), opcode(0x06, 0, &[])])]);
+    let played = play(&film);
+    assert_eq!(played.pictures, [ppm([0; 3])]);
+    assert_eq!((played.position, played.refusal), (film.len() - 4, Some(Refusal::new(4))));
+    let played = play(&film[1..]);
+    assert_eq!((played.pictures.len(), played.position), (0, 0));
+    assert_eq!(played.refusal, Some(Refusal::new(1)));
+}
