@@ -235,15 +235,15 @@ pub fn outside_copy(rng: &mut Seeded, size: Size, number: usize) -> Option<Block
 }
 
 /// How far a block may be copied from: the least and greatest offset in x and in y.
-struct Reach {
-    left: isize,
-    right: isize,
-    up: isize,
-    down: isize,
+pub(crate) struct Reach {
+    pub(crate) left: isize,
+    pub(crate) right: isize,
+    pub(crate) up: isize,
+    pub(crate) down: isize,
 }
 
 impl Reach {
-    fn of(size: Size, number: usize) -> Reach {
+    pub(crate) fn of(size: Size, number: usize) -> Reach {
         let (x, y) = size.corner(number);
         Reach {
             left: -(x as isize),
@@ -253,13 +253,13 @@ impl Reach {
         }
     }
 
-    fn has(&self, (dx, dy): (isize, isize)) -> bool {
+    pub(crate) fn has(&self, (dx, dy): (isize, isize)) -> bool {
         (self.left..=self.right).contains(&dx) && (self.up..=self.down).contains(&dy)
     }
 }
 
 /// The data bytes of codes 2 to 4 whose vector is wanted.
-fn one_byte_vectors(code: u8, wanted: impl Fn((isize, isize)) -> bool) -> Vec<u8> {
+pub(crate) fn one_byte_vectors(code: u8, wanted: impl Fn((isize, isize)) -> bool) -> Vec<u8> {
     (0..=255).filter(|&byte| wanted(one_byte_vector(code, byte))).collect()
 }
 

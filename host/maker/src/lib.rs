@@ -1,11 +1,15 @@
 //! Seeded makers of test inputs: packets, films, film states and lists of drawing calls; valid,
 //! damaged and hostile. The same seed gives the same bytes for ever, on every machine.
 //!
+//! [`demo`] is the one film that is made for the eye.
+//!
 //! Packets, films and calls are written from the documents, encoder's side up: what a maker calls
 //! valid is so by construction, not because a decoder took it. Only [`states`] uses the second
 //! decoder, to walk into the middle of a film. In comments "01" is the scope document.
 
 pub mod calls;
+pub mod demo;
+pub mod encode;
 pub mod film;
 pub mod film_damage;
 pub mod form;

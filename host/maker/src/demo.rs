@@ -1,0 +1,166 @@
+//! The film of the demonstration: a ball bounces through a sunset, for four seconds at ten pictures
+//! a second. It has every opcode that is acted on and blocks of many codes, and is small enough for
+//! the listing program.
+
+use crate::encode;
+use crate::film::{packet_opcodes, Chunk, Film, Opcode};
+use crate::seeded::Seeded;
+use crate::size::Size;
+
+/// 128x96 pixels.
+pub const SIZE: Size = Size { columns: 16, rows: 12 };
+/// The pictures that the film sends.
+pub const FRAMES: usize = 40;
+
+/// Palette entries: a colour for each block of the sky and of the ground, then single ones.
+const SKY: usize = 0;
+const SKY_ROWS: usize = 9;
+const GROUND: usize = SKY + SKY_ROWS * 16;
+const BALL: usize = 192;
+const SUN: usize = 196;
+const HILL: usize = 198;
+const STAR: usize = 199;
+const SHADOW: usize = 200;
+
+/// The last of them, from `SUN` on.
+const SINGLE_COLOURS: [[u8; 3]; 5] =
+    [[63, 60, 36], [63, 48, 10], [10, 2, 14], [60, 60, 63], [4, 6, 2]];
+/// The ball's shades, brightest first; it changes colour where it meets the ground.
+const BALL_COLOURS: [[[u8; 3]; 4]; 4] = [
+    [[63, 63, 60], [63, 44, 8], [52, 26, 4], [30, 12, 2]],
+    [[63, 63, 63], [20, 50, 63], [8, 32, 52], [2, 16, 30]],
+    [[62, 63, 60], [36, 60, 16], [18, 42, 8], [8, 24, 4]],
+    [[63, 62, 63], [63, 30, 50], [48, 14, 34], [28, 6, 20]],
+];
+/// Pictures between two bounces.
+const BOUNCE: usize = FRAMES / BALL_COLOURS.len();
+
+/// The film.
+pub fn film() -> Film {
+    let mut chunks = vec![first_chunk()];
+    let (mut front, mut back) = (vec![0; SIZE.pixels()], vec![0; SIZE.pixels()]);
+    for frame in 0..FRAMES {
+        let wanted = picture(frame);
+        chunks.push(frame_chunk(frame, &wanted, &front, &back));
+        (back, front) = (front, wanted);
+    }
+    chunks.push(Chunk {
+        kind: 5,
+        opcodes: vec![Opcode::new(0x00, 0, Vec::new())],
+        ..Chunk::default()
+    });
+    Film { size: SIZE, chunks, tail: Vec::new() }
+}
+
+/// The picture of a frame: a palette entry for each pixel.
+pub fn picture(frame: usize) -> Vec<u8> {
+    let ball = Ball::at(frame);
+    let pixel = |i| pixel(&ball, (i % SIZE.width()) as isize, (i / SIZE.width()) as isize);
+    (0..SIZE.pixels()).map(|i| pixel(i) as u8).collect()
+}
+
+/// Timer, size, mode, gradients and single colours. Timer and mode are passed over.
+fn first_chunk() -> Chunk {
+    let timer = [&100_000_u32.to_le_bytes()[..], &1_u16.to_le_bytes()].concat();
+    let size = [SIZE.width(), SIZE.height()].map(|side| (side as u16).to_le_bytes()).concat();
+    let mode = [640_u16, 480, 0].map(u16::to_le_bytes).concat();
+    let gradients = vec![SKY as u8, SKY_ROWS as u8, 16, GROUND as u8, 3, 16];
+    let count = SINGLE_COLOURS.len() as u16;
+    let single = [&(SUN as u16).to_le_bytes()[..], &count.to_le_bytes(), &SINGLE_COLOURS.concat()];
+    let opcodes = vec![
+        Opcode::new(0x02, 0, timer),
+        Opcode::new(0x05, 0, size),
+        Opcode::new(0x0A, 0, mode),
+        Opcode::new(0x0B, 0, gradients),
+        Opcode::new(0x0C, 0, single.concat()),
+        Opcode::new(0x01, 0, Vec::new()),
+    ];
+    Chunk { kind: 2, opcodes, ..Chunk::default() }
+}
+
+fn frame_chunk(frame: usize, wanted: &[u8], front: &[u8], back: &[u8]) -> Chunk {
+    let mut opcodes = Vec::new();
+    if frame.is_multiple_of(BOUNCE) {
+        opcodes.push(Opcode::new(0x0D, 0, ball_colours(BALL_COLOURS[frame / BOUNCE])));
+    }
+    let packet = encode::packet(SIZE, wanted, front, back).packet();
+    opcodes.extend(packet_opcodes(&mut Seeded::new(0), packet));
+    opcodes.push(Opcode::new(0x07, 0, vec![0; 4]));
+    opcodes.push(Opcode::new(0x01, 0, Vec::new()));
+    Chunk { kind: 3, opcodes, ..Chunk::default() }
+}
+
+/// A body of 0D: the first four entries of one group of eight.
+fn ball_colours(colours: [[u8; 3]; 4]) -> Vec<u8> {
+    let mut body = vec![0; BALL / 8];
+    body.push(0x0F);
+    body.extend(colours.concat());
+    body.resize(body.len() + 31 - BALL / 8, 0);
+    body
+}
+
+/// Where the ball is, and how high above the ground.
+struct Ball {
+    x: isize,
+    y: isize,
+    height: isize,
+}
+
+impl Ball {
+    fn at(frame: usize) -> Ball {
+        let (frame, frames, bounce) = (frame as isize, FRAMES as isize, BOUNCE as isize);
+        let passed = frame % bounce;
+        let height = 52 * 4 * passed * (bounce - passed) / (bounce * bounce);
+        Ball { x: 14 + 5 * frame.min(frames - frame), y: 77 - height, height }
+    }
+
+    /// The shade of the ball at a pixel: darker away from its bright spot, up and left.
+    fn shade(&self, x: isize, y: isize) -> Option<usize> {
+        let (dx, dy) = (x - self.x, y - self.y);
+        let from_spot = (dx + 4) * (dx + 4) + (dy + 4) * (dy + 4);
+        let limits = [12, 90, 170, isize::MAX];
+        let shade = limits.iter().position(|&limit| from_spot < limit);
+        shade.filter(|_| dx * dx + dy * dy <= 11 * 11 + 5)
+    }
+
+    fn shadow(&self, x: isize, y: isize) -> bool {
+        let (dx, dy) = (x - self.x, 4 * (y - 88));
+        let radius = 11 - self.height / 8;
+        dx * dx + dy * dy <= radius * radius
+    }
+}
+
+fn pixel(ball: &Ball, x: isize, y: isize) -> usize {
+    let block = (y / 8 * 16 + x / 8) as usize;
+    let sun = (x - 92) * (x - 92) + (y - 62) * (y - 62);
+    match ball.shade(x, y) {
+        Some(shade) => BALL + shade,
+        None if ball.shadow(x, y) => SHADOW,
+        None if y >= SKY_ROWS as isize * 8 => GROUND + ground_row(x, y) * 16 + block % 16,
+        None if hill(x) >= 72 - y => HILL,
+        None if sun <= 10 * 10 => SUN,
+        None if sun <= 13 * 13 => SUN + 1,
+        None if is_star(x, y) => STAR,
+        None => SKY + block,
+    }
+}
+
+/// The row of the ground's gradient: brightest at the horizon, then two rows at a time, dithered.
+fn ground_row(x: isize, y: isize) -> usize {
+    match y / 8 {
+        9 => 2,
+        10 => 1 + (x + y) as usize % 2,
+        _ => (x + y) as usize % 2,
+    }
+}
+
+/// How high the hills are at a column.
+fn hill(x: isize) -> isize {
+    let peak = |at: isize, height: isize| height - (x - at).abs() / 2;
+    peak(22, 15).max(peak(58, 10)).max(peak(118, 12)).max(0)
+}
+
+/// Stars are few, and high up.
+fn is_star(x: isize, y: isize) -> bool {
+    (x * 37 + y * 101) % 509 < 2 && y < 40
+}
