@@ -18,6 +18,8 @@ mve_shown  how many bytes of the front picture are to be shown
 mve_check  whether a packet is accepted, without drawing
 mve_draw   the drawing of a packet, without a film
 
+examples/play.c is a whole player, which is stopped and goes on.
+
 MEMORY
 
 Nothing is allocated and nothing is kept between calls; all memory is lent by the caller. What is lent must be private
