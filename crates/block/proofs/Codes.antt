@@ -13,7 +13,7 @@ use Rattle.pattern.specs.Pattern.{colours, cells, partLength, patternLength}
 use Rattle.pattern.proofs.Bounds.{small}
 use Rattle.motion.specs.declared.Vector.{Vector}
 use Rattle.motion.specs.Motion.{aheadVector, negated, nearVector, farVector, pointsInside}
-use Rattle.block.specs.Block.{Side, one, two, four, eight, pixels, Kind, same, kept, ahead, behind, near, far, patterned, celled, dithered, refused, kinds, kindOf, dataLength, copyInside}
+use Rattle.block.specs.Block.{Side, one, two, four, eight, pixels, Kind, same, kept, ahead, behind, near, far, patterned, celled, dithered, refused, kinds, kindOf, dataLength, isRefused, copyInside}
 use Rattle.block.specs.Asked.{Sided}
 
 -- what holds of each of the sixteen codes holds of every code
@@ -39,6 +39,22 @@ each-code P p0 p1 p2 p3 p4 p5 p6 p7 p8 p9 pA pB pC pD pE pF (suc (suc (suc (suc 
     by-4 (suc (suc (suc (suc (suc (suc (suc (suc (suc (suc zero)))))))))) h = pE
     by-4 (suc (suc (suc (suc (suc (suc (suc (suc (suc (suc (suc zero))))))))))) h = pF
     by-4 (suc (suc (suc (suc (suc (suc (suc (suc (suc (suc (suc (suc c)))))))))))) h = absurd (let z : ⊥ = omega arith in z)
+
+-- ---- the code that is refused
+
+Known : List ℕ → ℕ → Type 0
+Known s c = (c ≡ 6 → ⊥) → isRefused (kindOf c s) ≡ false
+
+-- a code is refused exactly where it is 6
+pub code-known : (s : List ℕ) (c : ℕ) → c < 16 → (c ≡ 6 → ⊥) → isRefused (kindOf c s) ≡ false
+unfolding Known kindOf kinds isRefused
+code-known s =
+    each-code (Known s) (λ n. refl) (λ n. refl) (λ n. refl) (λ n. refl) (λ n. refl) (λ n. refl) (λ n. absurd (n refl)) (λ n. refl)
+    (λ n. refl) (λ n. refl) (λ n. refl) (λ n. refl) (λ n. refl) (λ n. refl) (λ n. refl) (λ n. refl)
+
+pub code-refused : (s : List ℕ) (c : ℕ) → c ≡ 6 → isRefused (kindOf c s) ≡ true
+unfolding kindOf kinds isRefused
+code-refused s c e = rw e
 
 -- ---- each code's kind, by what code found
 

@@ -17,7 +17,8 @@ use Rattle.block.specs.Block.{Kind, same, kept, ahead, behind, near, far, patte
 use Rattle.packet.specs.Packet.{Packet, blocks, width, height, left, top, code, startOf, start, dataOf, kind}
 use Rattle.packet.specs.Verdict.{andThen, blockVerdict, endVerdict, verdictFrom, blocksVerdict, mapFits, legalSize, sized, verdict}
 use Rattle.packet.specs.Accepted.{CopyInside, Takes, Whole, Accepts}
-use Rattle.packet.proofs.Walk.{code-below, code-known, code-refused}
+use Rattle.block.proofs.Codes.{code-known, code-refused}
+use Rattle.packet.proofs.Walk.{code-below}
 use Rattle.packet.proofs.Sizes.{size-is, is-size}
 
 refuses : (n k : ℕ) → refuse n k ≡ accept → ⊥

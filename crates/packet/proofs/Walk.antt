@@ -12,8 +12,8 @@ use lib.Dec.{eqb}
 use lib.ListN.{length, take, drop, getD, length-drop}
 use lib.Seq.{take-all}
 use Rattle.refusal.specs.Number.{Verdict, accept, refuse}
-use Rattle.block.specs.Block.{Kind, codeAt, kinds, kindOf, dataLength, isRefused, copyInside}
-use Rattle.block.proofs.Codes.{each-code, length-few}
+use Rattle.block.specs.Block.{Kind, codeAt, kindOf, dataLength, isRefused, copyInside}
+use Rattle.block.proofs.Codes.{length-few, code-known, code-refused}
 use Rattle.packet.specs.Packet.{Packet, blocks, width, height, left, top, code, startOf, start, dataOf, kind}
 use Rattle.packet.specs.Verdict.{andThen, blockVerdict, endVerdict, verdictFrom, blocksVerdict}
 use Rattle.packet.specs.Asked.{Sized}
@@ -28,20 +28,6 @@ nibble-below b false = omega arith
 pub code-below : (map : List ℕ) (k : ℕ) → codeAt map k < 16
 unfolding codeAt
 code-below map k = nibble-below (getD map (k / 2) 0) (eqb (k % 2) 0)
-
-Known : List ℕ → ℕ → Type 0
-Known s c = (c ≡ 6 → ⊥) → isRefused (kindOf c s) ≡ false
-
--- a code is refused exactly where it is 6
-pub code-known : (s : List ℕ) (c : ℕ) → c < 16 → (c ≡ 6 → ⊥) → isRefused (kindOf c s) ≡ false
-unfolding Known kindOf kinds isRefused
-code-known s =
-    each-code (Known s) (λ n. refl) (λ n. refl) (λ n. refl) (λ n. refl) (λ n. refl) (λ n. refl) (λ n. absurd (n refl)) (λ n. refl)
-    (λ n. refl) (λ n. refl) (λ n. refl) (λ n. refl) (λ n. refl) (λ n. refl) (λ n. refl) (λ n. refl)
-
-pub code-refused : (s : List ℕ) (c : ℕ) → c ≡ 6 → isRefused (kindOf c s) ≡ true
-unfolding kindOf kinds isRefused
-code-refused s c e = rw e
 
 -- ---- what is known at block k
 

@@ -4,19 +4,23 @@ use motion::ahead_vector;
 use motion::behind_vector;
 use motion::far_vector;
 use motion::near_vector;
+use motion::raster_index;
 use paint::copy_back;
 use paint::copy_front;
 use paint::paint_cells;
 use paint::paint_dither;
 use paint::paint_pattern;
+use paint::put;
 use pattern::Form;
 use pattern::form_of_7;
 use pattern::form_of_8;
 use pattern::form_of_9;
 use pattern::form_of_a;
+use pixel::fetch;
+use pixel::source_of;
 use words::byte_at;
 ghost use mathlib.Core.Path.{_≡_};
-ghost use Prim.Native.Nat.{_≤_, _<_};
+ghost use Prim.Native.Nat.{_≤_};
 ghost use lib.ListN.{length};
 ghost use Rattle.pattern.specs.Form.{shape};
 ghost use Rattle.pattern.specs.Pattern.{patternLength, patternSource};
@@ -29,18 +33,9 @@ ghost use Rattle.paint_block.specs.Value.{blockPlan};
 ghost use Rattle.paint_block.specs.Asked.{Canvas, Pointed, Drawable};
 
 // A copy of the 8x8 of front that v points at.
-fn copy_front_by(
-    v: Vector,
-    front: &[u8],
-    back: &mut [u8],
-    w: usize,
-    h: usize,
-    x: usize,
-    y: usize,
-    n: usize,
-)
-    requires { ⌜ Pointed v w h x y × Canvas w h x y (length (now front)) (length (now back)) × (n ≤ 64) ⌝ }
-    ensures { λ _. ⌜ now (back .exit) ≡ firstPixels (single (rasterIndex w x y) (fixedValue (copiedIndex v w x y) (now (front .entry)))) 0 (now (back .entry)) n ⌝ }
+fn copy_front_by(v: Vector, front: &[u8], back: &mut [u8], w: usize, h: usize, x: usize, y: usize)
+    requires { ⌜ Pointed v w h x y × Canvas w h x y (length (now front)) (length (now back)) ⌝ }
+    ensures { λ _. ⌜ now (back .exit) ≡ firstPixels (single (rasterIndex w x y) (fixedValue (copiedIndex v w x y) (now (front .entry)))) 0 (now (back .entry)) 64 ⌝ }
 {
     copy_front(
         front,
@@ -50,36 +45,100 @@ fn copy_front_by(
         y + v.down - v.up,
         x,
         y,
-        n,
     )
 }
 
 // A copy of the 8x8 of back that v points at.
-fn copy_back_by(v: Vector, back: &mut [u8], w: usize, h: usize, x: usize, y: usize, n: usize)
-    requires { ⌜ Pointed v w h x y × Canvas w h x y (length (now back)) (length (now back)) × (n ≤ 64) ⌝ }
-    ensures { λ _. ⌜ now (back .exit) ≡ firstPixels (single (rasterIndex w x y) (backValue (copiedIndex v w x y))) 0 (now (back .entry)) n ⌝ }
+fn copy_back_by(v: Vector, back: &mut [u8], w: usize, h: usize, x: usize, y: usize)
+    requires { ⌜ Pointed v w h x y × Canvas w h x y (length (now back)) (length (now back)) ⌝ }
+    ensures { λ _. ⌜ now (back .exit) ≡ firstPixels (single (rasterIndex w x y) (backValue (copiedIndex v w x y))) 0 (now (back .entry)) 64 ⌝ }
 {
-    copy_back(back, w, x + v.right - v.left, y + v.down - v.up, x, y, n)
+    copy_back(back, w, x + v.right - v.left, y + v.down - v.up, x, y)
 }
 
 // A patterned block. The numbers of each form are literals, so that each form has a loop of its own.
-fn paint_form(form: Form, s: &[u8], back: &mut [u8], w: usize, x: usize, y: usize, n: usize)
-    requires { ⌜ (patternLength (shape form) ≤ length (now s)) × Square w x y (length (now back)) × (n ≤ 64) ⌝ }
-    ensures { λ _. ⌜ now (back .exit) ≡ firstPixels (single (rasterIndex w x y) (fixedValue (patternSource (shape form) (now (s .entry))) (now (s .entry)))) 0 (now (back .entry)) n ⌝ }
+fn paint_form(form: Form, s: &[u8], back: &mut [u8], w: usize, x: usize, y: usize)
+    requires { ⌜ (patternLength (shape form) ≤ length (now s)) × Square w x y (length (now back)) ⌝ }
+    ensures { λ _. ⌜ now (back .exit) ≡ firstPixels (single (rasterIndex w x y) (fixedValue (patternSource (shape form) (now (s .entry))) (now (s .entry)))) 0 (now (back .entry)) 64 ⌝ }
 {
     match form {
-        Form::Two1x1 => paint_pattern(1, 8, 8, 1, 1, s, back, w, x, y, n),
-        Form::Two2x2 => paint_pattern(1, 8, 8, 2, 2, s, back, w, x, y, n),
-        Form::TwoQuarters => paint_pattern(1, 4, 4, 1, 1, s, back, w, x, y, n),
-        Form::TwoLeftRight => paint_pattern(1, 4, 8, 1, 1, s, back, w, x, y, n),
-        Form::TwoTopBottom => paint_pattern(1, 8, 4, 1, 1, s, back, w, x, y, n),
-        Form::Four1x1 => paint_pattern(2, 8, 8, 1, 1, s, back, w, x, y, n),
-        Form::Four2x2 => paint_pattern(2, 8, 8, 2, 2, s, back, w, x, y, n),
-        Form::Four2x1 => paint_pattern(2, 8, 8, 2, 1, s, back, w, x, y, n),
-        Form::Four1x2 => paint_pattern(2, 8, 8, 1, 2, s, back, w, x, y, n),
-        Form::FourQuarters => paint_pattern(2, 4, 4, 1, 1, s, back, w, x, y, n),
-        Form::FourLeftRight => paint_pattern(2, 4, 8, 1, 1, s, back, w, x, y, n),
-        Form::FourTopBottom => paint_pattern(2, 8, 4, 1, 1, s, back, w, x, y, n),
+        Form::Two1x1 => paint_pattern(1, 8, 8, 1, 1, s, back, w, x, y),
+        Form::Two2x2 => paint_pattern(1, 8, 8, 2, 2, s, back, w, x, y),
+        Form::TwoQuarters => paint_pattern(1, 4, 4, 1, 1, s, back, w, x, y),
+        Form::TwoLeftRight => paint_pattern(1, 4, 8, 1, 1, s, back, w, x, y),
+        Form::TwoTopBottom => paint_pattern(1, 8, 4, 1, 1, s, back, w, x, y),
+        Form::Four1x1 => paint_pattern(2, 8, 8, 1, 1, s, back, w, x, y),
+        Form::Four2x2 => paint_pattern(2, 8, 8, 2, 2, s, back, w, x, y),
+        Form::Four2x1 => paint_pattern(2, 8, 8, 2, 1, s, back, w, x, y),
+        Form::Four1x2 => paint_pattern(2, 8, 8, 1, 2, s, back, w, x, y),
+        Form::FourQuarters => paint_pattern(2, 4, 4, 1, 1, s, back, w, x, y),
+        Form::FourLeftRight => paint_pattern(2, 4, 8, 1, 1, s, back, w, x, y),
+        Form::FourTopBottom => paint_pattern(2, 8, 4, 1, 1, s, back, w, x, y),
+    }
+}
+
+// All 64 pixels of the block at x, y, whose data is s.
+fn paint_whole(
+    code: u8,
+    s: &[u8],
+    front: &[u8],
+    back: &mut [u8],
+    w: usize,
+    h: usize,
+    x: usize,
+    y: usize,
+)
+    requires { ⌜ Drawable code (now s) w h x y 64 × Canvas w h x y (length (now front)) (length (now back)) ⌝ }
+    ensures { λ _. ⌜ now (back .exit) ≡ firstPixels (blockPlan (kindOf code (now (s .entry))) (now (s .entry)) w x y (now (front .entry))) 0 (now (back .entry)) 64 ⌝ }
+{
+    match code {
+        0 => copy_front(front, back, w, x, y, x, y),
+        1 => {}
+        2 => copy_back_by(ahead_vector(byte_at(s, 0)), back, w, h, x, y),
+        3 => copy_back_by(behind_vector(byte_at(s, 0)), back, w, h, x, y),
+        4 => copy_front_by(near_vector(byte_at(s, 0)), front, back, w, h, x, y),
+        5 => copy_front_by(
+            far_vector(byte_at(s, 0), byte_at(s, 1)),
+            front,
+            back,
+            w,
+            h,
+            x,
+            y,
+        ),
+        7 => paint_form(form_of_7(s), s, back, w, x, y),
+        8 => paint_form(form_of_8(s), s, back, w, x, y),
+        9 => paint_form(form_of_9(s), s, back, w, x, y),
+        10 => paint_form(form_of_a(s), s, back, w, x, y),
+        11 => paint_cells(1, s, back, w, x, y),
+        12 => paint_cells(2, s, back, w, x, y),
+        13 => paint_cells(4, s, back, w, x, y),
+        14 => paint_cells(8, s, back, w, x, y),
+        15 => paint_dither(s, back, w, x, y),
+        _ => {}
+    }
+}
+
+// The first n pixels, each read where its source is: for the one block of a call that may be left unfinished.
+fn paint_part(
+    code: u8,
+    s: &[u8],
+    front: &[u8],
+    back: &mut [u8],
+    w: usize,
+    h: usize,
+    x: usize,
+    y: usize,
+    n: usize,
+)
+    requires { ⌜ Drawable code (now s) w h x y n × Canvas w h x y (length (now front)) (length (now back)) ⌝ }
+    ensures { λ _. ⌜ now (back .exit) ≡ firstPixels (blockPlan (kindOf code (now (s .entry))) (now (s .entry)) w x y (now (front .entry))) 0 (now (back .entry)) n ⌝ }
+{
+    let mut i = 0;
+    while i < n {
+        let v = fetch(source_of(code, s, w, h, x, y, i), s, front, &back[..]);
+        put(back, raster_index(w, x, y, i), v);
+        i += 1;
     }
 }
 
@@ -98,31 +157,9 @@ pub fn paint_block(
     requires { ⌜ Drawable code (now s) w h x y n × Canvas w h x y (length (now front)) (length (now back)) ⌝ }
     ensures { λ _. ⌜ now (back .exit) ≡ firstPixels (blockPlan (kindOf code (now (s .entry))) (now (s .entry)) w x y (now (front .entry))) 0 (now (back .entry)) n ⌝ }
 {
-    match code {
-        0 => copy_front(front, back, w, x, y, x, y, n),
-        1 => {}
-        2 => copy_back_by(ahead_vector(byte_at(s, 0)), back, w, h, x, y, n),
-        3 => copy_back_by(behind_vector(byte_at(s, 0)), back, w, h, x, y, n),
-        4 => copy_front_by(near_vector(byte_at(s, 0)), front, back, w, h, x, y, n),
-        5 => copy_front_by(
-            far_vector(byte_at(s, 0), byte_at(s, 1)),
-            front,
-            back,
-            w,
-            h,
-            x,
-            y,
-            n,
-        ),
-        7 => paint_form(form_of_7(s), s, back, w, x, y, n),
-        8 => paint_form(form_of_8(s), s, back, w, x, y, n),
-        9 => paint_form(form_of_9(s), s, back, w, x, y, n),
-        10 => paint_form(form_of_a(s), s, back, w, x, y, n),
-        11 => paint_cells(1, s, back, w, x, y, n),
-        12 => paint_cells(2, s, back, w, x, y, n),
-        13 => paint_cells(4, s, back, w, x, y, n),
-        14 => paint_cells(8, s, back, w, x, y, n),
-        15 => paint_dither(s, back, w, x, y, n),
-        _ => {}
+    if n < 64 {
+        paint_part(code, s, front, back, w, h, x, y, n);
+        return;
     }
+    paint_whole(code, s, front, back, w, h, x, y)
 }

@@ -79,6 +79,21 @@ bits-of FourQuarters = inr refl
 bits-of FourLeftRight = inr refl
 bits-of FourTopBottom = inr refl
 
+-- the parts beside each other make up a row of eight pixels
+row-of : (f : Form) → shape f .across * (8 / shape f .across) ≡ 8
+row-of Two1x1 = refl
+row-of Two2x2 = refl
+row-of TwoQuarters = refl
+row-of TwoLeftRight = refl
+row-of TwoTopBottom = refl
+row-of Four1x1 = refl
+row-of Four2x2 = refl
+row-of Four2x1 = refl
+row-of Four1x2 = refl
+row-of FourQuarters = refl
+row-of FourLeftRight = refl
+row-of FourTopBottom = refl
+
 -- field n of b bits: it lies in one byte, and its number of colours is a power of two
 pub record Field (b n : ℕ) : Type 0 where
   pub some : 1 ≤ b
@@ -97,6 +112,9 @@ small (f, e) = subst Small e (small-of f)
 
 pub placed : {q : Shape} (i : ℕ) → Shaped q → i < 64 → Placed q i
 placed i (f, e) h = subst (λ (q : Shape). Placed q i) e (placed-of f i h)
+
+pub row : {q : Shape} → Shaped q → q .across * (8 / q .across) ≡ 8
+row (f, e) = subst (λ (q : Shape). q .across * (8 / q .across) ≡ 8) e (row-of f)
 
 pub bits : {q : Shape} → Shaped q → (q .bits ≡ 1) ⊎ (q .bits ≡ 2)
 bits (f, e) = subst (λ (q : Shape). (q .bits ≡ 1) ⊎ (q .bits ≡ 2)) e (bits-of f)
