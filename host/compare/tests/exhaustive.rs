@@ -1,10 +1,15 @@
-//! What there are few enough of to try all: sizes, motion vectors, data lengths, places.
+//! What there are few enough of to try all: sizes, motion vectors, data lengths, places; of a film
+//! the opcodes' types, versions and body lengths, and where a run of palette entries starts.
 
-use compare::{Answer, Checked, Decoder, Proved, Second};
+use compare::{Answer, Checked, Decoder, Proved, Second, Step, Walked};
+use maker::film::{Chunk, Film, Opcode};
 use maker::packet::Draft;
+use maker::states::Start;
 use maker::{Form, Packet, Profile, Seeded, Size};
+use reference::film::{open, Span, State};
 use reference::Refusal;
 use std::cmp::Ordering;
+use std::collections::BTreeSet;
 
 /// Numbers that no film gives, but that a caller can: some of them would wrap around.
 const EXTREMES: [usize; 6] =
@@ -122,6 +127,169 @@ fn every_place() {
                 let answer = draw(rng, &packet, place, allowed);
                 assert_eq!(answer.is_err(), place > size.blocks(), "{answer:?}");
             }
+        }
+    }
+}
+
+/// A film of one opcode, last in its chunk or with 01 behind it. The byte behind the chunk is a map
+/// for one block, of a code whose data is as long as the packet in this body, if 0 or B to F is one.
+fn film_of(kind: u8, version: u8, body: &[u8], last: bool) -> Vec<u8> {
+    let code = match body.len().checked_sub(14) {
+        Some(0) => 0x0,
+        Some(1) => 0xE,
+        Some(2) => 0xF,
+        Some(4) => 0xD,
+        Some(16) => 0xC,
+        _ => 0xB,
+    };
+    let mut opcodes = vec![Opcode::new(kind, version, body.to_vec())];
+    if !last {
+        opcodes.push(Opcode::new(0x01, 0, Vec::new()));
+    }
+    let chunks = vec![Chunk { opcodes, ..Chunk::default() }];
+    Film { size: Size::new(1, 1), chunks, tail: vec![code] }.bytes()
+}
+
+/// A step at that opcode, with memory of any bytes.
+fn lent(rng: &mut Seeded, film: &[u8]) -> Start {
+    let opened = open(film).expect("a header");
+    Start {
+        state: State { position: 30, chunk_end: film.len() - 1, ..opened },
+        palette: rng.bytes(768),
+        picture_a: rng.bytes(64),
+        picture_b: rng.bytes(64),
+        place: 3,
+        allowed: 312_000,
+    }
+}
+
+/// Steps at that opcode: without size and map, with either, and with both, where the stores allowed
+/// are enough for the block or too few.
+fn starts(rng: &mut Seeded, film: &[u8]) -> [Start; 5] {
+    let opened = lent(rng, film);
+    let with = |state| Start { state, ..opened.clone() };
+    let map = Some(Span { start: film.len() - 1, length: 1 });
+    let sized = with(State { width: 8, height: 8, ..opened.state });
+    let mapped = with(State { map, ..opened.state });
+    let both = with(State { map, front: 1, unsent: true, ..sized.state });
+    let enough = Start { place: 0, ..both };
+    let too_few = Start { allowed: 10, ..enough.clone() };
+    [opened, sized, mapped, enough, too_few]
+}
+
+/// The body of 0D that sets so many entries, the first ones.
+fn groups(entries: usize) -> Vec<u8> {
+    let group = |first: usize| {
+        let ones = entries.saturating_sub(first).min(8);
+        let mask = (0xFF_u16 >> (8 - ones)) as u8;
+        [vec![mask], vec![7; 3 * ones]].concat()
+    };
+    (0..256).step_by(8).flat_map(group).collect()
+}
+
+/// A body for an opcode of this type, cut or filled up to this length where another is right.
+fn made_body(rng: &mut Seeded, kind: u8, length: usize) -> Vec<u8> {
+    let mut body = match kind {
+        0x05 => [16_u16, 8, 0xFFFF, 0].map(u16::to_le_bytes).concat(),
+        0x0B => vec![3, 2, 4, 200, 1, 56],
+        0x0C => [0, (length.saturating_sub(4) / 3) as u16].map(u16::to_le_bytes).concat(),
+        0x0D => groups(length.saturating_sub(32) / 3),
+        _ => rng.bytes(length),
+    };
+    body.resize(length, 7);
+    body
+}
+
+/// Which of 3, 4 and 5 an opcode meets by 01. The body of 0C or 0D is one made for its length.
+fn shape_number(kind: u8, version: u8, length: usize, last: bool) -> Option<u8> {
+    let is_length = match (kind, version) {
+        (0x00 | 0x01, _) if !last => return Some(3),
+        (0x00 | 0x01, 0) => length == 0,
+        (0x05 | 0x07, 0) => length == 4,
+        (0x05 | 0x07, 1) | (0x0B, 0) => length == 6,
+        (0x05, 2) => length == 8,
+        (0x0C, 0) => length >= 4 && length % 3 == 1,
+        (0x0D, 0) => length >= 32 && length % 3 == 2,
+        (0x11, 0) => length >= 14,
+        (0x0F, 0) | (0x02..=0x04 | 0x08..=0x0A | 0x12..=0x15, _) => true,
+        _ => return Some(4),
+    };
+    (!is_length).then_some(5)
+}
+
+/// Asserts that a step comes to the same.
+#[track_caller]
+fn step(film: &[u8], start: &Start) -> (Walked, Start) {
+    let walked = |decoder: &dyn Decoder| {
+        let mut walk = start.clone();
+        (decoder.step(film, &mut walk), walk)
+    };
+    let seen = walked(&Proved);
+    assert!(seen == walked(&Second), "{:?}, from {:?}: {film:?}", seen.0, start.state);
+    seen
+}
+
+/// The answers to steps at an opcode of this type, version and body length, with a body made for it
+/// and one of any bytes.
+fn answers(rng: &mut Seeded, kind: u8, version: u8, length: usize) -> Vec<Walked> {
+    let mut answers = Vec::new();
+    for (made, last) in [(true, true), (true, false), (false, true), (false, false)] {
+        let body = if made { made_body(rng, kind, length) } else { rng.bytes(length) };
+        let film = film_of(kind, version, &body, last);
+        let expected = shape_number(kind, version, length, last);
+        for start in starts(rng, &film) {
+            let (answer, _) = step(&film, &start);
+            answers.push(answer);
+            let number = answer.err().map(|refusal| refusal.number);
+            if made || ![0x0C, 0x0D].contains(&kind) {
+                let of_shape = number.filter(|number| (3..=5).contains(number));
+                assert_eq!(of_shape, expected, "type {kind}, version {version}, {length} bytes");
+            }
+        }
+    }
+    answers
+}
+
+/// Each type, in each version that one is taken in and in others, with each body length that the
+/// types ask for and others.
+#[test]
+fn every_opcode() {
+    let rng = &mut Seeded::new(1);
+    let (mut numbers, mut whole) = (BTreeSet::new(), BTreeSet::new());
+    for kind in 0..=255 {
+        for version in [0, 1, 2, 3, 4, 255] {
+            for length in (0..=40).chain([50, 56, 78, 772, 800]) {
+                for answer in answers(rng, kind, version, length) {
+                    whole.extend((answer == Ok(Step::Whole(65))).then_some(length));
+                    numbers.extend(answer.err().map(|refusal| refusal.number));
+                }
+            }
+        }
+    }
+    assert_eq!(numbers, BTreeSet::from([3, 4, 5, 6, 7, 9, 13, 15]));
+    // Behind 14 bytes as many as codes 0, E, F, D, C and B have.
+    assert_eq!(whole, BTreeSet::from([14, 15, 16, 18, 30, 78]));
+}
+
+/// 0C from each start, with no entry, one and all. Start plus count is at most 256 also where there
+/// is no entry, so a start above 256 is refused 7 then, too.
+#[test]
+fn every_start() {
+    let rng = &mut Seeded::new(1);
+    for count in [0, 1, 256] {
+        for start in 0..=u16::MAX {
+            let words = [start, count].map(u16::to_le_bytes).concat();
+            let (start, count) = (usize::from(start), usize::from(count));
+            let film = film_of(0x0C, 0, &[words, vec![7; 3 * count]].concat(), true);
+            let found = lent(rng, &film);
+            let mut expected = found.clone();
+            let taken = start + count <= 256;
+            if taken {
+                expected.state.position = expected.state.chunk_end;
+                expected.palette[3 * start..][..3 * count].fill(7);
+            }
+            let answer = if taken { Ok(Step::Taken) } else { Err(Refusal::new(7)) };
+            assert!(step(&film, &found) == (answer, expected), "{count} from {start}");
         }
     }
 }

@@ -1,7 +1,8 @@
-//! The cases of document 01's "Checked by hand" that concern a packet, in its order. The expected
-//! values are the document's. (Those that stand as examples in the documentation are run there.)
+//! The cases of document 01's "Checked by hand" that concern a packet or the palette, in its order,
+//! and its slip in 0D. The expected values are the document's. (Those that stand as examples in the
+//! documentation are run there.)
 
-use mve::{check, draw, Drawn, Refusal};
+use mve::{check, draw, open, step, Drawn, Refusal, Step};
 
 /// The picture that a single block of this code and data gives.
 fn block(code: u8, data: &[u8]) -> [u8; 64] {
@@ -77,6 +78,34 @@ fn motion_vectors() {
     assert_eq!(copied(0x4, 0xff), ("front", 7, 7));
 }
 
+/// A palette whose bytes are all AA, after a film of one opcode of this type and body.
+fn palette_after(kind: u8, body: &[u8]) -> [u8; 768] {
+    let length = body.len() as u8;
+    let heads = [length + 4, 0, 0, 0, length, 0, kind, 0];
+    let film = [b"Interplay MVE File\x1A\0\x1A\0\0\x01\x33\x11", &heads[..], body].concat();
+    let mut palette = [0xAA; 768];
+    let mut state = open(&film).expect("a header");
+    while state.position < film.len() {
+        let stepped = step(&film, state, &mut palette, &mut [], &mut [], &mut 0, 0);
+        let Ok(Step::Taken(next)) = stepped else { panic!("{stepped:?}") };
+        state = next;
+    }
+    palette
+}
+
+/// ★ Gradient 12, 5, 4, of red and blue.
+#[test]
+fn gradient() {
+    let palette = palette_after(0x0B, &[12, 5, 4, 0, 0, 0]);
+    let mut expected = [[0xAA; 3]; 256];
+    for (i, red) in [0, 15, 31, 47, 63].into_iter().enumerate() {
+        for (j, blue) in [0, 13, 26, 39].into_iter().enumerate() {
+            expected[12 + i * 4 + j] = [red, 0, blue];
+        }
+    }
+    assert_eq!(palette, expected.as_flattened());
+}
+
 /// ★ Map byte E1: code 1, then E.
 #[test]
 fn map_low_nibble_first() {
@@ -86,6 +115,15 @@ fn map_low_nibble_first() {
     for row in back.chunks(16) {
         assert_eq!(row, [[5; 8], [7; 8]].concat());
     }
+}
+
+/// Slip: 28 zero masks, then 01, set entry 224 in 0D, not 240.
+#[test]
+fn slip_entry_240() {
+    let body = [&[0; 28][..], &[0x01, 61, 62, 63], &[0; 3]].concat();
+    let mut expected = [[0xAA; 3]; 256];
+    expected[224] = [61, 62, 63];
+    assert_eq!(palette_after(0x0D, &body), expected.as_flattened());
 }
 
 /// Each number that checking and drawing meet, in the table's order, on the 16x8 case. A refused
