@@ -1,10 +1,12 @@
 -- Laws of a block's code: each code's data bytes and copy, as the code's own functions find them.
 -- Assumes nothing.
-use mathlib.Core.Path.{_≡_, refl, subst}
+use mathlib.Core.Path.{_≡_, refl, sym, ap, _∙_, subst}
+use mathlib.Core.Logic.{_⊎_, inl, inr}
 use mathlib.Core.Bool.{Bool, true, false, cond}
 use mathlib.Core.List.{List}
 use Prim.Native.Nat.{ℕ, zero, suc, _+_, _*_, _/_, _%_, _≤_, _<_}
 use native.Mathlib.Omega.{arith}
+use lib.Dec.{eqb}
 use lib.ListN.{getD}
 use Rattle.pattern.specs.declared.Form.{Form}
 use Rattle.pattern.specs.declared.Form.the-variants.{Two1x1, Two2x2, TwoQuarters, TwoLeftRight, TwoTopBottom, Four1x1, Four2x2, Four2x1, Four1x2, FourQuarters, FourLeftRight, FourTopBottom}
@@ -12,9 +14,10 @@ use Rattle.pattern.specs.Form.{shape, falling, form7, form8, form9, formA}
 use Rattle.pattern.specs.Pattern.{colours, cells, partLength, patternLength}
 use Rattle.pattern.proofs.Bounds.{small}
 use Rattle.motion.specs.declared.Vector.{Vector}
-use Rattle.motion.specs.Motion.{aheadVector, negated, nearVector, farVector, pointsInside}
-use Rattle.block.specs.Block.{Side, one, two, four, eight, pixels, Kind, same, kept, ahead, behind, near, far, patterned, celled, dithered, refused, kinds, kindOf, dataLength, isRefused, copyInside}
-use Rattle.block.specs.Asked.{Sided}
+use Rattle.motion.specs.Motion.{vector, aheadVector, negated, nearVector, farVector, pointsInside, Short}
+use Rattle.motion.proofs.Vectors.{ahead-short, negated-short, near-short, far-short}
+use Rattle.block.specs.Block.{Side, one, two, four, eight, pixels, Kind, same, kept, ahead, behind, near, far, patterned, celled, dithered, refused, kinds, kindOf, dataLength, isRefused, copyInside, vectorOf}
+use Rattle.block.specs.Asked.{Fixed, Sided}
 
 -- what holds of each of the sixteen codes holds of every code
 pub each-code : (P : ℕ → Type 0) → P 0 → P 1 → P 2 → P 3 → P 4 → P 5 → P 6 → P 7 → P 8 → P 9 → P 10 → P 11 → P 12 → P 13 → P 14 → P 15 → (c : ℕ) → c < 16 → P c
@@ -123,6 +126,28 @@ module _ (s : List ℕ) (c : ℕ) where
   unfolding kindOf kinds
   kind-F e = rw e
 
+-- ---- one of two vectors
+
+-- chosen number by number
+pub each-chosen : (t : Bool) (a b : Vector) (p q r s : ℕ) → p ≡ cond t (a .right) (b .right) → q ≡ cond t (a .left) (b .left) → r ≡ cond t (a .down) (b .down) → s ≡ cond t (a .up) (b .up)
+    → vector p q r s ≡ cond t a b
+each-chosen true a b p q r s ep eq er es = rw (ep, eq, er, es)
+each-chosen false a b p q r s ep eq er es = rw (ep, eq, er, es)
+
+-- and short where both are
+chosen-short : (t : Bool) (a b r : Vector) → r ≡ cond t a b → Short a → Short b → Short r
+chosen-short true a b r e h g = subst Short (sym e) h
+chosen-short false a b r e h g = subst Short (sym e) g
+
+pub back-short : (b : ℕ) (t : Bool) (v u r : Vector) → b < 256 → v ≡ aheadVector b → u ≡ negated v → r ≡ cond t u v → Short r
+back-short b t v u r h e n q =
+    let s : Short v = subst Short (sym e) (ahead-short b h) in
+    chosen-short t u v r q (subst Short (sym n) (negated-short v s)) s
+
+pub front-short : (a b d : ℕ) (t : Bool) (v u r : Vector) → a < 256 → v ≡ nearVector a → u ≡ farVector b d → r ≡ cond t v u → Short r
+front-short a b d t v u r h e f q =
+    chosen-short t v u r q (subst Short (sym e) (near-short a h)) (subst Short (sym f) (far-short b d))
+
 -- ---- data bytes
 
 halves-8 : (a b : Bool) → cond a 12 16 ≡ patternLength (shape (cond a (cond b TwoTopBottom TwoLeftRight) TwoQuarters))
@@ -166,6 +191,11 @@ module _ (s : List ℕ) where
   unfolding kindOf kinds dataLength formA
   length-A = halves-A (falling s 0) (falling s 12)
 
+  -- none of codes 7 to A is fixed
+  pub not-fixed : (c r : ℕ) → Fixed c → 6 < c → c < 11 → r ≡ dataLength (kindOf c s)
+  not-fixed c r (inl h) g l = absurd (let z : ⊥ = omega arith in z)
+  not-fixed c r (inr h) g l = absurd (let z : ⊥ = omega arith in z)
+
   -- ---- copies
 
   pub copy-low : (c w h x y : ℕ) → c < 2 → true ≡ copyInside (kindOf c s) w h x y
@@ -186,6 +216,60 @@ module _ (s : List ℕ) where
   copy-high c w h x y l =
       each-code (High w h x y) (low w h x y 0 (omega arith)) (low w h x y 1 (omega arith)) (low w h x y 2 (omega arith)) (low w h x y 3 (omega arith)) (low w h x y 4 (omega arith)) (low w h x y 5 (omega arith))
       (λ _. refl) (λ _. refl) (λ _. refl) (λ _. refl) (λ _. refl) (λ _. refl) (λ _. refl) (λ _. refl) (λ _. refl) (λ _. refl) c l
+
+  -- what holds of codes 2 to 5
+  copying : (P : ℕ → Type 0) → P 2 → P 3 → P 4 → P 5 → (c : ℕ) → 1 < c → c < 6 → P c
+  copying P p2 p3 p4 p5 zero g l = absurd (let z : ⊥ = omega arith in z)
+  copying P p2 p3 p4 p5 (suc zero) g l = absurd (let z : ⊥ = omega arith in z)
+  copying P p2 p3 p4 p5 (suc (suc zero)) g l = p2
+  copying P p2 p3 p4 p5 (suc (suc (suc zero))) g l = p3
+  copying P p2 p3 p4 p5 (suc (suc (suc (suc zero)))) g l = p4
+  copying P p2 p3 p4 p5 (suc (suc (suc (suc (suc zero))))) g l = p5
+  copying P p2 p3 p4 p5 (suc (suc (suc (suc (suc (suc c)))))) g l = absurd (let z : ⊥ = omega arith in z)
+
+  Backed : ℕ → Type 0
+  Backed c = c < 4 → (kindOf c s ≡ ahead (getD s 0 0)) ⊎ (kindOf c s ≡ behind (getD s 0 0))
+
+  pub kind-back : (c : ℕ) → 1 < c → c < 4 → (kindOf c s ≡ ahead (getD s 0 0)) ⊎ (kindOf c s ≡ behind (getD s 0 0))
+  unfolding Backed kindOf kinds
+  kind-back c g l =
+      copying Backed (λ k. inl refl) (λ k. inr refl) (λ k. absurd (let z : ⊥ = omega arith in z)) (λ k. absurd (let z : ⊥ = omega arith in z)) c g (omega arith) l
+
+  Fronted : ℕ → Type 0
+  Fronted c = 3 < c → (kindOf c s ≡ near (getD s 0 0)) ⊎ (kindOf c s ≡ far (getD s 0 0) (getD s 1 0))
+
+  pub kind-front : (c : ℕ) → 3 < c → c < 6 → (kindOf c s ≡ near (getD s 0 0)) ⊎ (kindOf c s ≡ far (getD s 0 0) (getD s 1 0))
+  unfolding Fronted kindOf kinds
+  kind-front c g l =
+      copying Fronted (λ k. absurd (let z : ⊥ = omega arith in z)) (λ k. absurd (let z : ⊥ = omega arith in z)) (λ k. inl refl) (λ k. inr refl) c (omega arith) l g
+
+  Judged : ℕ → ℕ → ℕ → ℕ → ℕ → Type 0
+  Judged w h x y c = pointsInside (vectorOf (kindOf c s)) w h x y ≡ copyInside (kindOf c s) w h x y
+
+  pub copy-judged : (c w h x y : ℕ) (v : Vector) (r : Bool) → 1 < c → c < 6 → v ≡ vectorOf (kindOf c s) → r ≡ pointsInside v w h x y → r ≡ copyInside (kindOf c s) w h x y
+  unfolding Judged kindOf kinds vectorOf copyInside
+  copy-judged c w h x y v r g l e q =
+      q ∙ ap (λ (u : Vector). pointsInside u w h x y) e ∙ copying (Judged w h x y) refl refl refl refl c g l
+
+  -- the vector as it is chosen: of codes 2 and 3 by 3, of 4 and 5 by 4
+  Backward : ℕ → Type 0
+  Backward c = c < 4 → cond (eqb c 3) (negated (aheadVector (getD s 0 0))) (aheadVector (getD s 0 0)) ≡ vectorOf (kindOf c s)
+
+  pub chosen-back : (c b : ℕ) (v u r : Vector) → 1 < c → c < 4 → b ≡ getD s 0 0 → v ≡ aheadVector b → u ≡ negated v → r ≡ cond (eqb c 3) u v → r ≡ vectorOf (kindOf c s)
+  unfolding Backward kindOf kinds vectorOf
+  chosen-back c b v u r g l e a n q =
+      rw (q, n, a, e)
+      (copying Backward (λ _. refl) (λ _. refl) (λ k. absurd (let z : ⊥ = omega arith in z)) (λ k. absurd (let z : ⊥ = omega arith in z)) c g (omega arith) l)
+
+  Forward : ℕ → Type 0
+  Forward c = 3 < c → cond (eqb c 4) (nearVector (getD s 0 0)) (farVector (getD s 0 0) (getD s 1 0)) ≡ vectorOf (kindOf c s)
+
+  pub chosen-front : (c a b d : ℕ) (v u r : Vector) → 3 < c → c < 6 → a ≡ getD s 0 0 → b ≡ getD s 0 0 → d ≡ getD s 1 0 → v ≡ nearVector a → u ≡ farVector b d → r ≡ cond (eqb c 4) v u
+      → r ≡ vectorOf (kindOf c s)
+  unfolding Forward kindOf kinds vectorOf
+  chosen-front c a b d v u r g l ea eb ed en ef q =
+      rw (q, en, ef, ea, eb, ed)
+      (copying Forward (λ k. absurd (let z : ⊥ = omega arith in z)) (λ k. absurd (let z : ⊥ = omega arith in z)) (λ _. refl) (λ _. refl) c (omega arith) l g)
 
   pub copy-ahead : (c w h x y b : ℕ) (v : Vector) (r : Bool) → kindOf c s ≡ ahead b → v ≡ aheadVector b → r ≡ pointsInside v w h x y → r ≡ copyInside (kindOf c s) w h x y
   unfolding copyInside

@@ -1,6 +1,7 @@
 -- What the functions over a block ask of their callers.
 -- Assumes nothing.
 use mathlib.Core.Path.{_≡_}
+use mathlib.Core.Logic.{_⊎_}
 use mathlib.Core.Bool.{true}
 use mathlib.Core.List.{List}
 use Prim.Native.Nat.{ℕ, _*_, _≤_, _<_}
@@ -9,6 +10,10 @@ use Rattle.motion.specs.Motion.{Inside}
 use Rattle.block.specs.declared.Source.{Source}
 use Rattle.block.specs.declared.Source.the-variants.{Data, Front, Back}
 use Rattle.block.specs.Block.{Side, pixels, kindOf, dataLength, copyInside}
+
+-- a code whose block has as many data bytes whatever they are: every one but 7 to A
+abbrev pub Fixed : ℕ → Type 0
+Fixed code = (code < 7) ⊎ (10 < code)
 
 -- the side of a cell
 abbrev pub Sided : ℕ → Type 0

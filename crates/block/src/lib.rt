@@ -1,8 +1,9 @@
 // One 8x8 block: its code, its data bytes, whether its copy lies inside, and the source of each of its pixels.
+use motion::Vector;
 use motion::ahead_vector;
-use motion::behind_vector;
 use motion::far_vector;
 use motion::near_vector;
+use motion::negate;
 use motion::points_inside;
 use pattern::is_falling;
 use words::byte_at;
@@ -10,8 +11,9 @@ ghost use mathlib.Core.Path.{_≡_};
 ghost use mathlib.Core.Bool.{cond};
 ghost use Prim.Native.Nat.{_/_, _≤_, _<_};
 ghost use lib.ListN.{length};
-ghost use Rattle.block.specs.Block.{codeAt, kindOf, dataLength, copyInside, cellSource, ditherSource};
-ghost use Rattle.block.specs.Asked.{Sided};
+ghost use Rattle.motion.specs.Motion.{Short};
+ghost use Rattle.block.specs.Block.{codeAt, kindOf, dataLength, copyInside, vectorOf, cellSource, ditherSource};
+ghost use Rattle.block.specs.Asked.{Fixed, Sided};
 
 // Where a pixel's value stands: a byte of the block's data, a pixel of front, a pixel of back.
 pub enum Source {
@@ -41,9 +43,9 @@ fn choose(test: bool, a: usize, b: usize) -> usize
     b
 }
 
-// The data bytes of a block whose data begins with s.
-pub fn data_length(code: u8, s: &[u8]) -> usize
-    requires { ⌜ code < 16 ⌝ }
+// The data bytes of a block of any code but 7 to A: a match of constants alone, so a table and no jump.
+fn fixed_length(code: u8, s: &[u8]) -> usize
+    requires { ⌜ (code < 16) × Fixed code ⌝ }
     ensures { λ r. ⌜ r ≡ dataLength (kindOf code (now (s .entry))) ⌝ }
 {
     match code {
@@ -54,16 +56,79 @@ pub fn data_length(code: u8, s: &[u8]) -> usize
         4 => 1,
         5 => 2,
         6 => 0,
-        7 => choose(is_falling(s, 0), 4, 10),
-        8 => choose(is_falling(s, 0), 12, 16),
-        9 => choose(is_falling(s, 0), 12, choose(is_falling(s, 2), 8, 20)),
-        10 => choose(is_falling(s, 0), 24, 32),
+        7 => 0,
+        8 => 0,
+        9 => 0,
+        10 => 0,
         11 => 64,
         12 => 16,
         13 => 4,
         14 => 1,
         _ => 2,
     }
+}
+
+// Code 9. Both pairs are told before either is asked, so that the compiler can choose without a jump.
+fn length_of_9(s: &[u8]) -> usize
+    ensures { λ r. ⌜ r ≡ dataLength (kindOf 9 (now (s .entry))) ⌝ }
+{
+    let second = is_falling(s, 2);
+    choose(is_falling(s, 0), 12, choose(second, 8, 20))
+}
+
+// Codes 7 to A, whose data begins with s.
+fn pattern_length(code: u8, s: &[u8]) -> usize
+    requires { ⌜ (6 < code) × (code < 11) ⌝ }
+    ensures { λ r. ⌜ r ≡ dataLength (kindOf code (now (s .entry))) ⌝ }
+{
+    match code {
+        7 => choose(is_falling(s, 0), 4, 10),
+        8 => choose(is_falling(s, 0), 12, 16),
+        9 => length_of_9(s),
+        _ => choose(is_falling(s, 0), 24, 32),
+    }
+}
+
+// The data bytes of a block whose data begins with s.
+pub fn data_length(code: u8, s: &[u8]) -> usize
+    requires { ⌜ code < 16 ⌝ }
+    ensures { λ r. ⌜ r ≡ dataLength (kindOf code (now (s .entry))) ⌝ }
+{
+    if code < 7 {
+        return fixed_length(code, s);
+    }
+    if 10 < code {
+        return fixed_length(code, s);
+    }
+    pattern_length(code, s)
+}
+
+// One of two vectors, chosen number by number, so that the compiler needs no jump.
+fn either(test: bool, a: Vector, b: Vector) -> Vector
+    ensures { λ r. ⌜ r ≡ cond test a b ⌝ }
+{
+    Vector {
+        right: choose(test, a.right, b.right),
+        left: choose(test, a.left, b.left),
+        down: choose(test, a.down, b.down),
+        up: choose(test, a.up, b.up),
+    }
+}
+
+// The vector of a block of code 2 to 5.
+pub fn copied_vector(code: u8, s: &[u8]) -> Vector
+    requires { ⌜ (1 < code) × (code < 6) ⌝ }
+    ensures { λ r. ⌜ (r ≡ vectorOf (kindOf code (now (s .entry)))) × Short r ⌝ }
+{
+    if code < 4 {
+        let v = ahead_vector(byte_at(s, 0));
+        return either(code == 3, negate(v), v);
+    }
+    either(
+        code == 4,
+        near_vector(byte_at(s, 0)),
+        far_vector(byte_at(s, 0), byte_at(s, 1)),
+    )
 }
 
 // Whether the 8x8 that a block at x, y is copied from lies inside the picture w by h.
@@ -77,12 +142,7 @@ pub fn copy_inside(code: u8, s: &[u8], w: usize, h: usize, x: usize, y: usize) -
     if 5 < code {
         return true;
     }
-    match code {
-        2 => points_inside(ahead_vector(byte_at(s, 0)), w, h, x, y),
-        3 => points_inside(behind_vector(byte_at(s, 0)), w, h, x, y),
-        4 => points_inside(near_vector(byte_at(s, 0)), w, h, x, y),
-        _ => points_inside(far_vector(byte_at(s, 0), byte_at(s, 1)), w, h, x, y),
-    }
+    points_inside(copied_vector(code, s), w, h, x, y)
 }
 
 // The byte that gives pixel i where each cell, side pixels wide and high, has one.

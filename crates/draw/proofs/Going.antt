@@ -5,6 +5,7 @@ use mathlib.Core.List.{List}
 use Prim.Native.Nat.{ℕ, _+_, _-_, _*_, _/_, _%_, _≤_, _<_}
 use native.Mathlib.Omega.{arith}
 use native.Mathlib.Numerals.{add-one}
+use native.Mathlib.Nat.{div-le-self}
 use lib.ListN.{length, drop, length-drop}
 use Rattle.motion.specs.Motion.{rasterIndex}
 use Rattle.block.specs.Block.{Kind, kept, codeAt, kinds, kindOf, dataLength}
@@ -15,8 +16,8 @@ use Rattle.paint_block.specs.Asked.{Canvas, Drawable}
 use Rattle.packet.specs.Packet.{Packet, blocks, width, height, left, top, code, start, dataOf, kind}
 use Rattle.packet.specs.Accepted.{Takes}
 use Rattle.packet.specs.Asked.{Sized}
-use Rattle.packet.proofs.Grid.{column-below, row-below}
-use Rattle.packet.proofs.Walk.{code-below, position-next}
+use Rattle.packet.proofs.Grid.{next-column, next-row, column-below, row-below}
+use Rattle.packet.proofs.Walk.{code-below, position-next, blocks-few}
 use Rattle.packet.proofs.Exactly.{is-copy}
 use Rattle.stores.specs.Stores.{Plan, Memory, memory, firstPixels}
 use Rattle.stores.specs.Loop.{Made, Called}
@@ -42,19 +43,44 @@ count-0 s c e = rw e
 
 -- ---- the loop
 
--- b₀, k₀: the picture and the place that the call found. b, place: as they are now. k: the next block, its data at at. left: the stores still allowed
-pub record Going (p : Packet) (front b₀ : List ℕ) (k₀ allowed : ℕ) (b : List ℕ) (place k at left : ℕ) : Type 0 where
-  pub made : Made (plan p front) (memory b₀ k₀) (allowed - left) k 0 b
+-- b₀, k₀: the picture and the place that the call found. b, place: as they are now. k: the next block, its data at at, its corner x, y. l: the stores still allowed
+pub record Going (p : Packet) (front b₀ : List ℕ) (k₀ allowed : ℕ) (b : List ℕ) (place k at l x y : ℕ) : Type 0 where
+  pub made : Made (plan p front) (memory b₀ k₀) (allowed - l) k 0 b
   pub stands : place ≡ k
   pub found : at ≡ start p k
   pub below : k ≤ blocks p
-  pub room : left ≤ allowed
+  pub room : l ≤ allowed
+  pub across : x ≡ left p k
+  pub down : y ≡ top p k
 
-pub going-start : (p : Packet) (front b : List ℕ) (k at n f l : ℕ) → Accepted p f l k → at ≡ start p k → Going p front b k n b k k at n
+-- the corner of the block at the place is a small number
+pub record Small (c k : ℕ) : Type 0 where
+  pub some : 0 < c
+  pub column : k % c ≤ 80
+  pub row : k / c ≤ 4800
+
+pub small : (p : Packet) (f l k : ℕ) → Accepted p f l k → Small (p .columns) k
+small p f l k a =
+    let some : 0 < p .columns = omega (arith, a .sized .some-columns) in
+    record {
+      some = some;
+      column = omega (arith, column-below (p .columns) k some, a .sized .columns);
+      row = omega (arith, div-le-self k (p .columns), a .at, blocks-few p (a .sized));
+    }
+
+pub going-start : (p : Packet) (front b : List ℕ) (k at n f l : ℕ) → Accepted p f l k → at ≡ start p k → Going p front b k n b k k at n (left p k) (top p k)
 going-start p front b k at n f l a e =
-    record { made = made-none (plan p front) (memory b k) (n - n) (omega arith); stands = refl; found = e; below = a .at; room = omega arith }
+    record {
+      made = made-none (plan p front) (memory b k) (n - n) (omega arith);
+      stands = refl;
+      found = e;
+      below = a .at;
+      room = omega arith;
+      across = refl;
+      down = refl;
+    }
 
-module _ (p : Packet) (front b₀ : List ℕ) (k₀ n : ℕ) (b : List ℕ) (place k at l : ℕ) (g : Going p front b₀ k₀ n b place k at l) where
+module _ (p : Packet) (front b₀ : List ℕ) (k₀ n : ℕ) (b : List ℕ) (place k at l x y : ℕ) (g : Going p front b₀ k₀ n b place k at l x y) where
   pub going-end : blocks p ≤ k → Called (plan p front) (memory b₀ k₀) n b place (n - l)
   going-end h = made-over (plan p front) (memory b₀ k₀) (n - l) k 0 b (g .made) n place (n - l) h (omega arith) (g .stands) refl
 
@@ -75,13 +101,13 @@ module _ (p : Packet) (front b₀ : List ℕ) (k₀ n : ℕ) (b : List ℕ) (pla
     some : 0 < p .columns
     some = omega (arith, a .sized .some-columns)
 
-    pub canvas : Canvas (width p) (height p) (left p k) (top p k) (length front) (length b)
+    pub canvas : Canvas (width p) (height p) x y (length front) (length b)
     canvas =
         record {
           width = omega (arith, a .sized .columns);
           height = omega (arith, a .sized .rows);
-          across = omega (arith, column-below (p .columns) k some);
-          down = omega (arith, row-below (p .columns) (p .rows) k some h);
+          across = omega (arith, g .across, column-below (p .columns) k some);
+          down = omega (arith, g .down, row-below (p .columns) (p .rows) k some h);
           front-room = a .front-room;
           back-room = rw going-length (a .back-room);
         }
@@ -92,22 +118,33 @@ module _ (p : Packet) (front b₀ : List ℕ) (k₀ n : ℕ) (b : List ℕ) (pla
         length-of : length (dataOf p k) ≡ length (p .bytes) - start p k
         length-of = length-drop (start p k) (p .bytes)
 
-    pub drawable : (m : ℕ) → m ≤ pixelCount (kindOf c s) → Drawable c s (width p) (height p) (left p k) (top p k) m
+    pub drawable : (m : ℕ) → m ≤ pixelCount (kindOf c s) → Drawable c s (width p) (height p) x y m
     drawable m q =
         record {
           known = rw ec (code-below (p .map) k);
           taken = λ e. takes .known (sym ec ∙ e);
           there = there;
-          inside = rw kind-is (is-copy (kind p k) (width p) (height p) (left p k) (top p k) (takes .inside));
+          inside = rw (kind-is, g .across, g .down) (is-copy (kind p k) (width p) (height p) (left p k) (top p k) (takes .inside));
           count = q;
         }
 
+    -- the corner of the next block, in this row or the next
+    pub right : (x + 8 ≡ width p → ⊥) → (x + 8 ≡ left p (k + 1)) × (y ≡ top p (k + 1))
+    right r =
+        let m = next-column (p .columns) k (omega (arith, g .across, column-below (p .columns) k some, r)) in
+        (omega (arith, m .0, g .across), omega (arith, m .1, g .down))
+
+    pub below : x + 8 ≡ width p → (0 ≡ left p (k + 1)) × (y + 8 ≡ top p (k + 1))
+    below r =
+        let m = next-row (p .columns) k some (omega (arith, g .across, r)) in
+        (omega (arith, m .0), omega (arith, m .1, g .down))
+
     -- the block's own plan is the packet's at block k
-    painted : (m : ℕ) (b′ : List ℕ) → b′ ≡ firstPixels (blockPlan (kindOf c s) s (width p) (left p k) (top p k) front) 0 b m → b′ ≡ firstPixels (plan p front) k b m
+    painted : (m : ℕ) (b′ : List ℕ) → b′ ≡ firstPixels (blockPlan (kindOf c s) s (width p) x y front) 0 b m → b′ ≡ firstPixels (plan p front) k b m
     unfolding targetAt valueAt
     painted m b′ e =
-        (rw (kind-is, data-is) at e)
-        ∙ first-agree (blockPlan (kind p k) (dataOf p k) (width p) (left p k) (top p k) front) (plan p front) 0 k b m (λ i q. refl) (λ i q x y. refl)
+        (rw (kind-is, data-is, g .across, g .down) at e)
+        ∙ first-agree (blockPlan (kind p k) (dataOf p k) (width p) (left p k) (top p k) front) (plan p front) 0 k b m (λ i q. refl) (λ i q c e. refl)
 
     pub at-small : (z : ℕ) → z ≡ dataLength (kindOf c s) → at + z ≤ length (p .bytes)
     at-small z e = let q : z ≡ dataLength (kind p k) = e ∙ ap dataLength kind-is in omega (arith, g .found, takes .there)
@@ -118,16 +155,16 @@ module _ (p : Packet) (front b₀ : List ℕ) (k₀ n : ℕ) (b : List ℕ) (pla
 
     -- stopped within the block, or before its place
     pub going-stop : (u : ℕ) (b′ : List ℕ) → u ≡ pixelCount (kindOf c s) → l ≤ u
-        → b′ ≡ firstPixels (blockPlan (kindOf c s) s (width p) (left p k) (top p k) front) 0 b l → Called (plan p front) (memory b₀ k₀) n b′ place n
+        → b′ ≡ firstPixels (blockPlan (kindOf c s) s (width p) x y front) 0 b l → Called (plan p front) (memory b₀ k₀) n b′ place n
     going-stop u b′ eu q e =
         made-part (plan p front) (memory b₀ k₀) (n - l) k b (g .made) h l b′ (omega (arith, size-is, eu)) (painted l b′ e) n place n
         (omega (arith, g .room)) (g .stands) (omega (arith, g .room))
 
     -- the whole block, and then its place
     pub going-block : (u z : ℕ) (b′ : List ℕ) (place′ : ℕ) → u ≡ pixelCount (kindOf c s) → z ≡ dataLength (kindOf c s) → u < l
-        → b′ ≡ firstPixels (blockPlan (kindOf c s) s (width p) (left p k) (top p k) front) 0 b u → place′ ≡ k + 1
-        → Going p front b₀ k₀ n b′ place′ (k + 1) (at + z) (l - (u + 1))
-    going-block u z b′ place′ eu ez q e ep =
+        → b′ ≡ firstPixels (blockPlan (kindOf c s) s (width p) x y front) 0 b u → place′ ≡ k + 1
+        → (x′ y′ : ℕ) → (x′ ≡ left p (k + 1)) × (y′ ≡ top p (k + 1)) → Going p front b₀ k₀ n b′ place′ (k + 1) (at + z) (l - (u + 1)) x′ y′
+    going-block u z b′ place′ eu ez q e ep x′ y′ corner =
         let su : u ≡ sizeAt p k = omega (arith, size-is, eu) in
         record {
           made = made-block (plan p front) (memory b₀ k₀) (n - l) k b (g .made) h u b′ su (painted u b′ e) (n - (l - (u + 1))) (k + 1) (omega (arith, g .room)) refl;
@@ -135,4 +172,6 @@ module _ (p : Packet) (front b₀ : List ℕ) (k₀ n : ℕ) (b : List ℕ) (pla
           found = position-next (p .map) (p .bytes) s k at c z (g .found) ec es ez;
           below = omega arith;
           room = omega (arith, g .room);
+          across = corner .0;
+          down = corner .1;
         }

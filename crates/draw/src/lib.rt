@@ -93,11 +93,11 @@ fn draw_blocks(
     let mut k = *place;
     let mut at = data_position(map, data, k);
     let mut left = allowed;
+    let mut x = 8 * (k % columns);
+    let mut y = 8 * (k / columns);
     while k < n {
         let code = code_at(map, k);
         let s = part_from(data, at);
-        let x = 8 * (k % columns);
-        let y = 8 * (k / columns);
         let due = pixel_count(code, s);
         if left <= due {
             paint_block(code, s, front, back, w, h, x, y, left);
@@ -108,6 +108,11 @@ fn draw_blocks(
         left -= due + 1;
         at += data_length(code, s);
         k += 1;
+        x += 8;
+        if x == w {
+            x = 0;
+            y += 8;
+        }
     }
     allowed - left
 }

@@ -34,17 +34,22 @@ pub fn ahead_vector(b: u8) -> Vector
     }
 }
 
-// Code 3.
-pub fn behind_vector(b: u8) -> Vector
-    ensures { λ r. ⌜ r ≡ negated (aheadVector b) ⌝ }
+pub fn negate(v: Vector) -> Vector
+    ensures { λ r. ⌜ r ≡ negated v ⌝ }
 {
-    let v = ahead_vector(b);
     Vector {
         right: v.left,
         left: v.right,
         down: v.up,
         up: v.down,
     }
+}
+
+// Code 3.
+pub fn behind_vector(b: u8) -> Vector
+    ensures { λ r. ⌜ r ≡ negated (aheadVector b) ⌝ }
+{
+    negate(ahead_vector(b))
 }
 
 // Code 4.

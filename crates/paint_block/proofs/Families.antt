@@ -1,9 +1,10 @@
 -- Each family of blocks stores the pixels of its kind: what the family's function asks, and that what it stores is the block's plan.
 -- Assumes nothing.
 use mathlib.Core.Path.{_≡_, refl, sym, ap, _∙_, subst}
+use mathlib.Core.Logic.{_⊎_, inl, inr, ⊎-elim}
 use mathlib.Core.Bool.{Bool, true, false}
 use mathlib.Core.List.{List}
-use Prim.Native.Nat.{ℕ, _+_, _-_, _*_, _/_, _≤_, _<_}
+use Prim.Native.Nat.{ℕ, zero, suc, _+_, _-_, _*_, _/_, _≤_, _<_}
 use native.Mathlib.Omega.{arith}
 use native.Mathlib.Nat.{mul-le-mul-right}
 use lib.ListN.{length, getD}
@@ -13,12 +14,12 @@ use Rattle.pattern.specs.Pattern.{patternLength, patternSource}
 use Rattle.motion.specs.declared.Vector.{Vector}
 use Rattle.motion.specs.Motion.{aheadVector, negated, nearVector, farVector, pointsInside, rasterIndex, copiedIndex, Short}
 use Rattle.motion.proofs.Vectors.{inside-each}
-use Rattle.block.specs.Block.{Side, pixels, Kind, same, kept, ahead, behind, near, far, patterned, celled, dithered, refused, kindOf, dataLength, isRefused, copyInside, cellSource, ditherSource, source, fetched}
+use Rattle.block.specs.Block.{Side, pixels, Kind, same, kept, ahead, behind, near, far, patterned, celled, dithered, refused, kindOf, dataLength, isRefused, copyInside, vectorOf, cellSource, ditherSource, source, fetched}
 use Rattle.block.specs.declared.Source.{Source}
 use Rattle.block.specs.Asked.{Readable, Among}
-use Rattle.block.proofs.Codes.{copy-ahead, copy-behind, copy-near, copy-far, code-known}
+use Rattle.block.proofs.Codes.{kind-0, kind-1, kind-back, kind-front, copy-judged, code-known}
 use Rattle.stores.specs.Stores.{Plan, firstPixels}
-use Rattle.stores.proofs.Pixels.{first-none, first-agree}
+use Rattle.stores.proofs.Pixels.{first-agree}
 use Rattle.paint.specs.Paint.{single, fixedValue, backValue}
 use Rattle.paint.specs.Asked.{Square}
 use Rattle.paint.proofs.Painting.{square-inside, square-below, cell-inside, dither-inside, pattern-inside}
@@ -110,29 +111,23 @@ module _ (code : ℕ) (s : List ℕ) (w h x y n : ℕ) (d : Drawable code s w h 
   pub few : n ≤ 64
   few = omega (arith, d .count, count-few (kindOf code s))
 
-  pub ahead-pointed : (b : ℕ) (v : Vector) → kindOf code s ≡ ahead b → v ≡ aheadVector b → Short (aheadVector b) → Pointed v w h x y
-  ahead-pointed b v k e t =
-      record { short = subst Short (sym e) t; inside = copy-ahead s code w h x y b v _ k e refl ∙ d .inside }
-
-  pub behind-pointed : (b : ℕ) (v : Vector) → kindOf code s ≡ behind b → v ≡ negated (aheadVector b) → Short (negated (aheadVector b)) → Pointed v w h x y
-  behind-pointed b v k e t =
-      record { short = subst Short (sym e) t; inside = copy-behind s code w h x y b v _ k e refl ∙ d .inside }
-
-  pub near-pointed : (b : ℕ) (v : Vector) → kindOf code s ≡ near b → v ≡ nearVector b → Short (nearVector b) → Pointed v w h x y
-  near-pointed b v k e t =
-      record { short = subst Short (sym e) t; inside = copy-near s code w h x y b v _ k e refl ∙ d .inside }
-
-  pub far-pointed : (a b : ℕ) (v : Vector) → kindOf code s ≡ far a b → v ≡ farVector a b → Short (farVector a b) → Pointed v w h x y
-  far-pointed a b v k e t =
-      record { short = subst Short (sym e) t; inside = copy-far s code w h x y a b v _ k e refl ∙ d .inside }
+  -- the vector of code 2 to 5 points inside
+  pub copy-pointed : (v : Vector) → 1 < code → code < 6 → v ≡ vectorOf (kindOf code s) → Short v → Pointed v w h x y
+  copy-pointed v g l e t = record { short = t; inside = copy-judged s code w h x y v _ g l e refl ∙ d .inside }
 
   -- the data bytes of its kind are there
   pub there : (κ : Kind) → kindOf code s ≡ κ → dataLength κ ≤ length s
   there κ k = subst (λ (z : Kind). dataLength z ≤ length s) k (d .there)
 
-  pub none-kept : kindOf code s ≡ kept → n ≡ 0
+  -- code 1 stores nothing, so where pixels are stored and the code is below 2, it is 0
+  pub same-kind : code < 2 → 0 < n → kindOf code s ≡ same
   unfolding pixelCount
-  none-kept k = let l : n ≤ 0 = subst (λ (z : Kind). n ≤ pixelCount z) k (d .count) in omega arith
+  same-kind l g = ⊎-elim (λ z. kind-0 s code z) (λ z. absurd (let m : n ≤ 0 = subst (λ (k : Kind). n ≤ pixelCount k) (kind-1 s code z) (d .count) in let y : ⊥ = omega arith in y)) (below-2 code l)
+    where
+      below-2 : (c : ℕ) → c < 2 → (c ≡ 0) ⊎ (c ≡ 1)
+      below-2 zero h = inl refl
+      below-2 (suc zero) h = inr refl
+      below-2 (suc (suc c)) h = absurd (let z : ⊥ = omega arith in z)
 
 -- ---- what each kind's function stores
 
@@ -148,29 +143,42 @@ module _ (code : ℕ) (s : List ℕ) (w x y n : ℕ) (front b b′ : List ℕ) w
   unfolding fixedValue pixelValue source fetched
   paints-same k = by-kind same k _ (λ i a. refl)
 
-  pub paints-ahead : (v : Vector) (c : ℕ) → kindOf code s ≡ ahead c → v ≡ aheadVector c
+  paints-ahead : (v : Vector) (c : ℕ) → kindOf code s ≡ ahead c → v ≡ aheadVector c
       → b′ ≡ firstPixels (single (rasterIndex w x y) (backValue (copiedIndex v w x y))) 0 b n
       → b′ ≡ firstPixels (blockPlan (kindOf code s) s w x y front) 0 b n
   unfolding backValue pixelValue source fetched
   paints-ahead v c k e = by-kind (ahead c) k _ (λ i a. ap (λ (z : Vector). getD a (copiedIndex z w x y i) 0) e)
 
-  pub paints-behind : (v : Vector) (c : ℕ) → kindOf code s ≡ behind c → v ≡ negated (aheadVector c)
+  paints-behind : (v : Vector) (c : ℕ) → kindOf code s ≡ behind c → v ≡ negated (aheadVector c)
       → b′ ≡ firstPixels (single (rasterIndex w x y) (backValue (copiedIndex v w x y))) 0 b n
       → b′ ≡ firstPixels (blockPlan (kindOf code s) s w x y front) 0 b n
   unfolding backValue pixelValue source fetched
   paints-behind v c k e = by-kind (behind c) k _ (λ i a. ap (λ (z : Vector). getD a (copiedIndex z w x y i) 0) e)
 
-  pub paints-near : (v : Vector) (c : ℕ) → kindOf code s ≡ near c → v ≡ nearVector c
+  paints-near : (v : Vector) (c : ℕ) → kindOf code s ≡ near c → v ≡ nearVector c
       → b′ ≡ firstPixels (single (rasterIndex w x y) (fixedValue (copiedIndex v w x y) front)) 0 b n
       → b′ ≡ firstPixels (blockPlan (kindOf code s) s w x y front) 0 b n
   unfolding fixedValue pixelValue source fetched
   paints-near v c k e = by-kind (near c) k _ (λ i a. ap (λ (z : Vector). getD front (copiedIndex z w x y i) 0) e)
 
-  pub paints-far : (v : Vector) (c d : ℕ) → kindOf code s ≡ far c d → v ≡ farVector c d
+  paints-far : (v : Vector) (c d : ℕ) → kindOf code s ≡ far c d → v ≡ farVector c d
       → b′ ≡ firstPixels (single (rasterIndex w x y) (fixedValue (copiedIndex v w x y) front)) 0 b n
       → b′ ≡ firstPixels (blockPlan (kindOf code s) s w x y front) 0 b n
   unfolding fixedValue pixelValue source fetched
   paints-far v c d k e = by-kind (far c d) k _ (λ i a. ap (λ (z : Vector). getD front (copiedIndex z w x y i) 0) e)
+
+  -- codes 2 and 3 copy back, 4 and 5 front, by the vector of their kind
+  pub paints-back : (v : Vector) → 1 < code → code < 4 → v ≡ vectorOf (kindOf code s)
+      → b′ ≡ firstPixels (single (rasterIndex w x y) (backValue (copiedIndex v w x y))) 0 b n
+      → b′ ≡ firstPixels (blockPlan (kindOf code s) s w x y front) 0 b n
+  unfolding vectorOf
+  paints-back v g l e = ⊎-elim (λ k. paints-ahead v _ k (e ∙ ap vectorOf k)) (λ k. paints-behind v _ k (e ∙ ap vectorOf k)) (kind-back s code g l)
+
+  pub paints-front : (v : Vector) → 3 < code → code < 6 → v ≡ vectorOf (kindOf code s)
+      → b′ ≡ firstPixels (single (rasterIndex w x y) (fixedValue (copiedIndex v w x y) front)) 0 b n
+      → b′ ≡ firstPixels (blockPlan (kindOf code s) s w x y front) 0 b n
+  unfolding vectorOf
+  paints-front v g l e = ⊎-elim (λ k. paints-near v _ k (e ∙ ap vectorOf k)) (λ k. paints-far v _ _ k (e ∙ ap vectorOf k)) (kind-front s code g l)
 
   pub paints-form : (f : Form) → kindOf code s ≡ patterned f
       → b′ ≡ firstPixels (single (rasterIndex w x y) (fixedValue (patternSource (shape f) s) s)) 0 b n
@@ -189,9 +197,6 @@ module _ (code : ℕ) (s : List ℕ) (w x y n : ℕ) (front b b′ : List ℕ) w
       → b′ ≡ firstPixels (blockPlan (kindOf code s) s w x y front) 0 b n
   unfolding fixedValue pixelValue source fetched
   paints-dither k = by-kind dithered k _ (λ i a. refl)
-
-  pub paints-none : n ≡ 0 → b′ ≡ b → b′ ≡ firstPixels (blockPlan (kindOf code s) s w x y front) 0 b n
-  paints-none z e = rw (z, e) (sym (first-none _ _ _))
 
 -- ---- a block pixel by pixel
 

@@ -1,9 +1,6 @@
 // The first n pixels of a block of any code.
+use block::copied_vector;
 use motion::Vector;
-use motion::ahead_vector;
-use motion::behind_vector;
-use motion::far_vector;
-use motion::near_vector;
 use motion::raster_index;
 use paint::copy_back;
 use paint::copy_front;
@@ -18,9 +15,8 @@ use pattern::form_of_9;
 use pattern::form_of_a;
 use pixel::fetch;
 use pixel::source_of;
-use words::byte_at;
 ghost use mathlib.Core.Path.{_≡_};
-ghost use Prim.Native.Nat.{_≤_};
+ghost use Prim.Native.Nat.{_≤_, _<_};
 ghost use lib.ListN.{length};
 ghost use Rattle.pattern.specs.Form.{shape};
 ghost use Rattle.pattern.specs.Pattern.{patternLength, patternSource};
@@ -54,6 +50,27 @@ fn copy_back_by(v: Vector, back: &mut [u8], w: usize, h: usize, x: usize, y: usi
     ensures { λ _. ⌜ now (back .exit) ≡ firstPixels (single (rasterIndex w x y) (backValue (copiedIndex v w x y))) 0 (now (back .entry)) 64 ⌝ }
 {
     copy_back(back, w, x + v.right - v.left, y + v.down - v.up, x, y)
+}
+
+// A block of code 2 to 5: two ways to jump, since four are harder to foresee.
+fn copy_by(
+    code: u8,
+    s: &[u8],
+    front: &[u8],
+    back: &mut [u8],
+    w: usize,
+    h: usize,
+    x: usize,
+    y: usize,
+)
+    requires { ⌜ Drawable code (now s) w h x y 64 × Canvas w h x y (length (now front)) (length (now back)) × (1 < code) × (code < 6) ⌝ }
+    ensures { λ _. ⌜ now (back .exit) ≡ firstPixels (blockPlan (kindOf code (now (s .entry))) (now (s .entry)) w x y (now (front .entry))) 0 (now (back .entry)) 64 ⌝ }
+{
+    let v = copied_vector(code, s);
+    if code < 4 {
+        return copy_back_by(v, back, w, h, x, y);
+    }
+    copy_front_by(v, front, back, w, h, x, y)
 }
 
 // A patterned block. The numbers of each form are literals, so that each form has a loop of its own.
@@ -91,21 +108,13 @@ fn paint_whole(
     requires { ⌜ Drawable code (now s) w h x y 64 × Canvas w h x y (length (now front)) (length (now back)) ⌝ }
     ensures { λ _. ⌜ now (back .exit) ≡ firstPixels (blockPlan (kindOf code (now (s .entry))) (now (s .entry)) w x y (now (front .entry))) 0 (now (back .entry)) 64 ⌝ }
 {
+    if code < 2 {
+        return copy_front(front, back, w, x, y, x, y);
+    }
+    if code < 6 {
+        return copy_by(code, s, front, back, w, h, x, y);
+    }
     match code {
-        0 => copy_front(front, back, w, x, y, x, y),
-        1 => {}
-        2 => copy_back_by(ahead_vector(byte_at(s, 0)), back, w, h, x, y),
-        3 => copy_back_by(behind_vector(byte_at(s, 0)), back, w, h, x, y),
-        4 => copy_front_by(near_vector(byte_at(s, 0)), front, back, w, h, x, y),
-        5 => copy_front_by(
-            far_vector(byte_at(s, 0), byte_at(s, 1)),
-            front,
-            back,
-            w,
-            h,
-            x,
-            y,
-        ),
         7 => paint_form(form_of_7(s), s, back, w, x, y),
         8 => paint_form(form_of_8(s), s, back, w, x, y),
         9 => paint_form(form_of_9(s), s, back, w, x, y),

@@ -39,11 +39,13 @@ pub fn form_of_7(s: &[u8]) -> Form
     Form::Two1x1
 }
 
+// Here and below both pairs are told before either is asked, so that the compiler can choose without a jump.
 pub fn form_of_8(s: &[u8]) -> Form
     ensures { λ r. ⌜ r ≡ form8 (now (s .entry)) ⌝ }
 {
+    let second = is_falling(s, 6);
     if is_falling(s, 0) {
-        if is_falling(s, 6) {
+        if second {
             return Form::TwoTopBottom;
         }
         return Form::TwoLeftRight;
@@ -54,13 +56,14 @@ pub fn form_of_8(s: &[u8]) -> Form
 pub fn form_of_9(s: &[u8]) -> Form
     ensures { λ r. ⌜ r ≡ form9 (now (s .entry)) ⌝ }
 {
+    let second = is_falling(s, 2);
     if is_falling(s, 0) {
-        if is_falling(s, 2) {
+        if second {
             return Form::Four1x2;
         }
         return Form::Four2x1;
     }
-    if is_falling(s, 2) {
+    if second {
         return Form::Four2x2;
     }
     Form::Four1x1
@@ -69,8 +72,9 @@ pub fn form_of_9(s: &[u8]) -> Form
 pub fn form_of_a(s: &[u8]) -> Form
     ensures { λ r. ⌜ r ≡ formA (now (s .entry)) ⌝ }
 {
+    let second = is_falling(s, 12);
     if is_falling(s, 0) {
-        if is_falling(s, 12) {
+        if second {
             return Form::FourTopBottom;
         }
         return Form::FourLeftRight;

@@ -1,12 +1,11 @@
-use Rattle.draw.proofs.Going.{at-small}
 use mathlib.Core.Path.{_∙_}
 use Prim.Native.Nat.{_*_, _-_}
 use native.Mathlib.Omega.{arith}
 use Rattle.block.specs.Block.{kindOf}
 use Rattle.paint_block.proofs.Families.{count-few}
 use Rattle.packet.specs.Packet.{packet}
-use Rattle.packet.proofs.Walk.{blocks-few, mapped, length-64}
-use Rattle.draw.proofs.Going.{Going, going-start, going-end, going-length, canvas, drawable, going-stop, going-block}
+use Rattle.packet.proofs.Walk.{blocks-few, mapped}
+use Rattle.draw.proofs.Going.{Going, small, going-start, going-end, going-length, canvas, drawable, at-small, right, below, going-stop, going-block}
 use borrow.Author.Needs.{needs}
 use Rattle.draw.proofs.draw_blocks.Statement.{statement}
 use Rattle.draw.proofs.draw_blocks.Tie as tie
@@ -21,11 +20,11 @@ use Rattle.paint_block.proofs.paint_block.Reads as paint-block-reads
 use Rattle.words.proofs.part_from.Reads as part-from-reads
 
 abbrev Inv-loop : tie.InvT-loop
-Inv-loop columns rows map «data» front back₀ place₀ allowed n w h k₀ at₀ left₀ back place k at left =
-    Going (packet columns rows map «data») front back₀ place₀ allowed back place k at left
+Inv-loop columns rows map «data» front back₀ place₀ allowed n w h k₀ at₀ left₀ x₀ y₀ back place k at left x y =
+    Going (packet columns rows map «data») front back₀ place₀ allowed back place k at left x y
 
 abbrev μ-loop : tie.MeasureT-loop
-μ-loop columns rows map «data» front back₀ place₀ allowed n w h k₀ at₀ left₀ back place k at left =
+μ-loop columns rows map «data» front back₀ place₀ allowed n w h k₀ at₀ left₀ x₀ y₀ back place k at left x y =
     columns * rows - k
 
 mul-n : tie.Need-mul-n Inv-loop μ-loop
@@ -40,6 +39,18 @@ mul-h c = omega (arith, c .before .before .before .before .pre .sized)
 data-position-requires : tie.Need-data-position-requires Inv-loop μ-loop
 data-position-requires c κs = let q = c .before .before .before .before .before .pre in (omega (arith, q .at, blocks-few _ (q .sized)), omega (arith, q .at, q .sized .mapped))
 
+rem-x : tie.Need-rem-x Inv-loop μ-loop
+rem-x c = let q = small _ _ _ _ (c .before .before .before .before .before .before .pre) in omega (arith, q .some)
+
+mul-x : tie.Need-mul-x Inv-loop μ-loop
+mul-x c = let q = small _ _ _ _ (c .before .before .before .before .before .before .pre) in omega (arith, q .column)
+
+div-y : tie.Need-div-y Inv-loop μ-loop
+div-y c = let q = small _ _ _ _ (c .before .before .before .before .before .before .pre) in omega (arith, q .some)
+
+mul-y : tie.Need-mul-y Inv-loop μ-loop
+mul-y c = let q = small _ _ _ _ (c .before .before .before .before .before .before .pre) in omega (arith, q .row)
+
 loop-holds : tie.Need-loop-holds Inv-loop μ-loop
 loop-holds c = going-start _ _ _ _ _ _ _ _ (c .before .before .before .before .before .before .pre) (c .data-position .ensures)
 
@@ -49,32 +60,20 @@ code-at-requires c κs = mapped _ _ (c .before .before .before .before .before .
 part-from-requires : tie.Need-part-from-requires Inv-loop μ-loop
 part-from-requires c κs = search needs
 
-rem-x : tie.Need-rem-x Inv-loop μ-loop
-rem-x c = omega (arith, c .before .before .before .before .before .before .before .before .before .before .pre .sized)
-
-mul-x : tie.Need-mul-x Inv-loop μ-loop
-mul-x c = let q = canvas _ _ _ _ _ _ _ _ _ _ (c .before .before .before .loop .inv) (c .before .before .before .before .before .before .before .before .before .before .pre) (c .before .before .loop-test .taken) _ _ (c .before .code-at .ensures .0) (c .part-from .ensures) in omega (arith, q .across, q .width)
-
-div-y : tie.Need-div-y Inv-loop μ-loop
-div-y c = omega (arith, c .before .before .before .before .before .before .before .before .before .before .pre .sized)
-
-mul-y : tie.Need-mul-y Inv-loop μ-loop
-mul-y c = let q = canvas _ _ _ _ _ _ _ _ _ _ (c .before .before .before .loop .inv) (c .before .before .before .before .before .before .before .before .before .before .pre) (c .before .before .loop-test .taken) _ _ (c .before .code-at .ensures .0) (c .part-from .ensures) in omega (arith, q .down, q .height)
-
 pixel-count-requires : tie.Need-pixel-count-requires Inv-loop μ-loop
 pixel-count-requires c κs = c .before .code-at .ensures .1
 
 paint-block-requires : tie.Need-paint-block-requires Inv-loop μ-loop
-paint-block-requires c κs = (drawable _ _ _ _ _ _ _ _ _ _ (c .before .before .before .before .before .before .loop .inv) (c .before .before .before .before .before .before .before .before .before .before .before .before .before .pre) (c .before .before .before .before .before .loop-test .taken) _ _ (c .before .before .before .before .code-at .ensures .0) (c .before .before .before .part-from .ensures) _ (omega (arith, c .before .if1 .taken, c .before .before .pixel-count .ensures)), canvas _ _ _ _ _ _ _ _ _ _ (c .before .before .before .before .before .before .loop .inv) (c .before .before .before .before .before .before .before .before .before .before .before .before .before .pre) (c .before .before .before .before .before .loop-test .taken) _ _ (c .before .before .before .before .code-at .ensures .0) (c .before .before .before .part-from .ensures))
+paint-block-requires c κs = (drawable _ _ _ _ _ _ _ _ _ _ _ _ (c .before .before .before .before .before .before .loop .inv) (c .before .before .before .before .before .before .before .before .before .before .before .before .before .pre) (c .before .before .before .before .before .loop-test .taken) _ _ (c .before .before .before .before .code-at .ensures .0) (c .before .before .before .part-from .ensures) _ (omega (arith, c .before .if1 .taken, c .before .before .pixel-count .ensures)), canvas _ _ _ _ _ _ _ _ _ _ _ _ (c .before .before .before .before .before .before .loop .inv) (c .before .before .before .before .before .before .before .before .before .before .before .before .before .pre) (c .before .before .before .before .before .loop-test .taken) _ _ (c .before .before .before .before .code-at .ensures .0) (c .before .before .before .part-from .ensures))
 
 same-length : tie.Need-same-length Inv-loop μ-loop
-same-length c = c .before .before .paint-block .kept .1 .1 .1 .0 ∙ going-length _ _ _ _ _ _ _ _ _ _ (c .before .before .before .before .before .before .before .before .before .loop .inv)
+same-length c = c .before .before .paint-block .kept .1 .1 .1 .0 ∙ going-length _ _ _ _ _ _ _ _ _ _ _ _ (c .before .before .before .before .before .before .before .before .before .loop .inv)
 
 returns : tie.Need-returns Inv-loop μ-loop
-returns c = going-stop _ _ _ _ _ _ _ _ _ _ (c .before .before .before .before .before .before .before .before .before .loop .inv) (c .before .before .before .before .before .before .before .before .before .before .before .before .before .before .before .before .pre) (c .before .before .before .before .before .before .before .before .loop-test .taken) _ _ (c .before .before .before .before .before .before .before .code-at .ensures .0) (c .before .before .before .before .before .before .part-from .ensures) _ _ (c .before .before .before .before .before .pixel-count .ensures) (c .before .before .before .before .if1 .taken) (c .before .before .paint-block .ensures)
+returns c = going-stop _ _ _ _ _ _ _ _ _ _ _ _ (c .before .before .before .before .before .before .before .before .before .loop .inv) (c .before .before .before .before .before .before .before .before .before .before .before .before .before .before .before .before .pre) (c .before .before .before .before .before .before .before .before .loop-test .taken) _ _ (c .before .before .before .before .before .before .before .code-at .ensures .0) (c .before .before .before .before .before .before .part-from .ensures) _ _ (c .before .before .before .before .before .pixel-count .ensures) (c .before .before .before .before .if1 .taken) (c .before .before .paint-block .ensures)
 
 paint-block-requires-2 : tie.Need-paint-block-requires-2 Inv-loop μ-loop
-paint-block-requires-2 c κs = (drawable _ _ _ _ _ _ _ _ _ _ (c .before .before .before .before .before .before .loop .inv) (c .before .before .before .before .before .before .before .before .before .before .before .before .before .pre) (c .before .before .before .before .before .loop-test .taken) _ _ (c .before .before .before .before .code-at .ensures .0) (c .before .before .before .part-from .ensures) _ (omega (arith, c .before .before .pixel-count .ensures)), canvas _ _ _ _ _ _ _ _ _ _ (c .before .before .before .before .before .before .loop .inv) (c .before .before .before .before .before .before .before .before .before .before .before .before .before .pre) (c .before .before .before .before .before .loop-test .taken) _ _ (c .before .before .before .before .code-at .ensures .0) (c .before .before .before .part-from .ensures))
+paint-block-requires-2 c κs = (drawable _ _ _ _ _ _ _ _ _ _ _ _ (c .before .before .before .before .before .before .loop .inv) (c .before .before .before .before .before .before .before .before .before .before .before .before .before .pre) (c .before .before .before .before .before .loop-test .taken) _ _ (c .before .before .before .before .code-at .ensures .0) (c .before .before .before .part-from .ensures) _ (omega (arith, c .before .before .pixel-count .ensures)), canvas _ _ _ _ _ _ _ _ _ _ _ _ (c .before .before .before .before .before .before .loop .inv) (c .before .before .before .before .before .before .before .before .before .before .before .before .before .pre) (c .before .before .before .before .before .loop-test .taken) _ _ (c .before .before .before .before .code-at .ensures .0) (c .before .before .before .part-from .ensures))
 
 add-set-place : tie.Need-add-set-place Inv-loop μ-loop
 add-set-place c = omega (arith, blocks-few _ (c .before .before .before .before .before .before .before .before .before .before .before .before .before .before .before .before .before .pre .sized), c .before .before .before .before .before .before .before .before .before .loop-test .taken)
@@ -92,25 +91,37 @@ data-length-requires : tie.Need-data-length-requires Inv-loop μ-loop
 data-length-requires c κs = c .before .before .before .before .before .before .before .before .before .code-at .ensures .1
 
 add-at : tie.Need-add-at Inv-loop μ-loop
-add-at c = let q = at-small _ _ _ _ _ _ _ _ _ _ (c .before .before .before .before .before .before .before .before .before .before .before .before .loop .inv) (c .before .before .before .before .before .before .before .before .before .before .before .before .before .before .before .before .before .before .before .pre) (c .before .before .before .before .before .before .before .before .before .before .before .loop-test .taken) _ _ (c .before .before .before .before .before .before .before .before .before .before .code-at .ensures .0) (c .before .before .before .before .before .before .before .before .before .part-from .ensures) _ (c .data-length .ensures) in omega (arith, q, c .before .before .before .before .before .before .before .before .before .before .before .before .before .before .before .before .before .before .before .good .1 .1 .1 .0)
+add-at c = let q = at-small _ _ _ _ _ _ _ _ _ _ _ _ (c .before .before .before .before .before .before .before .before .before .before .before .before .loop .inv) (c .before .before .before .before .before .before .before .before .before .before .before .before .before .before .before .before .before .before .before .pre) (c .before .before .before .before .before .before .before .before .before .before .before .loop-test .taken) _ _ (c .before .before .before .before .before .before .before .before .before .before .code-at .ensures .0) (c .before .before .before .before .before .before .before .before .before .part-from .ensures) _ (c .data-length .ensures) in omega (arith, q, c .before .before .before .before .before .before .before .before .before .before .before .before .before .before .before .before .before .before .before .good .1 .1 .1 .0)
 
 add-k : tie.Need-add-k Inv-loop μ-loop
 add-k c = omega (arith, blocks-few _ (c .before .before .before .before .before .before .before .before .before .before .before .before .before .before .before .before .before .before .before .pre .sized), c .before .before .before .before .before .before .before .before .before .before .before .loop-test .taken)
 
+add-x : tie.Need-add-x Inv-loop μ-loop
+add-x c = let q = canvas _ _ _ _ _ _ _ _ _ _ _ _ (c .before .before .before .before .before .before .before .before .before .before .before .before .loop .inv) (c .before .before .before .before .before .before .before .before .before .before .before .before .before .before .before .before .before .before .before .pre) (c .before .before .before .before .before .before .before .before .before .before .before .loop-test .taken) _ _ (c .before .before .before .before .before .before .before .before .before .before .code-at .ensures .0) (c .before .before .before .before .before .before .before .before .before .part-from .ensures) in omega (arith, q .across, q .width)
+
+add-y : tie.Need-add-y Inv-loop μ-loop
+add-y c = let q = canvas _ _ _ _ _ _ _ _ _ _ _ _ (c .before .before .before .before .before .before .before .before .before .before .before .before .before .loop .inv) (c .before .before .before .before .before .before .before .before .before .before .before .before .before .before .before .before .before .before .before .before .pre) (c .before .before .before .before .before .before .before .before .before .before .before .before .loop-test .taken) _ _ (c .before .before .before .before .before .before .before .before .before .before .before .code-at .ensures .0) (c .before .before .before .before .before .before .before .before .before .before .part-from .ensures) in omega (arith, q .down, q .height)
+
 loop-less : tie.Need-loop-less Inv-loop μ-loop
-loop-less c = omega (arith, c .before .before .before .before .before .before .before .before .before .before .before .loop-test .taken)
+loop-less c = omega (arith, c .before .before .before .before .before .before .before .before .before .before .before .before .loop-test .taken)
 
 loop-again : tie.Need-loop-again Inv-loop μ-loop
-loop-again c = going-block _ _ _ _ _ _ _ _ _ _ (c .before .before .before .before .before .before .before .before .before .before .before .before .loop .inv) (c .before .before .before .before .before .before .before .before .before .before .before .before .before .before .before .before .before .before .before .pre) (c .before .before .before .before .before .before .before .before .before .before .before .loop-test .taken) _ _ (c .before .before .before .before .before .before .before .before .before .before .code-at .ensures .0) (c .before .before .before .before .before .before .before .before .before .part-from .ensures) _ _ _ _ (c .before .before .before .before .before .before .before .before .pixel-count .ensures) (c .data-length .ensures) (c .before .before .before .before .before .before .before .if1 .left) (c .before .before .before .before .before .paint-block2 .ensures) (c .before .set-place .ensures)
+loop-again c = going-block _ _ _ _ _ _ _ _ _ _ _ _ (c .before .before .before .before .before .before .before .before .before .before .before .before .before .loop .inv) (c .before .before .before .before .before .before .before .before .before .before .before .before .before .before .before .before .before .before .before .before .pre) (c .before .before .before .before .before .before .before .before .before .before .before .before .loop-test .taken) _ _ (c .before .before .before .before .before .before .before .before .before .before .before .code-at .ensures .0) (c .before .before .before .before .before .before .before .before .before .before .part-from .ensures) _ _ _ _ (c .before .before .before .before .before .before .before .before .before .pixel-count .ensures) (c .before .data-length .ensures) (c .before .before .before .before .before .before .before .before .if1 .left) (c .before .before .before .before .before .before .paint-block2 .ensures) (c .before .before .set-place .ensures) _ _ (below _ _ _ _ _ _ _ _ _ _ _ _ (c .before .before .before .before .before .before .before .before .before .before .before .before .before .loop .inv) (c .before .before .before .before .before .before .before .before .before .before .before .before .before .before .before .before .before .before .before .before .pre) (c .before .before .before .before .before .before .before .before .before .before .before .before .loop-test .taken) _ _ (c .before .before .before .before .before .before .before .before .before .before .before .code-at .ensures .0) (c .before .before .before .before .before .before .before .before .before .before .part-from .ensures) (c .if2 .taken))
+
+loop-less-2 : tie.Need-loop-less-2 Inv-loop μ-loop
+loop-less-2 c = omega (arith, c .before .before .before .before .before .before .before .before .before .before .before .before .loop-test .taken)
+
+loop-again-2 : tie.Need-loop-again-2 Inv-loop μ-loop
+loop-again-2 c = going-block _ _ _ _ _ _ _ _ _ _ _ _ (c .before .before .before .before .before .before .before .before .before .before .before .before .before .loop .inv) (c .before .before .before .before .before .before .before .before .before .before .before .before .before .before .before .before .before .before .before .before .pre) (c .before .before .before .before .before .before .before .before .before .before .before .before .loop-test .taken) _ _ (c .before .before .before .before .before .before .before .before .before .before .before .code-at .ensures .0) (c .before .before .before .before .before .before .before .before .before .before .part-from .ensures) _ _ _ _ (c .before .before .before .before .before .before .before .before .before .pixel-count .ensures) (c .before .data-length .ensures) (c .before .before .before .before .before .before .before .before .if1 .left) (c .before .before .before .before .before .before .paint-block2 .ensures) (c .before .before .set-place .ensures) _ _ (right _ _ _ _ _ _ _ _ _ _ _ _ (c .before .before .before .before .before .before .before .before .before .before .before .before .before .loop .inv) (c .before .before .before .before .before .before .before .before .before .before .before .before .before .before .before .before .before .before .before .before .pre) (c .before .before .before .before .before .before .before .before .before .before .before .before .loop-test .taken) _ _ (c .before .before .before .before .before .before .before .before .before .before .before .code-at .ensures .0) (c .before .before .before .before .before .before .before .before .before .before .part-from .ensures) (c .if2 .left))
 
 sub-result : tie.Need-sub-result Inv-loop μ-loop
 sub-result c = c .before .loop .inv .room
 
 same-length-2 : tie.Need-same-length-2 Inv-loop μ-loop
-same-length-2 c = going-length _ _ _ _ _ _ _ _ _ _ (c .before .loop .inv)
+same-length-2 c = going-length _ _ _ _ _ _ _ _ _ _ _ _ (c .before .loop .inv)
 
 returns-2 : tie.Need-returns-2 Inv-loop μ-loop
-returns-2 c = going-end _ _ _ _ _ _ _ _ _ _ (c .before .loop .inv) (c .loop-test .left)
+returns-2 c = going-end _ _ _ _ _ _ _ _ _ _ _ _ (c .before .loop .inv) (c .loop-test .left)
 
 pub draw-blocks-spec : {M : Type 1} → statement M
 draw-blocks-spec =
@@ -122,13 +133,13 @@ draw-blocks-spec =
     mul-w
     mul-h
     data-position-requires
-    loop-holds
-    code-at-requires
-    part-from-requires
     rem-x
     mul-x
     div-y
     mul-y
+    loop-holds
+    code-at-requires
+    part-from-requires
     pixel-count-requires
     paint-block-requires
     same-length
@@ -141,8 +152,12 @@ draw-blocks-spec =
     data-length-requires
     add-at
     add-k
+    add-x
+    add-y
     loop-less
     loop-again
+    loop-less-2
+    loop-again-2
     sub-result
     same-length-2
     returns-2)

@@ -1,5 +1,6 @@
 use mathlib.Core.Path.{refl}
 use Rattle.words.proofs.Tests.{on, off}
+use Rattle.pattern.proofs.Bounds.{by-pair}
 use Rattle.pattern.specs.Form.{form9}
 use borrow.Author.Needs.{needs}
 use Rattle.pattern.proofs.form_of_9.Statement.{statement}
@@ -16,31 +17,21 @@ is-falling-requires-2 c κs = search needs
 
 returns : tie.Need-returns
 unfolding form9
-returns c = on _ (c .before .before .before .is-falling .ensures) (c .before .before .if1 .taken) (on _ (c .before .is-falling2 .ensures) (c .if2 .taken) refl)
+returns c = on _ (c .before .before .is-falling2 .ensures) (c .before .if1 .taken) (on _ (by-pair _ 2 (c .before .before .before .is-falling .ensures)) (c .if2 .taken) refl)
 
 returns-2 : tie.Need-returns-2
 unfolding form9
-returns-2 c = on _ (c .before .before .before .is-falling .ensures) (c .before .before .if1 .taken) (off _ (c .before .is-falling2 .ensures) (c .if2 .left) refl)
-
-is-falling-requires-3 : tie.Need-is-falling-requires-3
-is-falling-requires-3 c κs = search needs
+returns-2 c = on _ (c .before .before .is-falling2 .ensures) (c .before .if1 .taken) (off _ (by-pair _ 2 (c .before .before .before .is-falling .ensures)) (c .if2 .left) refl)
 
 returns-3 : tie.Need-returns-3
 unfolding form9
-returns-3 c = off _ (c .before .before .before .is-falling .ensures) (c .before .before .if1 .left) (on _ (c .before .is-falling3 .ensures) (c .if3 .taken) refl)
+returns-3 c = off _ (c .before .before .is-falling2 .ensures) (c .before .if1 .left) (on _ (by-pair _ 2 (c .before .before .before .is-falling .ensures)) (c .if3 .taken) refl)
 
 returns-4 : tie.Need-returns-4
 unfolding form9
-returns-4 c = off _ (c .before .before .before .is-falling .ensures) (c .before .before .if1 .left) (off _ (c .before .is-falling3 .ensures) (c .if3 .left) refl)
+returns-4 c = off _ (c .before .before .is-falling2 .ensures) (c .before .if1 .left) (off _ (by-pair _ 2 (c .before .before .before .is-falling .ensures)) (c .if3 .left) refl)
 
 pub form-of-9-spec : {M : Type 1} → statement M
 form-of-9-spec =
     tie.close
-    (tie.spec
-    is-falling-requires
-    is-falling-requires-2
-    returns
-    returns-2
-    is-falling-requires-3
-    returns-3
-    returns-4)
+    (tie.spec is-falling-requires is-falling-requires-2 returns returns-2 returns-3 returns-4)

@@ -17,15 +17,15 @@ is-falling-requires-2 c κs = search needs
 
 returns : tie.Need-returns
 unfolding formA
-returns c = on _ (c .before .before .before .is-falling .ensures) (c .before .before .if1 .taken) (on _ (by-pair _ 12 (c .before .is-falling2 .ensures)) (c .if2 .taken) refl)
+returns c = on _ (c .before .before .is-falling2 .ensures) (c .before .if1 .taken) (on _ (by-pair _ 12 (c .before .before .before .is-falling .ensures)) (c .if2 .taken) refl)
 
 returns-2 : tie.Need-returns-2
 unfolding formA
-returns-2 c = on _ (c .before .before .before .is-falling .ensures) (c .before .before .if1 .taken) (off _ (by-pair _ 12 (c .before .is-falling2 .ensures)) (c .if2 .left) refl)
+returns-2 c = on _ (c .before .before .is-falling2 .ensures) (c .before .if1 .taken) (off _ (by-pair _ 12 (c .before .before .before .is-falling .ensures)) (c .if2 .left) refl)
 
 returns-3 : tie.Need-returns-3
 unfolding formA
-returns-3 c = off _ (c .before .is-falling .ensures) (c .if1 .left) refl
+returns-3 c = off _ (c .before .is-falling2 .ensures) (c .if1 .left) refl
 
 pub form-of-a-spec : {M : Type 1} → statement M
 form-of-a-spec =

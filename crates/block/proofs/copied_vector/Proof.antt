@@ -1,0 +1,69 @@
+use lib.Dec.{eqb}
+use native.Mathlib.Omega.{arith}
+use Rattle.block.proofs.Codes.{chosen-back, chosen-front, back-short, front-short}
+use Rattle.block.specs.Block.{kindOf}
+use Rattle.block.specs.Block.{vectorOf}
+use borrow.Author.Needs.{needs}
+use Rattle.block.proofs.copied_vector.Statement.{statement}
+use Rattle.block.proofs.copied_vector.Tie as tie
+use Rattle.block.proofs.copied_vector.Reads as reads
+use Rattle.block.proofs.copied_vector.Lts as lts
+use Rattle.block.proofs.either.Reads as either-reads
+use Rattle.motion.proofs.ahead_vector.Reads as ahead-vector-reads
+use Rattle.motion.proofs.far_vector.Reads as far-vector-reads
+use Rattle.motion.proofs.near_vector.Reads as near-vector-reads
+use Rattle.motion.proofs.negate.Reads as negate-reads
+use Rattle.words.proofs.byte_at.Reads as byte-at-reads
+
+byte-at-requires : tie.Need-byte-at-requires
+byte-at-requires c κs = search needs
+
+ahead-vector-requires : tie.Need-ahead-vector-requires
+ahead-vector-requires c κs = search needs
+
+negate-requires : tie.Need-negate-requires
+negate-requires c κs = search needs
+
+either-requires : tie.Need-either-requires
+either-requires c κs = search needs
+
+returns : tie.Need-returns
+returns c = (chosen-back _ _ _ _ _ _ (c .before .before .before .before .before .before .pre .0) (c .before .before .before .before .if1 .taken) (c .before .before .before .byte-at .ensures) (c .before .before .ahead-vector .ensures) (c .before .negate .ensures) (c .either .ensures), back-short _ (eqb (c .before .before .before .before .before .before .args .code) 3) _ _ _ (c .before .before .before .byte-at .ok) (c .before .before .ahead-vector .ensures) (c .before .negate .ensures) (c .either .ensures))
+
+byte-at-requires-2 : tie.Need-byte-at-requires-2
+byte-at-requires-2 c κs = search needs
+
+near-vector-requires : tie.Need-near-vector-requires
+near-vector-requires c κs = search needs
+
+byte-at-requires-3 : tie.Need-byte-at-requires-3
+byte-at-requires-3 c κs = search needs
+
+byte-at-requires-4 : tie.Need-byte-at-requires-4
+byte-at-requires-4 c κs = search needs
+
+far-vector-requires : tie.Need-far-vector-requires
+far-vector-requires c κs = search needs
+
+either-requires-2 : tie.Need-either-requires-2
+either-requires-2 c κs = search needs
+
+returns-2 : tie.Need-returns-2
+returns-2 c = (chosen-front _ _ _ _ _ _ _ _ (c .before .before .before .before .before .before .if1 .left) (c .before .before .before .before .before .before .before .before .pre .1) (c .before .before .before .before .before .byte-at2 .ensures) (c .before .before .before .byte-at3 .ensures) (c .before .before .byte-at4 .ensures) (c .before .before .before .before .near-vector .ensures) (c .before .far-vector .ensures) (c .either2 .ensures), front-short _ _ _ (eqb (c .before .before .before .before .before .before .before .before .args .code) 4) _ _ _ (c .before .before .before .before .before .byte-at2 .ok) (c .before .before .before .before .near-vector .ensures) (c .before .far-vector .ensures) (c .either2 .ensures))
+
+pub copied-vector-spec : {M : Type 1} → statement M
+copied-vector-spec =
+    tie.close
+    (tie.spec
+    byte-at-requires
+    ahead-vector-requires
+    negate-requires
+    either-requires
+    returns
+    byte-at-requires-2
+    near-vector-requires
+    byte-at-requires-3
+    byte-at-requires-4
+    far-vector-requires
+    either-requires-2
+    returns-2)

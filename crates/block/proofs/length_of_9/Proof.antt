@@ -1,0 +1,33 @@
+use mathlib.Core.Path.{ap, ap₂, _∙_}
+use mathlib.Core.Bool.{Bool, cond}
+use Prim.Native.Nat.{ℕ}
+use Rattle.block.proofs.Codes.{length-9}
+use Rattle.block.specs.Block.{kindOf}
+use Rattle.block.specs.Block.{dataLength}
+use borrow.Author.Needs.{needs}
+use Rattle.block.proofs.length_of_9.Statement.{statement}
+use Rattle.block.proofs.length_of_9.Tie as tie
+use Rattle.block.proofs.length_of_9.Reads as reads
+use Rattle.block.proofs.length_of_9.Lts as lts
+use Rattle.block.proofs.choose.Reads as choose-reads
+use Rattle.pattern.proofs.is_falling.Reads as is-falling-reads
+
+is-falling-requires : tie.Need-is-falling-requires
+is-falling-requires c κs = search needs
+
+is-falling-requires-2 : tie.Need-is-falling-requires-2
+is-falling-requires-2 c κs = search needs
+
+choose-requires : tie.Need-choose-requires
+choose-requires c κs = search needs
+
+choose-requires-2 : tie.Need-choose-requires-2
+choose-requires-2 c κs = search needs
+
+returns : tie.Need-returns
+returns c = c .choose2 .ensures ∙ ap₂ (λ (x : Bool) (y : ℕ). cond x 12 y) (c .before .before .is-falling2 .ensures) (c .before .choose .ensures ∙ ap (λ (x : Bool). cond x 8 20) (c .before .before .before .is-falling .ensures)) ∙ length-9 _
+
+pub length-of-9-spec : {M : Type 1} → statement M
+length-of-9-spec =
+    tie.close
+    (tie.spec is-falling-requires is-falling-requires-2 choose-requires choose-requires-2 returns)
