@@ -1,0 +1,98 @@
+//! libavcodec's decoder of Interplay video, by the functions of `c/libav.c`. All unsafe code is
+//! here.
+
+#![allow(unsafe_code)]
+
+use maker::Size;
+use std::ffi::{c_int, c_uint};
+use std::ptr::NonNull;
+
+/// `struct libav` of the C file.
+#[repr(C)]
+struct RawDecoder {
+    _opaque: [u8; 0],
+}
+
+/// libavcodec's `AVPacket`.
+#[repr(C)]
+struct RawPacket {
+    _opaque: [u8; 0],
+}
+
+unsafe extern "C" {
+    fn libav_version() -> c_uint;
+    fn libav_open(width: c_int, height: c_int) -> *mut RawDecoder;
+    fn libav_close(decoder: *mut RawDecoder);
+    fn libav_packet(bytes: *const u8, length: usize) -> *mut RawPacket;
+    fn libav_packet_free(packet: *mut RawPacket);
+    fn libav_decode(decoder: *mut RawDecoder, packet: *const RawPacket) -> c_int;
+    fn libav_picture(decoder: *const RawDecoder, picture: *mut u8) -> c_int;
+}
+
+/// The version of the library that runs: major, minor, micro.
+pub fn version() -> (u32, u32, u32) {
+    // SAFETY: it takes nothing and gives a number.
+    let version = unsafe { libav_version() };
+    (version >> 16, version >> 8 & 0xFF, version & 0xFF)
+}
+
+/// Bytes for the decoder, copied to where it wants them.
+pub struct Packet(NonNull<RawPacket>);
+
+impl Packet {
+    /// `None` where there is no memory for it.
+    pub fn new(bytes: &[u8]) -> Option<Packet> {
+        // SAFETY: address and length are those of a slice that lives through the call, which only
+        // reads it.
+        NonNull::new(unsafe { libav_packet(bytes.as_ptr(), bytes.len()) }).map(Packet)
+    }
+}
+
+impl Drop for Packet {
+    fn drop(&mut self) {
+        // SAFETY: the packet came from `libav_packet` and is freed once. A decoder that still has
+        // use for the bytes counts them as its own.
+        unsafe { libav_packet_free(self.0.as_ptr()) }
+    }
+}
+
+/// An open decoder.
+pub struct Decoder {
+    raw: NonNull<RawDecoder>,
+    size: Size,
+}
+
+impl Decoder {
+    /// `None` where libavcodec has no such decoder or cannot open it.
+    pub fn open(size: Size) -> Option<Decoder> {
+        let (width, height) = (size.width().try_into().ok()?, size.height().try_into().ok()?);
+        // SAFETY: it takes two numbers.
+        let raw = NonNull::new(unsafe { libav_open(width, height) })?;
+        Some(Decoder { raw, size })
+    }
+
+    /// Decodes the next packet; libavcodec's number of an error.
+    pub fn decode(&mut self, packet: &Packet) -> Result<(), i32> {
+        // SAFETY: decoder and packet are open, the decoder is borrowed by this call alone, and the
+        // packet is only read.
+        match unsafe { libav_decode(self.raw.as_ptr(), packet.0.as_ptr()) } {
+            0 => Ok(()),
+            error => Err(error),
+        }
+    }
+
+    /// Writes the picture decoded last, row by row; false where there is none of the size.
+    pub fn picture(&self, picture: &mut [u8]) -> bool {
+        assert_eq!(picture.len(), self.size.pixels(), "a byte a pixel");
+        // SAFETY: the decoder is open; it writes a byte for each pixel of the size that it was
+        // opened with, which is the length of the slice.
+        unsafe { libav_picture(self.raw.as_ptr(), picture.as_mut_ptr()) == 1 }
+    }
+}
+
+impl Drop for Decoder {
+    fn drop(&mut self) {
+        // SAFETY: the decoder came from `libav_open` and is closed once.
+        unsafe { libav_close(self.raw.as_ptr()) }
+    }
+}

@@ -1,0 +1,80 @@
+//! libavcodec's decoder as one of the programs, where it is there.
+
+use crate::kind::Frame;
+use crate::program::Program;
+use maker::Size;
+
+#[cfg(libavcodec)]
+pub use there::{program, version};
+
+/// No program: the bench was built without libavcodec.
+#[cfg(not(libavcodec))]
+pub fn program(_size: Size, _frames: &[Frame]) -> Option<Box<dyn Program>> {
+    None
+}
+
+/// The library's version; else why it is not among the programs.
+#[cfg(not(libavcodec))]
+pub fn version() -> Result<String, &'static str> {
+    Err("not there when the bench was built (Debian: libavcodec-dev)")
+}
+
+#[cfg(libavcodec)]
+mod there {
+    use super::{Frame, Program, Size};
+    use crate::ffi;
+    use crate::program::LIBAV;
+    use maker::Packet;
+
+    /// The library's version; else why it is not among the programs.
+    pub fn version() -> Result<String, &'static str> {
+        let (major, minor, micro) = ffi::version();
+        match ffi::Decoder::open(Size::new(1, 1)) {
+            Some(_) => Ok(format!("{major}.{minor}.{micro}")),
+            None => Err("it was built without its decoder of Interplay video"),
+        }
+    }
+
+    /// The decoder; `None` where libavcodec was built without it.
+    pub fn program(size: Size, frames: &[Frame]) -> Option<Box<dyn Program>> {
+        let decoder = ffi::Decoder::open(size)?;
+        let packet = |frame: &Frame| ffi::Packet::new(&bytes(&frame.mirrored)).expect("memory");
+        let packets = frames.iter().map(packet).collect();
+        Some(Box::new(Libav { decoder, packets, picture: vec![0; size.pixels()] }))
+    }
+
+    struct Libav {
+        decoder: ffi::Decoder,
+        packets: Vec<ffi::Packet>,
+        /// The picture decoded last, without what stands behind each of the decoder's rows.
+        picture: Vec<u8>,
+    }
+
+    impl Program for Libav {
+        fn name(&self) -> &'static str {
+            LIBAV
+        }
+
+        fn run(&mut self, number: usize) -> Result<(), String> {
+            let decoded = self.decoder.decode(&self.packets[number]);
+            decoded.map_err(|error| format!("error {error}"))
+        }
+
+        fn picture(&mut self) -> Option<&[u8]> {
+            assert!(self.decoder.picture(&mut self.picture), "libavcodec gives an 8-bit picture");
+            Some(&self.picture)
+        }
+    }
+
+    /// A packet in the form that libavcodec's reader of MVE films hands on: format 11, "send", the
+    /// lengths of data, map and skip map, then the data behind its 14 skipped bytes, then the map.
+    fn bytes(packet: &Packet) -> Vec<u8> {
+        const SKIPPED: usize = 14;
+        let word = |length: usize| u16::try_from(length).expect("a word").to_le_bytes();
+        let Packet { map, data, .. } = packet;
+        let (data_length, map_length) = (word(SKIPPED + data.len()), word(map.len()));
+        let parts: [&[u8]; 7] =
+            [&[0x11, 1], &data_length, &map_length, &[0; 2], &[0; SKIPPED], data, map];
+        parts.concat()
+    }
+}

@@ -1,0 +1,174 @@
+//! Times of the proved drawing call beside libavcodec's decoder, the second decoder and a copy of
+//! the picture, all on the same frames, whose pictures are compared.
+
+mod allowance;
+mod blocks;
+mod fault;
+#[cfg(libavcodec)]
+mod ffi;
+mod kind;
+mod libav;
+mod measure;
+mod mirror;
+mod program;
+mod report;
+mod table;
+
+use allowance::Cuts;
+use blocks::{Line, Series};
+use fault::Fault;
+use kind::{frames, Kind, KINDS, MIX, PRIMERS, SAME};
+use measure::Bench;
+use program::{programs, Program};
+use std::env;
+use std::process::ExitCode;
+
+const USAGE: &str = "usage: bench [--quick | --markdown] [SEED [ROUNDS]]
+       bench --kinds
+       bench --one KIND PROGRAM TIMES";
+
+const SEED: u64 = 1;
+const ROUNDS: usize = 100;
+/// Rounds of `--quick`, which compares and does not care for times.
+const QUICK_ROUNDS: usize = 2;
+
+/// What the arguments ask for.
+enum Job {
+    /// All tables.
+    Tables { markdown: bool, seed: u64, rounds: usize },
+    /// The comparisons alone.
+    Quick { seed: u64, rounds: usize },
+    /// The names and pixels of the kinds.
+    Kinds,
+    /// One program on one kind, so many frames, for a profiler.
+    One { kind: Kind, program: String, times: usize },
+}
+
+fn main() -> ExitCode {
+    let arguments: Vec<String> = env::args().skip(1).collect();
+    let Some(job) = parsed(&arguments) else {
+        eprintln!("{USAGE}");
+        return ExitCode::from(2);
+    };
+    let done = match job {
+        Job::Tables { markdown, seed, rounds } => tables(markdown, seed, rounds),
+        Job::Quick { seed, rounds } => quick(seed, rounds),
+        Job::One { kind, program, times } => one(kind, &program, times),
+        Job::Kinds => {
+            KINDS.iter().for_each(|kind| println!("{} {}", kind.name, kind.size.pixels()));
+            Ok(())
+        }
+    };
+    match done {
+        Ok(()) => ExitCode::SUCCESS,
+        Err(message) => {
+            eprintln!("bench: {message}");
+            ExitCode::FAILURE
+        }
+    }
+}
+
+fn parsed(arguments: &[String]) -> Option<Job> {
+    let mut arguments: Vec<&str> = arguments.iter().map(String::as_str).collect();
+    let option = arguments.first().filter(|argument| argument.starts_with("--")).copied();
+    if option.is_some() {
+        arguments.remove(0);
+    }
+    if let (Some("--one"), [kind, program, times]) = (option, &arguments[..]) {
+        let kind = *KINDS.iter().find(|known| known.name == *kind)?;
+        return Some(Job::One { kind, program: (*program).to_owned(), times: times.parse().ok()? });
+    }
+    let (seed, rounds) = match arguments[..] {
+        [] => (SEED, None),
+        [seed] => (seed.parse().ok()?, None),
+        [seed, rounds] => (seed.parse().ok()?, Some(rounds.parse().ok().filter(|&r| r > 0)?)),
+        _ => return None,
+    };
+    match option {
+        None | Some("--markdown") => {
+            let rounds = rounds.unwrap_or(ROUNDS);
+            Some(Job::Tables { markdown: option.is_some(), seed, rounds })
+        }
+        Some("--quick") => Some(Job::Quick { seed, rounds: rounds.unwrap_or(QUICK_ROUNDS) }),
+        Some("--kinds") if arguments.is_empty() => Some(Job::Kinds),
+        Some(_) => None,
+    }
+}
+
+/// What is measured.
+struct Run {
+    benches: Vec<Bench>,
+    cuts: Vec<Cuts>,
+    series: Vec<Series>,
+}
+
+impl Run {
+    /// So many rounds, each of everything in turn: a slow time of the machine meets all alike.
+    fn new(seed: u64, rounds: usize) -> Result<Run, Fault> {
+        let benches: Result<Vec<_>, _> =
+            KINDS.map(|kind| Bench::new(kind, seed)).into_iter().collect();
+        let cuts: Result<Vec<_>, _> =
+            [SAME, MIX].map(|kind| Cuts::new(kind, seed)).into_iter().collect();
+        let mut run = Run { benches: benches?, cuts: cuts?, series: Series::all(seed)? };
+        for round in 0..rounds {
+            run.benches.iter_mut().try_for_each(|bench| bench.round(round))?;
+            run.cuts.iter_mut().try_for_each(|cuts| cuts.round(round))?;
+            run.series.iter_mut().for_each(Series::round);
+        }
+        Ok(run)
+    }
+}
+
+/// Compares the pictures of everything that is measured.
+fn quick(seed: u64, rounds: usize) -> Result<(), String> {
+    let Run { benches, cuts, series } = Run::new(seed, rounds)?;
+    let (kinds, lists, sizes) = (benches.len(), cuts.len() * cuts[0].pieces.len(), series.len());
+    println!(
+        "bench: seed {seed}: {kinds} kinds of frames, {lists} lists of calls, {sizes} sizes: \
+         the pictures are those of the second decoder"
+    );
+    match libav::version() {
+        Ok(version) => println!("bench: libavcodec {version} draws the same of every kind"),
+        Err(why) => println!("bench: not compared with libavcodec: {why}"),
+    }
+    Ok(())
+}
+
+/// Measures everything and prints it.
+fn tables(markdown: bool, seed: u64, rounds: usize) -> Result<(), String> {
+    let Run { benches, cuts, series } = Run::new(seed, rounds)?;
+    let measured: Vec<_> = benches.iter().map(Bench::measured).collect();
+    let pieces = cuts.into_iter().flat_map(|cuts| cuts.pieces).collect::<Vec<_>>();
+    let points: Vec<_> = series.iter().map(Series::point).collect();
+    let line = Line::through(&points);
+    let blocks = report::blocks(&points, line).text(markdown);
+    for (title, text) in [
+        ("Machine and run", report::run(seed, rounds)),
+        ("Nanoseconds a pixel", report::kinds(&measured).text(markdown)),
+        ("Targets", report::targets(&measured).text(markdown)),
+        ("By the stores that a call is allowed", report::allowances(&pieces).text(markdown)),
+        ("By the number of blocks", format!("{blocks}\n\n{}", report::line(&points, line))),
+    ] {
+        println!("{}{title}\n\n{text}\n", if markdown { "## " } else { "" });
+    }
+    Ok(())
+}
+
+/// Runs one program on so many frames of a kind, when it has taken each of them once.
+fn one(kind: Kind, program: &str, times: usize) -> Result<(), String> {
+    let frames = frames(kind, SEED);
+    let mut programs = programs(kind.size, &frames);
+    let program = programs.iter_mut().find(|known| known.name() == program);
+    let program = program.ok_or("there is no such program")?;
+    for number in 0..frames.len() {
+        program.run(number)?;
+    }
+    let timed = PRIMERS..frames.len();
+    timed.cycle().take(times).try_for_each(|number| counted(&mut **program, number))
+}
+
+/// What the script `callgrind` has counted; it finds this function by its name.
+#[inline(never)]
+fn counted(program: &mut dyn Program, number: usize) -> Result<(), String> {
+    program.run(number)
+}

@@ -1,0 +1,136 @@
+//! What a run found, as tables.
+
+use crate::allowance::Pieces;
+use crate::blocks::{Line, Point};
+use crate::kind::MIX;
+use crate::libav;
+use crate::measure::Measured;
+use crate::program::{CHECK, DRAW, LIBAV, MEMCPY};
+use crate::table::{number, Table};
+use maker::Size;
+use std::fs;
+use std::time::Duration;
+
+/// Kinds that must take less than libavcodec's time: patterns and raw.
+const BELOW: [&str; 6] = ["B", "7", "8", "9", "A", "7-A"];
+
+fn size_text(size: Size) -> String {
+    format!("{}x{}", size.width(), size.height())
+}
+
+/// Nanoseconds a pixel of every program and kind, and what they are to each other.
+pub fn kinds(measured: &[Measured]) -> Table {
+    let programs = measured[0].times.iter().map(|&(name, _)| name.to_owned());
+    let ratios = [(DRAW, LIBAV), (DRAW, MEMCPY), (CHECK, MEMCPY)];
+    let ratios = ratios.into_iter().filter(|&(_, other)| measured[0].of(other).is_some());
+    let titles = ratios.clone().map(|(one, other)| format!("{one}/{other}"));
+    let heading = ["codes", "size"].map(str::to_owned).into_iter().chain(programs).chain(titles);
+    let mut table = Table::new(heading.collect());
+    for found in measured {
+        let mut row = vec![found.kind.name.to_owned(), size_text(found.kind.size)];
+        row.extend(found.times.iter().map(|&(_, time)| number(time, 3)));
+        let found = ratios.clone().filter_map(|(one, other)| found.ratio(one, other));
+        row.extend(found.map(|ratio| number(ratio, 2)));
+        table.row(row);
+    }
+    table
+}
+
+/// The targets, what was measured of each, and whether it is met.
+pub fn targets(measured: &[Measured]) -> Table {
+    let mix = |found: &&Measured| found.kind.name == MIX.name;
+    let below = |found: &&Measured| BELOW.contains(&found.kind.name);
+    let mut table = Table::new(["target", "measured", "met"].map(str::to_owned).into());
+    let mut add = |target: &str, worst: Option<(f64, &str)>, met: fn(f64) -> bool| {
+        let found = worst.map(|(ratio, kind)| format!("{ratio:.2} ({kind})"));
+        let is_met = match worst {
+            Some((ratio, _)) if met(ratio) => "yes",
+            Some(_) => "no",
+            None => "not measured",
+        };
+        table.row(vec![target.to_owned(), found.unwrap_or_default(), is_met.to_owned()]);
+    };
+    let of =
+        |wanted: &dyn Fn(&&Measured) -> bool| worst(measured.iter().filter(wanted), DRAW, LIBAV);
+    add("draw/libavcodec of the mix at most 1", of(&mix), |ratio| ratio <= 1.0);
+    add("draw/libavcodec of every kind at most 2", of(&|_| true), |ratio| ratio <= 2.0);
+    add("draw/libavcodec of B and 7 to A below 1", of(&below), |ratio| ratio < 1.0);
+    let check = worst(measured.iter().filter(mix), CHECK, MEMCPY);
+    add("check/memcpy of the mix at most 7.5 (0.15 ns / 0.02)", check, |ratio| ratio <= 7.5);
+    table
+}
+
+/// The greatest ratio of two programs, and the kind that has it.
+fn worst<'a>(
+    measured: impl Iterator<Item = &'a Measured>,
+    one: &str,
+    other: &str,
+) -> Option<(f64, &'static str)> {
+    let ratios = measured.filter_map(|found| Some((found.ratio(one, other)?, found.kind.name)));
+    ratios.max_by(|a, b| a.0.total_cmp(&b.0))
+}
+
+/// The cost of a picture by the stores that a call is allowed.
+pub fn allowances(pieces: &[Pieces]) -> Table {
+    let heading = ["codes", "size", "stores a call", "calls", "ms a picture", "us a call"];
+    let mut table = Table::new(heading.map(str::to_owned).into());
+    for Pieces { kind, allowed, calls } in pieces {
+        let time = calls.iter().sum::<Duration>().as_secs_f64();
+        table.row(vec![
+            kind.name.to_owned(),
+            size_text(kind.size),
+            allowed.to_string(),
+            calls.len().to_string(),
+            number(time * 1e3, 3),
+            number(time * 1e6 / calls.len() as f64, 1),
+        ]);
+    }
+    table
+}
+
+/// The time of a frame of the mix by its number of blocks.
+pub fn blocks(points: &[Point], line: Line) -> Table {
+    let heading = ["size", "blocks", "us a frame", "ns a block", "off the line"];
+    let mut table = Table::new(heading.map(str::to_owned).into());
+    for point in points {
+        table.row(vec![
+            size_text(point.size),
+            point.size.blocks().to_string(),
+            number(point.time / 1e3, 3),
+            number(point.time / point.blocks(), 1),
+            format!("{:+.1} %", line.off(point) * 100.0),
+        ]);
+    }
+    table
+}
+
+/// The line fitted to these times, in words.
+pub fn line(points: &[Point], line: Line) -> String {
+    let worst = points.iter().map(|point| line.off(point).abs()).fold(0.0, f64::max) * 100.0;
+    let Line { intercept, slope } = line;
+    format!(
+        "The line, by least squares of the distances as parts of the times: {slope:.1} ns a block \
+         and {intercept:.0} ns a frame;\nno size is more than {worst:.1} % off."
+    )
+}
+
+/// The machine, the library that is measured against, and the run.
+pub fn run(seed: u64, rounds: usize) -> String {
+    let libav = libav::version()
+        .map_or_else(|why| format!("left out, {why}"), |version| format!("version {version}"));
+    format!("Processor: {}.\nlibavcodec: {libav}.\nSeed {seed}, {rounds} rounds.", processor())
+}
+
+/// The processor's name, as Linux tells it; a virtual one may have little more than its numbers.
+fn processor() -> String {
+    let text = fs::read_to_string("/proc/cpuinfo").unwrap_or_default();
+    let field = |name: &str| {
+        let value = |line: &str| {
+            let (key, value) = line.split_once(':')?;
+            (key.trim() == name).then(|| value.trim().to_owned())
+        };
+        text.lines().find_map(value).unwrap_or_else(|| "unknown".to_owned())
+    };
+    let [name, family, model] = ["model name", "cpu family", "model"].map(field);
+    format!("{name}, family {family}, model {model}")
+}
