@@ -61,16 +61,18 @@ module _ (p : Packet) (k : ℕ) (within : start p k ≤ length (p .bytes)) where
   left-there : length (dataOf p k) ≡ length (p .bytes) - start p k
   left-there = length-drop (start p k) (p .bytes)
 
+  fits : dataLength (kind p k) ≤ length (dataOf p k) → start p k + dataLength (kind p k) ≤ length (p .bytes)
+  fits l = omega (arith, l, left-there, within)
+
   pub takes : blockVerdict p k ≡ accept → Takes p k
   unfolding blockVerdict
   takes e =
       let a = not-first _ _ _ _ (refuses 12 k) e in
       let b = not-first _ _ _ _ (refuses 13 k) (a .1) in
       let c = first _ _ _ _ (refuses 14 k) (b .1) in
-      let l : dataLength (kind p k) ≤ length (dataOf p k) = ltb-false _ _ (b .0) in
       record {
         known = λ q. false-true (sym (a .0) ∙ code-refused (dataOf p k) (code p k) q);
-        there = omega (arith, l, left-there, within);
+        there = fits (ltb-false _ _ (b .0));
         inside = copy-is (kind p k) (width p) (height p) (left p k) (top p k) (c .0);
       }
 

@@ -68,11 +68,11 @@ pub fn check_blocks(columns: usize, rows: usize, map: &[u8], data: &[u8]) -> Che
     let mut y = 0;
     while k < n {
         let code = code_at(map, k);
-        let s = &data[at..];
-        let length = data_length(code, s);
         if code == 6 {
             return Checked::Refused(Refusal::Code(k));
         }
+        let s = &data[at..];
+        let length = data_length(code, s);
         if s.len() < length {
             return Checked::Refused(Refusal::DataShort(k));
         }

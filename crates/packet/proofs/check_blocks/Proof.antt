@@ -1,12 +1,10 @@
-use Rattle.packet.proofs.Walk.{length-is}
 use mathlib.Core.Path.{refl, sym, _∙_}
 use mathlib.Core.List.{[]}
 use Prim.Native.Nat.{_*_, _-_}
 use native.Mathlib.Omega.{arith}
 use Rattle.packet.specs.Packet.{packet}
-use Rattle.packet.proofs.Walk.{Walked, Seen, walked-start, mapped, blocks-few, corner, refuses-12, refuses-13, refuses-14, walked-right, walked-down, used-up, left-over}
+use Rattle.packet.proofs.Walk.{Walked, Seen, walked-start, mapped, blocks-few, corner, length-is, refuses-12, refuses-13, refuses-14, walked-right, walked-down, used-up, left-over}
 use borrow.Author.Needs.{needs}
-use Rattle.packet.specs.Verdict.{blocksVerdict}
 use Rattle.packet.proofs.check_blocks.Statement.{statement}
 use Rattle.packet.proofs.check_blocks.Tie as tie
 use Rattle.packet.proofs.check_blocks.Reads as reads
@@ -36,32 +34,32 @@ loop-holds c = walked-start _
 code-at-requires : tie.Need-code-at-requires Inv-loop μ-loop
 code-at-requires c κs = mapped _ _ (c .before .before .before .before .pre) (c .loop-test .taken)
 
+returns : tie.Need-returns Inv-loop μ-loop
+returns c = refuses-12 _ _ _ _ _ _ _ _ (c .before .before .before .before .before .before .pre) (c .before .before .before .loop .inv) (c .before .before .loop-test .taken) (record { code = c .before .code-at .ensures .0; part = refl; long = refl }) (c .if1 .taken)
+
 sub-s : tie.Need-sub-s Inv-loop μ-loop
-sub-s c = omega (arith, c .before .before .loop .inv .within)
+sub-s c = omega (arith, c .before .before .before .loop .inv .within)
 
 part-s-start : tie.Need-part-s-start Inv-loop μ-loop
-part-s-start c = omega (arith, c .before .before .loop .inv .within)
+part-s-start c = omega (arith, c .before .before .before .loop .inv .within)
 
 part-s-end : tie.Need-part-s-end Inv-loop μ-loop
 part-s-end c = omega arith
 
 data-length-requires : tie.Need-data-length-requires Inv-loop μ-loop
-data-length-requires c κs = c .before .code-at .ensures .1
-
-returns : tie.Need-returns Inv-loop μ-loop
-returns c = refuses-12 _ _ _ _ _ _ _ _ (c .before .before .before .before .before .before .before .before .pre) (c .before .before .before .before .before .loop .inv) (c .before .before .before .before .loop-test .taken) (record { code = c .before .before .before .code-at .ensures .0; part = refl; long = c .before .data-length .ensures }) (c .if1 .taken)
+data-length-requires c κs = c .before .before .code-at .ensures .1
 
 returns-2 : tie.Need-returns-2 Inv-loop μ-loop
-returns-2 c = refuses-13 _ _ _ _ _ _ _ _ (c .before .before .before .before .before .before .before .before .before .pre) (c .before .before .before .before .before .before .loop .inv) (c .before .before .before .before .before .loop-test .taken) (record { code = c .before .before .before .before .code-at .ensures .0; part = refl; long = c .before .before .data-length .ensures }) (c .before .if1 .left) (c .if2 .taken)
+returns-2 c = refuses-13 _ _ _ _ _ _ _ _ (c .before .before .before .before .before .before .before .before .before .pre) (c .before .before .before .before .before .before .loop .inv) (c .before .before .before .before .before .loop-test .taken) (record { code = c .before .before .before .before .code-at .ensures .0; part = refl; long = c .before .data-length .ensures }) (c .before .before .before .if1 .left) (c .if2 .taken)
 
 copy-inside-requires : tie.Need-copy-inside-requires Inv-loop μ-loop
-copy-inside-requires c κs = let l = corner _ _ _ _ _ 0 0 [] (c .before .before .before .before .before .before .before .before .before .pre) (c .before .before .before .before .before .before .loop .inv) (c .before .before .before .before .before .loop-test .taken) in ((c .before .before .before .before .code-at .ensures .1), omega (arith, c .before .before .before .before .before .before .before .before .before .pre), omega (arith, c .before .before .before .before .before .before .before .before .before .pre), omega (arith, l, c .before .before .before .before .before .before .before .before .before .pre), omega (arith, l, c .before .before .before .before .before .before .before .before .before .pre))
+copy-inside-requires c κs = let l = corner _ _ _ _ _ 0 0 [] (c .before .before .before .before .before .before .before .before .before .pre) (c .before .before .before .before .before .before .loop .inv) (c .before .before .before .before .before .loop-test .taken) in (c .before .before .before .before .code-at .ensures .1, omega (arith, c .before .before .before .before .before .before .before .before .before .pre), omega (arith, c .before .before .before .before .before .before .before .before .before .pre), omega (arith, l, c .before .before .before .before .before .before .before .before .before .pre), omega (arith, l, c .before .before .before .before .before .before .before .before .before .pre))
 
 add-k : tie.Need-add-k Inv-loop μ-loop
 add-k c = omega (arith, blocks-few _ (c .before .before .before .before .before .before .before .before .before .before .before .pre), c .before .before .before .before .before .before .before .loop-test .taken)
 
 add-at : tie.Need-add-at Inv-loop μ-loop
-add-at c = let q = length-is _ _ _ _ _ _ _ _ (c .before .before .before .before .before .before .before .before .before .before .before .pre) (c .before .before .before .before .before .before .before .before .loop .inv) (c .before .before .before .before .before .before .before .loop-test .taken) (record { code = c .before .before .before .before .before .before .code-at .ensures .0; part = refl; long = c .before .before .before .before .data-length .ensures }) in omega (arith, q, c .before .before .if2 .left, c .before .before .before .before .before .before .before .before .loop .inv .within)
+add-at c = let q = length-is _ _ _ _ _ _ _ _ (c .before .before .before .before .before .before .before .before .before .before .before .pre) (c .before .before .before .before .before .before .before .before .loop .inv) (c .before .before .before .before .before .before .before .loop-test .taken) (record { code = c .before .before .before .before .before .before .code-at .ensures .0; part = refl; long = c .before .before .before .data-length .ensures }) in omega (arith, q, c .before .before .if2 .left, c .before .before .before .before .before .before .before .before .loop .inv .within)
 
 add-x : tie.Need-add-x Inv-loop μ-loop
 add-x c = let l = corner _ _ _ _ _ 0 0 [] (c .before .before .before .before .before .before .before .before .before .before .before .pre) (c .before .before .before .before .before .before .before .before .loop .inv) (c .before .before .before .before .before .before .before .loop-test .taken) in omega (arith, l, c .before .before .before .before .before .before .before .before .before .before .before .pre)
@@ -70,19 +68,19 @@ add-y : tie.Need-add-y Inv-loop μ-loop
 add-y c = let l = corner _ _ _ _ _ 0 0 [] (c .before .before .before .before .before .before .before .before .before .before .before .before .pre) (c .before .before .before .before .before .before .before .before .before .loop .inv) (c .before .before .before .before .before .before .before .before .loop-test .taken) in omega (arith, l, c .before .before .before .before .before .before .before .before .before .before .before .before .pre)
 
 loop-less : tie.Need-loop-less Inv-loop μ-loop
-loop-less c = omega arith
+loop-less c = omega (arith, c .before .before .before .before .before .before .before .before .loop-test .taken)
 
 loop-again : tie.Need-loop-again Inv-loop μ-loop
-loop-again c = walked-down _ _ _ _ _ _ _ _ (c .before .before .before .before .before .before .before .before .before .before .before .before .pre) (c .before .before .before .before .before .before .before .before .before .loop .inv) (c .before .before .before .before .before .before .before .before .loop-test .taken) (record { code = c .before .before .before .before .before .before .before .code-at .ensures .0; part = refl; long = c .before .before .before .before .before .data-length .ensures }) (c .before .before .before .before .if1 .left) (c .before .before .before .if2 .left) (sym (c .before .if3 .taken) ∙ c .before .before .copy-inside .ensures) (c .if4 .taken)
+loop-again c = walked-down _ _ _ _ _ _ _ _ (c .before .before .before .before .before .before .before .before .before .before .before .before .pre) (c .before .before .before .before .before .before .before .before .before .loop .inv) (c .before .before .before .before .before .before .before .before .loop-test .taken) (record { code = c .before .before .before .before .before .before .before .code-at .ensures .0; part = refl; long = c .before .before .before .before .data-length .ensures }) (c .before .before .before .before .before .before .if1 .left) (c .before .before .before .if2 .left) (sym (c .before .if3 .taken) ∙ c .before .before .copy-inside .ensures) (c .if4 .taken)
 
 loop-less-2 : tie.Need-loop-less-2 Inv-loop μ-loop
-loop-less-2 c = omega arith
+loop-less-2 c = omega (arith, c .before .before .before .before .before .before .before .before .loop-test .taken)
 
 loop-again-2 : tie.Need-loop-again-2 Inv-loop μ-loop
-loop-again-2 c = walked-right _ _ _ _ _ _ _ _ (c .before .before .before .before .before .before .before .before .before .before .before .before .pre) (c .before .before .before .before .before .before .before .before .before .loop .inv) (c .before .before .before .before .before .before .before .before .loop-test .taken) (record { code = c .before .before .before .before .before .before .before .code-at .ensures .0; part = refl; long = c .before .before .before .before .before .data-length .ensures }) (c .before .before .before .before .if1 .left) (c .before .before .before .if2 .left) (sym (c .before .if3 .taken) ∙ c .before .before .copy-inside .ensures) (c .if4 .left)
+loop-again-2 c = walked-right _ _ _ _ _ _ _ _ (c .before .before .before .before .before .before .before .before .before .before .before .before .pre) (c .before .before .before .before .before .before .before .before .before .loop .inv) (c .before .before .before .before .before .before .before .before .loop-test .taken) (record { code = c .before .before .before .before .before .before .before .code-at .ensures .0; part = refl; long = c .before .before .before .before .data-length .ensures }) (c .before .before .before .before .before .before .if1 .left) (c .before .before .before .if2 .left) (sym (c .before .if3 .taken) ∙ c .before .before .copy-inside .ensures) (c .if4 .left)
 
 returns-3 : tie.Need-returns-3 Inv-loop μ-loop
-returns-3 c = refuses-14 _ _ _ _ _ _ _ _ (c .before .before .before .before .before .before .before .before .before .before .before .pre) (c .before .before .before .before .before .before .before .before .loop .inv) (c .before .before .before .before .before .before .before .loop-test .taken) (record { code = c .before .before .before .before .before .before .code-at .ensures .0; part = refl; long = c .before .before .before .before .data-length .ensures }) (c .before .before .before .if1 .left) (c .before .before .if2 .left) (sym (c .if3 .left) ∙ c .before .copy-inside .ensures)
+returns-3 c = refuses-14 _ _ _ _ _ _ _ _ (c .before .before .before .before .before .before .before .before .before .before .before .pre) (c .before .before .before .before .before .before .before .before .loop .inv) (c .before .before .before .before .before .before .before .loop-test .taken) (record { code = c .before .before .before .before .before .before .code-at .ensures .0; part = refl; long = c .before .before .before .data-length .ensures }) (c .before .before .before .before .before .if1 .left) (c .before .before .if2 .left) (sym (c .if3 .left) ∙ c .before .copy-inside .ensures)
 
 sub-over : tie.Need-sub-over Inv-loop μ-loop
 sub-over c = omega (arith, c .before .loop .inv .within)
@@ -104,11 +102,11 @@ check-blocks-spec =
     mul-h
     loop-holds
     code-at-requires
+    returns
     sub-s
     part-s-start
     part-s-end
     data-length-requires
-    returns
     returns-2
     copy-inside-requires
     add-k
