@@ -1,9 +1,9 @@
--- The drawing of an accepted packet is lawful: no two pixels have one target, each target is inside the picture, and no block reads a pixel of its own.
+-- The drawing of an accepted packet has at most 312,000 stores, and is lawful: no two pixels have one target, each target is inside the picture, and no block reads a pixel of its own.
 -- Assumes nothing.
 use mathlib.Core.Path.{_≡_, refl, sym, ap, _∙_, subst}
 use mathlib.Core.Logic.{_⊎_, ⊎-elim, _≢_}
 use mathlib.Core.List.{List}
-use Prim.Native.Nat.{ℕ, _+_, _*_, _/_, _%_, _≤_, _<_}
+use Prim.Native.Nat.{ℕ, _+_, _-_, _*_, _/_, _%_, _≤_, _<_}
 use native.Mathlib.Omega.{arith}
 use native.Mathlib.Nat.{mul-le-mul-right}
 use lib.ListN.{length, getD}
@@ -20,7 +20,9 @@ use Rattle.packet.specs.Asked.{Sized}
 use Rattle.packet.specs.Accepted.{Whole}
 use Rattle.packet.proofs.Grid.{column-below, row-below, raster-row, raster-column, own-block}
 use Rattle.packet.proofs.Apart.{reads-no-own}
-use Rattle.stores.specs.Stores.{Off, Own, Lawful}
+use Rattle.packet.proofs.Walk.{blocks-few}
+use Rattle.stores.specs.Stores.{due, Off, Own, Lawful}
+use Rattle.stores.proofs.Steps.{due-few}
 use Rattle.draw.specs.Drawing.{sizeAt, targetAt, valueAt, plan}
 
 module _ (p : Packet) (z : Sized p) where
@@ -30,6 +32,13 @@ module _ (p : Packet) (z : Sized p) where
   pub few : (k i : ℕ) → i < sizeAt p k → i < 64
   unfolding sizeAt
   few k i h = omega (arith, count-few (kind p k))
+
+  -- at most 312,000 stores a picture: 65 a block, 4800 blocks
+  pub stores-few : (front : List ℕ) (k : ℕ) → k ≤ blocks p → length (due (plan p front) k) ≤ 312000
+  unfolding sizeAt
+  stores-few front k h =
+      let e : k + (blocks p - k) ≡ blocks p = omega arith in
+      omega (arith, due-few (plan p front) 64 (λ j l. count-few (kind p j)) (blocks p - k) k e, blocks-few p z)
 
   -- pixel i of block k stands in block k
   pub target-block : (k i : ℕ) → i < 64 → blockOf (p .columns) (targetAt p k i) ≡ k

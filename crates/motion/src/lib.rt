@@ -34,6 +34,7 @@ pub fn ahead_vector(b: u8) -> Vector
     }
 }
 
+// The vector the other way.
 pub fn negate(v: Vector) -> Vector
     ensures { λ r. ⌜ r ≡ negated v ⌝ }
 {

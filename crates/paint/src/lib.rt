@@ -64,7 +64,7 @@ pub fn copy_front(front: &[u8], back: &mut [u8], w: usize, sx: usize, sy: usize,
     }
 }
 
-// The same, copied from back itself.
+// Eight pixels, from pixel p on, copied from back itself.
 fn copy_back_row(back: &mut [u8], w: usize, sx: usize, sy: usize, x: usize, y: usize, p: usize)
     requires { ⌜ Square w sx sy (length (now back)) × Square w x y (length (now back)) × (p ≤ 56) ⌝ }
     ensures { λ _. ⌜ now (back .exit) ≡ firstPixels (onFrom p (single (rasterIndex w x y) (backValue (rasterIndex w sx sy)))) 0 (now (back .entry)) 8 ⌝ }
@@ -77,7 +77,7 @@ fn copy_back_row(back: &mut [u8], w: usize, sx: usize, sy: usize, x: usize, y: u
     }
 }
 
-// The same, copied from back itself.
+// The 8x8 at x, y, copied from the one at sx, sy of back itself.
 pub fn copy_back(back: &mut [u8], w: usize, sx: usize, sy: usize, x: usize, y: usize)
     requires { ⌜ Square w sx sy (length (now back)) × Square w x y (length (now back)) ⌝ }
     ensures { λ _. ⌜ now (back .exit) ≡ firstPixels (single (rasterIndex w x y) (backValue (rasterIndex w sx sy))) 0 (now (back .entry)) 64 ⌝ }
@@ -89,7 +89,7 @@ pub fn copy_back(back: &mut [u8], w: usize, sx: usize, sy: usize, x: usize, y: u
     }
 }
 
-// Codes B to E: eight pixels from pixel p on. Their number is told by the side, so that the compiler unrolls the row where the side is a literal.
+// Codes B to E: eight pixels from pixel p on. The eight is told by the side, here and below, so that the compiler unrolls rows where the side is a literal, and not before.
 fn cells_row(side: usize, s: &[u8], back: &mut [u8], w: usize, x: usize, y: usize, p: usize)
     requires { ⌜ Sided side × (8 / side * (8 / side) ≤ length (now s)) × Square w x y (length (now back)) × (p ≤ 56) ⌝ }
     ensures { λ _. ⌜ now (back .exit) ≡ firstPixels (onFrom p (single (rasterIndex w x y) (fixedValue (cellSource side) (now (s .entry))))) 0 (now (back .entry)) 8 ⌝ }
@@ -141,7 +141,7 @@ pub fn paint_dither(s: &[u8], back: &mut [u8], w: usize, x: usize, y: usize)
     }
 }
 
-// Codes 7 to A: eight pixels from pixel p on; as with cells, their number is told by the width of a part.
+// Codes 7 to A: eight pixels from pixel p on. As with cells, the eight is told by the form, by the width of a part.
 fn pattern_row(
     bits: usize,
     across: usize,

@@ -2,13 +2,13 @@
 -- taken block by block: it has no block left, or ends within a block, or goes on behind it. `by-blocks` is the recursion over these three.
 use mathlib.Core.Path.{_≡_, refl, sym, ap, _∙_}
 use mathlib.Core.List.{List, [], _∷_, _++_, append-assoc}
-use Prim.Native.Nat.{ℕ, zero, suc, _+_, _-_, _≤_, _<_}
-use native.Mathlib.Nat.{zero-add, add-zero}
+use Prim.Native.Nat.{ℕ, zero, suc, _+_, _-_, _*_, _≤_, _<_}
+use native.Mathlib.Nat.{zero-add, add-zero, suc-mul}
 use native.Mathlib.Decide.{decLt}
 use native.Mathlib.Omega.{arith}
 use lib.ListN.{length, take, length-append, length-set}
 use lib.Seq.{take-all, take-nil, take-at, take-append-add}
-use Rattle.stores.specs.Stores.{Plan, Store, pixel, place, pixels, stores, following, due, rest, Memory, memory, apply, run, firstPixels, after}
+use Rattle.stores.specs.Stores.{Plan, Store, pixel, place, pixels, stores, following, due, rest, Memory, memory, apply, run, firstPixels, after, Sized}
 
 -- ---- runs
 
@@ -80,6 +80,13 @@ due-block d k h =
 
 pub due-length : (d : Plan) (k : ℕ) → k < d .blocks → length (due d k) ≡ d .size k + suc (length (due d (suc k)))
 due-length d k h = ap length (due-block d k h) ∙ simp (length-append, pixels-length)
+
+-- of n blocks that store at most p pixels each
+pub due-few : (d : Plan) (p : ℕ) → Sized d p → (n k : ℕ) → k + n ≡ d .blocks → length (due d k) ≤ n * (p + 1)
+due-few d p z zero k e = omega (arith, ap length (due-end d k (omega arith)))
+due-few d p z (suc n) k e =
+    let h : k < d .blocks = omega arith in
+    omega (arith, due-length d k h, due-few d p z n (suc k) (omega arith), z k h, suc-mul n (p + 1))
 
 -- ---- a call, block by block
 
