@@ -95,6 +95,11 @@ pub first-memory : (d : Plan) (b : List ℕ) (k n : ℕ) → run d (memory b k) 
 unfolding firstPixels
 first-memory d b k n = ap (memory (run d (memory b k) (pixels k 0 n) .picture)) (run-pixels d (memory b k) k 0 n)
 
+-- no store is allowed
+pub after-none : (d : Plan) (m : Memory) → after d m 0 ≡ m
+unfolding after run
+after-none d m = refl
+
 -- no block is left
 pub after-end : (d : Plan) (m : Memory) (n : ℕ) → d .blocks ≤ m .place → after d m n ≡ m
 unfolding after run
