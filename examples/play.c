@@ -2,17 +2,21 @@
 
     play FILM FOLDER ALLOWANCE
 
-Writes each picture that the film sends to FOLDER, as 000000.ppm, 000001.ppm and so on. Every step is allowed ALLOWANCE
-stores; when they do not suffice, the player is stopped as a watchdog would stop it, and goes on. Exits with 0 where the
-film ended, 1 where it was refused or a file failed, 2 on bad arguments. host/play is the same player in Rust.
+Writes each picture that the film sends to FOLDER, as 000000.ppm, 000001.ppm and so on. FOLDER must be there and hold no
+name that ends in .ppm. Every step is allowed ALLOWANCE stores; when they do not suffice, the player is stopped as a
+watchdog would stop it, and goes on. Exits with 0 where the film ended, 1 where it was refused or a file or the folder
+failed, 2 on bad arguments. host/play is the same player in Rust.
 
     rt staticlib mve
     cc -std=c11 -Iinclude examples/play.c target/staticlib/libmve.a -o play
 */
 
+#define _POSIX_C_SOURCE 200809L /* for dirent.h */
+
 #include "mve.h"
 
 #include <ctype.h>
+#include <dirent.h>
 #include <errno.h>
 #include <stdatomic.h>
 #include <stdbool.h>
@@ -22,7 +26,7 @@ film ended, 1 where it was refused or a file failed, 2 on bad arguments. host/pl
 
 enum {
     LARGEST_PICTURE = 640 * 480,
-    LEAST_ALLOWANCE = 65, /* the stores of a block: a step that is allowed fewer may never finish one */
+    LEAST_ALLOWANCE = 65, /* the stores of a block with pixels: a step that is allowed fewer never finishes one */
     PICTURE_NAME = 32     /* room for a slash and the name of a picture */
 };
 
@@ -36,7 +40,7 @@ struct kept {
     size_t place;
 };
 
-/* The command line, which every life is given anew. */
+/* The command line, which every run is given anew. */
 struct arguments {
     const char *film;
     const char *folder;
@@ -71,6 +75,11 @@ static void picture_path(char *path, size_t room, const char *folder, size_t num
     snprintf(path, room, "%s/%06zu.ppm", folder, number);
 }
 
+static bool is_picture_name(const char *name) {
+    size_t length = strlen(name);
+    return length >= 4 && strcmp(name + length - 4, ".ppm") == 0;
+}
+
 static bool has_picture(const char *folder, size_t number) {
     char path[FILENAME_MAX];
     picture_path(path, sizeof path, folder, number);
@@ -81,8 +90,26 @@ static bool has_picture(const char *folder, size_t number) {
     return file != NULL;
 }
 
-/* How many pictures are in the folder. A life cannot know how many the lives before it wrote, so it looks. They are
-   numbered from 0 without a gap: halving finds the first free number. */
+/* Looks for a name that ends in .ppm in the folder, whatever its number. False where the folder cannot be read. */
+static bool find_pictures(const char *folder, bool *found) {
+    DIR *names = opendir(folder);
+    if (names == NULL) {
+        return false;
+    }
+    const struct dirent *entry;
+    do {
+        errno = 0;
+        entry = readdir(names);
+    } while (entry != NULL && !is_picture_name(entry->d_name));
+    *found = entry != NULL;
+    int error = errno;
+    closedir(names);
+    errno = error;
+    return *found || error == 0;
+}
+
+/* How many pictures are in the folder. A run cannot know how many the runs before it wrote, so it looks. There were
+   none before the first run, so they are numbered from 0 without a gap: halving finds the first free number. */
 static size_t count_pictures(const char *folder) {
     size_t low = 0, high = SIZE_MAX;
     while (low < high) {
@@ -221,8 +248,8 @@ static enum outcome play(const struct film *film, struct kept *kept, const struc
     }
 }
 
-/* A life of the player, up to its stop. All that it knows besides `kept` it finds out anew, the film included. */
-static enum outcome life(struct kept *kept, const struct arguments *arguments) {
+/* A run of the player, up to its stop. All that it knows besides `kept` it finds out anew, the film included. */
+static enum outcome run(struct kept *kept, const struct arguments *arguments) {
     struct film film;
     if (!read_film(arguments->film, &film)) {
         return FAILED;
@@ -232,10 +259,15 @@ static enum outcome life(struct kept *kept, const struct arguments *arguments) {
     return outcome;
 }
 
-/* Before the first life: opens the film and saves its first state. */
+/* Before the first run: looks into the folder, opens the film and saves its first state. */
 static bool begin(struct kept *kept, const struct arguments *arguments) {
     struct film film;
-    if (has_picture(arguments->folder, 0)) {
+    bool found;
+    if (!find_pictures(arguments->folder, &found)) {
+        tell_error(arguments->film, "read the folder", arguments->folder);
+        return false;
+    }
+    if (found) {
         fprintf(stderr, "\r%s: %s has pictures already: give a folder without\n", arguments->film, arguments->folder);
         return false;
     }
@@ -271,14 +303,15 @@ static bool read_arguments(int count, char **words, struct arguments *arguments)
         return false;
     }
     if (!read_allowance(words[3], &arguments->allowance)) {
-        fprintf(stderr, "play: allowance %s: give a number of stores, %d or more, or no block is ever finished\n",
+        fprintf(stderr,
+                "play: allowance %s: give a number of stores, %d or more, or no block with pixels is ever finished\n",
                 words[3], LEAST_ALLOWANCE);
         return false;
     }
     return true;
 }
 
-/* The watchdog: it starts a life after every stop. */
+/* The watchdog: it starts a run after every stop. */
 int main(int count, char **words) {
     static struct kept kept;
     struct arguments arguments;
@@ -290,7 +323,7 @@ int main(int count, char **words) {
         return 1;
     }
     enum outcome outcome;
-    while ((outcome = life(&kept, &arguments)) == STOPPED) {
+    while ((outcome = run(&kept, &arguments)) == STOPPED) {
         stops += 1;
     }
     if (outcome == FAILED) {

@@ -7,8 +7,10 @@ use crate::size::Size;
 /// The pixels of a block, row by row.
 type Square = [u8; 64];
 
-/// The packet that draws `wanted` on `back`. Each block takes the first of its forms that gives just
-/// its pixels; those of fewer data bytes come first.
+/// The packet that draws `wanted` on `back`. Each block takes the first form that gives just its
+/// pixels, of these, which are tried in this order, never one of fewer data bytes after one of more:
+/// codes 1, 0, E, 2, 3, 4, F, 5 and D, 7 with a bit a pixel, C, 8 in quarters, 9 with fields of one
+/// pixel, A in quarters, B. The other forms of 7 to A are not tried.
 pub fn packet(size: Size, wanted: &[u8], front: &[u8], back: &[u8]) -> Draft {
     let blocks = (0..size.blocks()).map(|number| {
         let (x, y) = size.corner(number);

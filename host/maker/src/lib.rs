@@ -1,7 +1,7 @@
 //! Seeded makers of test inputs: packets, films, film states and lists of drawing calls; valid,
 //! damaged and hostile. The same seed gives the same bytes for ever, on every machine.
 //!
-//! [`demo`] is the one film that is made for the eye.
+//! [`demo`] is the one film that is made for viewing.
 //!
 //! Packets, films and calls are written from the documents, encoder's side up: what a maker calls
 //! valid is so by construction, not because a decoder took it. Only [`states`] uses the second

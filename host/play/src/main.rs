@@ -1,10 +1,10 @@
 //! An example player: a film to numbered pictures, through stops.
 //!
 //! `play FILM FOLDER ALLOWANCE` writes each picture that the film sends to FOLDER, as 000000.ppm,
-//! 000001.ppm and so on. Every step is allowed ALLOWANCE stores; when they do not suffice, the
-//! player is stopped as a watchdog would stop it, and goes on. It exits with 0 where the film
-//! ended, 1 where it was refused or a file failed, 2 on bad arguments. `examples/play.c` is the
-//! same player in C.
+//! 000001.ppm and so on. FOLDER must be there and hold no name that ends in .ppm. Every step is
+//! allowed ALLOWANCE stores; when they do not suffice, the player is stopped as a watchdog would
+//! stop it, and goes on. It exits with 0 where the film ended, 1 where it was refused or a file or
+//! the folder failed, 2 on bad arguments. `examples/play.c` is the same player in C.
 
 use mve::{Refusal, State, Step};
 use std::env;
@@ -17,7 +17,7 @@ use std::process::ExitCode;
 use std::sync::atomic::{AtomicUsize, Ordering};
 
 const LARGEST_PICTURE: usize = 640 * 480;
-/// The stores of a block: a step that is allowed fewer may never finish one.
+/// The stores of a block with pixels: a step that is allowed fewer never finishes one.
 const LEAST_ALLOWANCE: usize = 65;
 
 /// All that a stop leaves. In a real player it lies in memory that outlives the stop.
@@ -31,21 +31,22 @@ struct Kept {
     place: usize,
 }
 
-/// The command line, which every life is given anew.
+/// The command line, which every run is given anew.
 struct Arguments {
     film: PathBuf,
     folder: PathBuf,
     allowance: usize,
 }
 
-/// How a life went.
-enum Life {
+/// How a run went.
+enum Run {
     Stopped,
     Ended,
 }
 
 /// Why a film is not played to its end.
 enum Failure {
+    Folder(PathBuf, io::Error),
     HasPictures(PathBuf),
     Film(io::Error),
     Picture(PathBuf, io::Error),
@@ -96,11 +97,11 @@ fn main() -> ExitCode {
     }
 }
 
-/// The watchdog: it starts a life after every stop.
+/// The watchdog: it starts a run after every stop.
 fn watch(arguments: &Arguments) -> Result<(), Failure> {
     let mut kept = begin(arguments)?;
     let mut stops = 0;
-    while let Life::Stopped = life(&mut kept, arguments)? {
+    while let Run::Stopped = run(&mut kept, arguments)? {
         stops += 1;
     }
     let (position, pictures) = (kept.saved_state().position, count_pictures(&arguments.folder));
@@ -109,22 +110,23 @@ fn watch(arguments: &Arguments) -> Result<(), Failure> {
     Ok(())
 }
 
-/// Before the first life: opens the film; its first state is kept.
+/// Before the first run: looks into the folder and opens the film; its first state is kept.
 fn begin(arguments: &Arguments) -> Result<Kept, Failure> {
-    if picture_path(&arguments.folder, 0).exists() {
-        return Err(Failure::HasPictures(arguments.folder.clone()));
+    let folder = &arguments.folder;
+    if find_pictures(folder).map_err(|error| Failure::Folder(folder.clone(), error))? {
+        return Err(Failure::HasPictures(folder.clone()));
     }
     let film = fs::read(&arguments.film).map_err(Failure::Film)?;
     let first = mve::open(&film).map_err(|refusal| refused(refusal, 0, arguments))?;
     Ok(Kept::new(first))
 }
 
-/// A life of the player, up to its stop. All that it knows besides `kept` it finds out anew, the
+/// A run of the player, up to its stop. All that it knows besides `kept` it finds out anew, the
 /// film included.
 ///
 /// A picture is sent by the step that leaves no frame unsent where one was (opcode 07). It is
 /// written before the state is saved: a stop in between would write it twice, but lose none.
-fn life(kept: &mut Kept, arguments: &Arguments) -> Result<Life, Failure> {
+fn run(kept: &mut Kept, arguments: &Arguments) -> Result<Run, Failure> {
     let film = fs::read(&arguments.film).map_err(Failure::Film)?;
     loop {
         let state = kept.saved_state();
@@ -132,8 +134,8 @@ fn life(kept: &mut Kept, arguments: &Arguments) -> Result<Life, Failure> {
         let step = mve::step(&film, state, palette, a, b, place, arguments.allowance)
             .map_err(|refusal| refused(refusal, state.position, arguments))?;
         match step {
-            Step::Unfinished(..) => return Ok(Life::Stopped),
-            Step::Ended(_) => return Ok(Life::Ended),
+            Step::Unfinished(..) => return Ok(Run::Stopped),
+            Step::Ended(_) => return Ok(Run::Ended),
             Step::Taken(next) | Step::Whole(next, _) => {
                 if state.unsent && !next.unsent {
                     write_picture(kept, &next, arguments, film.len())?;
@@ -180,8 +182,19 @@ fn scaled(component: u8) -> u8 {
     ((u16::from(component) * 255 + 31) / 63) as u8
 }
 
-/// How many pictures are in the folder. A life cannot know how many the lives before it wrote, so
-/// it looks. They are numbered from 0 without a gap: halving finds the first free number.
+/// Whether the folder holds a name that ends in .ppm, whatever its number.
+fn find_pictures(folder: &Path) -> io::Result<bool> {
+    for entry in fs::read_dir(folder)? {
+        if entry?.file_name().as_encoded_bytes().ends_with(b".ppm") {
+            return Ok(true);
+        }
+    }
+    Ok(false)
+}
+
+/// How many pictures are in the folder. A run cannot know how many the runs before it wrote, so it
+/// looks. There were none before the first run, so they are numbered from 0 without a gap: halving
+/// finds the first free number.
 fn count_pictures(folder: &Path) -> usize {
     let (mut low, mut high) = (0, usize::MAX);
     while low < high {
@@ -211,6 +224,9 @@ fn tell(arguments: &Arguments, message: fmt::Arguments<'_>) {
 impl fmt::Display for Failure {
     fn fmt(&self, f: &mut fmt::Formatter<'_>) -> fmt::Result {
         match self {
+            Failure::Folder(folder, error) => {
+                write!(f, "cannot read the folder {}: {error}", folder.display())
+            }
             Failure::HasPictures(folder) => {
                 write!(f, "{} has pictures already: give a folder without", folder.display())
             }
@@ -231,7 +247,7 @@ fn read_arguments(words: &[OsString]) -> Result<Arguments, String> {
     let Some(allowance) = read_allowance(&text) else {
         return Err(format!(
             "play: allowance {text}: give a number of stores, {LEAST_ALLOWANCE} or more, \
-             or no block is ever finished"
+             or no block with pixels is ever finished"
         ));
     };
     Ok(Arguments { film: film.into(), folder: folder.into(), allowance })
