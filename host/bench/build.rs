@@ -1,32 +1,35 @@
-//! Compiles the calls of libavcodec and links it, where its headers are there; sets the cfg
-//! `libavcodec` then. Without them the bench is built all the same and leaves that decoder out.
+//! Compiles the calls of libavcodec and links it, where a program with them can be compiled and
+//! linked; sets the cfg `libavcodec` then. Elsewhere the bench is built all the same and leaves that
+//! decoder out.
 
 use std::env;
+use std::fs;
 use std::path::{Path, PathBuf};
-use std::process::{self, Command};
+use std::process::Command;
 
 const SOURCE: &str = "c/libav.c";
 const HEADER: &str = "libavcodec/avcodec.h";
+const PROBE: &str = "unsigned libav_version(void);\nint main(void) { return !libav_version(); }\n";
 
 fn main() {
     println!("cargo::rustc-check-cfg=cfg(libavcodec)");
     println!("cargo::rerun-if-changed=build.rs");
     println!("cargo::rerun-if-changed={SOURCE}");
     let flags = flags();
-    let Some(header) = header(&flags) else {
-        // A file that is not there has cargo run this again until it is.
-        println!("cargo::rerun-if-changed={HEADER}");
-        println!("cargo::warning=libavcodec-dev is missing: the bench is built without libavcodec");
-        return;
-    };
-    println!("cargo::rerun-if-changed={}", header.display());
     let folder = PathBuf::from(env::var_os("OUT_DIR").expect("cargo runs build scripts"));
-    match archive(&folder, &flags) {
-        Ok(()) => link(&folder, &flags),
-        // Cargo shows what the compiler says only where this program fails.
-        Err(message) => {
-            eprintln!("{message}");
-            process::exit(1);
+    let built = match header(&flags) {
+        Some(header) => archive(&folder, &flags).map(|()| header),
+        None => Err("libavcodec-dev is missing".to_owned()),
+    };
+    match built {
+        Ok(header) => {
+            println!("cargo::rerun-if-changed={}", header.display());
+            link(&folder, &flags);
+        }
+        Err(why) => {
+            // A file that is not there has cargo run this every time, so until it succeeds.
+            println!("cargo::rerun-if-changed={HEADER}");
+            println!("cargo::warning={why}: the bench is built without libavcodec");
         }
     }
 }
@@ -57,20 +60,26 @@ fn header(flags: &[String]) -> Option<PathBuf> {
     found.then(|| rule.split_whitespace().find(|path| path.ends_with(HEADER)))?.map(PathBuf::from)
 }
 
+/// Compiles the calls, links a program with them, and puts them into an archive.
 fn archive(folder: &Path, flags: &[String]) -> Result<(), String> {
-    let object = folder.join("libav.o");
-    let warnings = ["-Wall", "-Wextra", "-Wpedantic", "-Werror"];
+    let (object, probe) = (folder.join("libav.o"), folder.join("probe.c"));
     let mut cc = Command::new("cc");
-    cc.args(["-std=c11", "-O2", "-fPIC"]).args(warnings).args(cflags(flags));
-    run(cc.args(["-c", SOURCE, "-o"]).arg(&object))?;
-    run(Command::new("ar").arg("crs").arg(folder.join("libbench_libav.a")).arg(&object))
+    cc.args(["-std=c11", "-O2", "-fPIC", "-Wall", "-Wextra", "-Wpedantic"]).args(cflags(flags));
+    run("compiled", cc.args(["-c", SOURCE, "-o"]).arg(&object))?;
+    fs::write(&probe, PROBE).map_err(|error| format!("{}: {error}", probe.display()))?;
+    let mut cc = Command::new("cc");
+    cc.arg(&probe).arg(&object).args(flags);
+    run("linked", cc.arg("-o").arg(folder.join("probe")))?;
+    let mut ar = Command::new("ar");
+    run("archived", ar.arg("crs").arg(folder.join("libbench_libav.a")).arg(&object))
 }
 
-fn run(command: &mut Command) -> Result<(), String> {
+/// What the command writes is shown by `cargo build -vv`.
+fn run(done: &str, command: &mut Command) -> Result<(), String> {
     let name = command.get_program().to_string_lossy().into_owned();
     match command.status() {
         Ok(status) if status.success() => Ok(()),
-        Ok(status) => Err(format!("{name} of {SOURCE}: {status}")),
+        Ok(status) => Err(format!("{SOURCE} cannot be {done} ({name}: {status})")),
         Err(error) => Err(format!("{name} does not run: {error}")),
     }
 }

@@ -74,7 +74,7 @@ impl Cuts {
 
     /// Draws the frame by calls of each allowance; every picture is compared.
     pub fn round(&mut self, round: usize) -> Result<(), Fault> {
-        let first = if round.is_multiple_of(SELDOM) { 0 } else { 1 };
+        let first = if round % SELDOM == 0 { 0 } else { 1 };
         for pieces in &mut self.pieces[first..] {
             let frame = format!("{}, {} stores a call", self.frame, pieces.allowed);
             let mut pictures = self.found.clone();

@@ -142,10 +142,11 @@ fn tables(markdown: bool, seed: u64, rounds: usize) -> Result<(), String> {
     let points: Vec<_> = series.iter().map(Series::point).collect();
     let line = Line::through(&points);
     let blocks = report::blocks(&points, line).text(markdown);
+    let targets = report::targets(&measured).text(markdown);
     for (title, text) in [
         ("Machine and run", report::run(seed, rounds)),
         ("Nanoseconds a pixel", report::kinds(&measured).text(markdown)),
-        ("Targets", report::targets(&measured).text(markdown)),
+        ("Targets", format!("The project's targets:\n\n{targets}")),
         ("By the stores that a call is allowed", report::allowances(&pieces).text(markdown)),
         ("By the number of blocks", format!("{blocks}\n\n{}", report::line(&points, line))),
     ] {

@@ -80,7 +80,7 @@ fn first_chunk() -> Chunk {
 
 fn frame_chunk(frame: usize, wanted: &[u8], front: &[u8], back: &[u8]) -> Chunk {
     let mut opcodes = Vec::new();
-    if frame.is_multiple_of(BOUNCE) {
+    if frame % BOUNCE == 0 {
         opcodes.push(Opcode::new(0x0D, 0, ball_colours(BALL_COLOURS[frame / BOUNCE])));
     }
     let packet = encode::packet(SIZE, wanted, front, back).packet();

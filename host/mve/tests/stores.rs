@@ -3,8 +3,9 @@
 //! from the sources, since no contract says which function stores.
 //!
 //! Rattle stores by assignment alone; slices have no methods that do. Lent memory is assigned to by
-//! an index, through a reference, or as a field of a struct behind one: every other assignment is
-//! to the function's own. The kit has functions that store, so no library crate may use them.
+//! an index, through a reference, or as a field: an assignment to a mere name is to the function's
+//! own. A field of its own struct is not told from a lent one, so no field may be assigned to. The
+//! kit has functions that store, so no library crate may use them.
 
 use std::fs;
 use std::path::{Path, PathBuf};
@@ -22,7 +23,7 @@ struct Token<'a> {
     line: usize,
 }
 
-/// A store to what is lent: the function that makes it, the line, and what is assigned to.
+/// A store to what may be lent: the function that makes it, the line, and what is assigned to.
 struct Store {
     function: String,
     line: usize,
@@ -130,21 +131,13 @@ fn target<'t, 'a>(before: &'t [Token<'a>]) -> &'t [Token<'a>] {
     &before[start.map_or(0, |at| at + 1)..]
 }
 
-/// Whether that is lent, in a function of which the tokens up to the assignment are given too.
-fn is_lent(target: &[Token<'_>], function: &[Token<'_>]) -> bool {
-    let has = |text| target.iter().any(|token| token.text == text);
-    if target.len() == 1 || ["let", "const", "type"].into_iter().any(has) {
-        return false;
-    }
-    // A field is the function's own where it has the struct by value: as `mut`, not as `&mut`.
-    let by_value = function.windows(3).any(|of| {
-        let reference = of[0].text == "&" || of[0].text.starts_with('\'');
-        !reference && of[1].text == "mut" && of[2].text == target[0].text
-    });
-    has("[") || has("*") || !by_value
+/// Whether that may be lent: not a mere name, nor what `let`, `const` or `type` gives a name to.
+fn may_be_lent(target: &[Token<'_>]) -> bool {
+    let names = |token: &Token<'_>| ["let", "const", "type"].contains(&token.text);
+    target.len() != 1 && !target.iter().any(names)
 }
 
-/// The stores to what is lent in a source of this crate.
+/// The stores to what may be lent in a source of this crate.
 fn stores(name: &str, source: &str) -> Vec<Store> {
     let code = code(source);
     let (mut found, mut start) = (Vec::new(), 0);
@@ -153,7 +146,7 @@ fn stores(name: &str, source: &str) -> Vec<Store> {
             start = at;
         } else if ASSIGNING.contains(&token.text) {
             let target = target(&code[..at]);
-            if is_lent(target, &code[start..at]) {
+            if may_be_lent(target) {
                 let function = format!("{name}::{}", code[start + 1].text);
                 let target = target.iter().map(|token| token.text).collect();
                 found.push(Store { function, line: token.line, target });
@@ -251,6 +244,7 @@ fn stores_are_found() {
         ("let q = &mut b[1..]; q[0] = 1;", "q[0]"),
         ("let u = b[0] = 1;", "b[0]"),
         ("s.width = 8;", "s.width"),
+        ("let mut q = s; q.width = 8;", "q.width"),
         ("g(b'{'); /* } */ b[0] = b'\\''; // }", "b[0]"),
     ] {
         assert_eq!(targets(body), [target], "{body}");
@@ -260,10 +254,13 @@ fn stores_are_found() {
         "if b[0] == 1 || b[0] <= 2 || *p >= 3 || b[0] != 4 { g(&mut b[..]); }",
         "for i in b[0]..=9 {} match b[0] { 1 => 2, _ => 3 }",
         "// b[0] = 1;\n /* *p = 1; */ g(b\"b[0] = 1;\\\"\");",
-        "if let A(x) = g(b[0]) { h(x) } let mut t = g(s); t.width = 8;",
+        "if let A(x) = g(b[0]) { h(x) }",
     ] {
         assert!(targets(body).is_empty(), "{body}: {:?}", targets(body));
     }
+    let rebound = stores("x", "fn f(mut s: &mut S) { s.width = 8; }");
+    assert_eq!(rebound.len(), 1);
+    assert_eq!(rebound[0].target, "s.width");
     let contract =
         "ghost use l.{a};\nfn f(b: &mut [u8])\n requires { b[0] = { 1 } }\n{ b[0] = 1; }";
     let found = stores("x", contract);

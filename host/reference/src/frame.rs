@@ -59,7 +59,7 @@ impl FrameSize {
 }
 
 fn blocks_along(length: usize, limit: usize) -> Result<usize, Refusal> {
-    let legal = (BLOCK_SIDE..=limit).contains(&length) && length.is_multiple_of(BLOCK_SIDE);
+    let legal = (BLOCK_SIDE..=limit).contains(&length) && length % BLOCK_SIDE == 0;
     if legal {
         Ok(length / BLOCK_SIDE)
     } else {

@@ -178,7 +178,7 @@ fn next_block(size: FrameSize, number: usize, code: u8, rest: &[u8]) -> Result<B
 /// The code of a block: one nibble each, low nibble first (01). A spare last nibble is not read.
 fn map_code(map: &[u8], block: usize) -> u8 {
     let byte = map[block / 2];
-    if block.is_multiple_of(2) {
+    if block % 2 == 0 {
         byte & 0x0F
     } else {
         byte >> 4

@@ -12,7 +12,7 @@ pub fn hex(text: &str) -> Vec<u8> {
         .filter(|c| !c.is_whitespace())
         .map(|c| c.to_digit(16).expect("hex digit"))
         .collect();
-    assert!(digits.len().is_multiple_of(2), "odd number of hex digits");
+    assert!(digits.len() % 2 == 0, "odd number of hex digits");
     let byte = |pair: &[u32]| (pair[0] * 16 + pair[1]) as u8;
     digits.chunks(2).map(byte).collect()
 }
