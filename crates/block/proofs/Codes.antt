@@ -16,8 +16,8 @@ use Rattle.pattern.proofs.Bounds.{small}
 use Rattle.motion.specs.declared.Vector.{Vector}
 use Rattle.motion.specs.Motion.{vector, aheadVector, negated, nearVector, farVector, pointsInside, Short}
 use Rattle.motion.proofs.Vectors.{ahead-short, negated-short, near-short, far-short}
-use Rattle.block.specs.Block.{Side, one, two, four, eight, pixels, Kind, same, kept, ahead, behind, near, far, patterned, celled, dithered, refused, kinds, kindOf, dataLength, isRefused, copyInside, vectorOf}
-use Rattle.block.specs.Asked.{Fixed, Sided}
+use Rattle.block.specs.Block.{Side, one, two, four, eight, pixels, Kind, same, kept, ahead, behind, near, far, patterned, celled, dithered, refused, kinds, kindOf, dataLength, isRefused, copyInside}
+use Rattle.block.specs.Asked.{Fixed, Sided, vectorOf}
 
 -- what holds of each of the sixteen codes holds of every code
 pub each-code : (P : ℕ → Type 0) → P 0 → P 1 → P 2 → P 3 → P 4 → P 5 → P 6 → P 7 → P 8 → P 9 → P 10 → P 11 → P 12 → P 13 → P 14 → P 15 → (c : ℕ) → c < 16 → P c
@@ -69,22 +69,6 @@ module _ (s : List ℕ) (c : ℕ) where
   pub kind-1 : c ≡ 1 → kindOf c s ≡ kept
   unfolding kindOf kinds
   kind-1 e = rw e
-
-  pub kind-2 : (b : ℕ) → c ≡ 2 → b ≡ getD s 0 0 → kindOf c s ≡ ahead b
-  unfolding kindOf kinds
-  kind-2 b e p = rw (e, p)
-
-  pub kind-3 : (b : ℕ) → c ≡ 3 → b ≡ getD s 0 0 → kindOf c s ≡ behind b
-  unfolding kindOf kinds
-  kind-3 b e p = rw (e, p)
-
-  pub kind-4 : (b : ℕ) → c ≡ 4 → b ≡ getD s 0 0 → kindOf c s ≡ near b
-  unfolding kindOf kinds
-  kind-4 b e p = rw (e, p)
-
-  pub kind-5 : (a b : ℕ) → c ≡ 5 → a ≡ getD s 0 0 → b ≡ getD s 1 0 → kindOf c s ≡ far a b
-  unfolding kindOf kinds
-  kind-5 a b e p q = rw (e, p, q)
 
   pub kind-6 : c ≡ 6 → kindOf c s ≡ refused
   unfolding kindOf kinds
@@ -270,22 +254,6 @@ module _ (s : List ℕ) where
   chosen-front c a b d v u r g l ea eb ed en ef q =
       rw (q, en, ef, ea, eb, ed)
       (copying Forward (λ k. absurd (let z : ⊥ = omega arith in z)) (λ k. absurd (let z : ⊥ = omega arith in z)) (λ _. refl) (λ _. refl) c (omega arith) l g)
-
-  pub copy-ahead : (c w h x y b : ℕ) (v : Vector) (r : Bool) → kindOf c s ≡ ahead b → v ≡ aheadVector b → r ≡ pointsInside v w h x y → r ≡ copyInside (kindOf c s) w h x y
-  unfolding copyInside
-  copy-ahead c w h x y b v r k e q = rw (k, ← e) q
-
-  pub copy-behind : (c w h x y b : ℕ) (v : Vector) (r : Bool) → kindOf c s ≡ behind b → v ≡ negated (aheadVector b) → r ≡ pointsInside v w h x y → r ≡ copyInside (kindOf c s) w h x y
-  unfolding copyInside
-  copy-behind c w h x y b v r k e q = rw (k, ← e) q
-
-  pub copy-near : (c w h x y b : ℕ) (v : Vector) (r : Bool) → kindOf c s ≡ near b → v ≡ nearVector b → r ≡ pointsInside v w h x y → r ≡ copyInside (kindOf c s) w h x y
-  unfolding copyInside
-  copy-near c w h x y b v r k e q = rw (k, ← e) q
-
-  pub copy-far : (c w h x y a b : ℕ) (v : Vector) (r : Bool) → kindOf c s ≡ far a b → v ≡ farVector a b → r ≡ pointsInside v w h x y → r ≡ copyInside (kindOf c s) w h x y
-  unfolding copyInside
-  copy-far c w h x y a b v r k e q = rw (k, ← e) q
 
 -- ---- cells
 

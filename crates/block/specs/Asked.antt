@@ -1,4 +1,4 @@
--- What the functions over a block ask of their callers.
+-- What the functions over a block ask of their callers, and what they tell them.
 -- Assumes nothing.
 use mathlib.Core.Path.{_≡_}
 use mathlib.Core.Logic.{_⊎_}
@@ -6,14 +6,28 @@ use mathlib.Core.Bool.{true}
 use mathlib.Core.List.{List}
 use Prim.Native.Nat.{ℕ, _*_, _≤_, _<_}
 use lib.ListN.{length}
-use Rattle.motion.specs.Motion.{Inside}
+use Rattle.motion.specs.declared.Vector.{Vector}
+use Rattle.motion.specs.Motion.{vector, aheadVector, negated, nearVector, farVector, Inside}
 use Rattle.block.specs.declared.Source.{Source}
 use Rattle.block.specs.declared.Source.the-variants.{Data, Front, Back}
-use Rattle.block.specs.Block.{Side, pixels, kindOf, dataLength, copyInside}
+use Rattle.block.specs.Block.{Side, pixels, Kind, same, kept, ahead, behind, near, far, patterned, celled, dithered, refused, kindOf, dataLength, copyInside}
 
--- a code whose block has as many data bytes whatever they are: every one but 7 to A
+-- a code whose number of data bytes does not depend on them: every one but 7 to A
 abbrev pub Fixed : ℕ → Type 0
 Fixed code = (code < 7) ⊎ (10 < code)
+
+-- the vector by which a block of codes 2 to 5 is copied. A kind that has none has 0 here, which no contract reads
+unfoldable pub vectorOf : Kind → Vector
+vectorOf same = vector 0 0 0 0
+vectorOf kept = vector 0 0 0 0
+vectorOf (ahead b) = aheadVector b
+vectorOf (behind b) = negated (aheadVector b)
+vectorOf (near b) = nearVector b
+vectorOf (far a b) = farVector a b
+vectorOf (patterned f) = vector 0 0 0 0
+vectorOf (celled c) = vector 0 0 0 0
+vectorOf dithered = vector 0 0 0 0
+vectorOf refused = vector 0 0 0 0
 
 -- the side of a cell
 abbrev pub Sided : ℕ → Type 0

@@ -11,7 +11,7 @@ use Rattle.pattern.specs.declared.Form.{Form}
 use Rattle.pattern.specs.Form.{shape, form7, form8, form9, formA}
 use Rattle.pattern.specs.Pattern.{patternLength, patternSource}
 use Rattle.motion.specs.declared.Vector.{Vector}
-use Rattle.motion.specs.Motion.{vector, aheadVector, negated, nearVector, farVector, pointsInside, rasterIndex, copiedIndex}
+use Rattle.motion.specs.Motion.{aheadVector, negated, nearVector, farVector, pointsInside, rasterIndex, copiedIndex}
 use Rattle.block.specs.declared.Source.{Source}
 use Rattle.block.specs.declared.Source.the-variants.{Data, Front, Back}
 
@@ -107,19 +107,6 @@ copyInside (patterned f) w h x y = true
 copyInside (celled c) w h x y = true
 copyInside dithered w h x y = true
 copyInside refused w h x y = true
-
--- the vector of a kind that is copied by one
-unfoldable pub vectorOf : Kind → Vector
-vectorOf same = vector 0 0 0 0
-vectorOf kept = vector 0 0 0 0
-vectorOf (ahead b) = aheadVector b
-vectorOf (behind b) = negated (aheadVector b)
-vectorOf (near b) = nearVector b
-vectorOf (far a b) = farVector a b
-vectorOf (patterned f) = vector 0 0 0 0
-vectorOf (celled c) = vector 0 0 0 0
-vectorOf dithered = vector 0 0 0 0
-vectorOf refused = vector 0 0 0 0
 
 -- ---- the source of a pixel
 

@@ -12,8 +12,8 @@ ghost use mathlib.Core.Bool.{cond};
 ghost use Prim.Native.Nat.{_/_, _≤_, _<_};
 ghost use lib.ListN.{length};
 ghost use Rattle.motion.specs.Motion.{Short};
-ghost use Rattle.block.specs.Block.{codeAt, kindOf, dataLength, copyInside, vectorOf, cellSource, ditherSource};
-ghost use Rattle.block.specs.Asked.{Fixed, Sided};
+ghost use Rattle.block.specs.Block.{codeAt, kindOf, dataLength, copyInside, cellSource, ditherSource};
+ghost use Rattle.block.specs.Asked.{Fixed, Sided, vectorOf};
 
 // Where a pixel's value stands: a byte of the block's data, a pixel of front, a pixel of back.
 pub enum Source {
@@ -43,7 +43,7 @@ fn choose(test: bool, a: usize, b: usize) -> usize
     b
 }
 
-// The data bytes of a block of any code but 7 to A: a match of constants alone, so a table and no jump.
+// The data bytes of a block of any code but 7 to A, which are not met here; with them the match is a dense table of constants, without a branch.
 fn fixed_length(code: u8, s: &[u8]) -> usize
     requires { ⌜ (code < 16) × Fixed code ⌝ }
     ensures { λ r. ⌜ r ≡ dataLength (kindOf code (now (s .entry))) ⌝ }
@@ -68,7 +68,7 @@ fn fixed_length(code: u8, s: &[u8]) -> usize
     }
 }
 
-// Code 9. Both pairs are told before either is asked, so that the compiler can choose without a jump.
+// Code 9. Both pairs are compared before either result is tested, so that the compiler needs no branch.
 fn length_of_9(s: &[u8]) -> usize
     ensures { λ r. ⌜ r ≡ dataLength (kindOf 9 (now (s .entry))) ⌝ }
 {
@@ -103,8 +103,8 @@ pub fn data_length(code: u8, s: &[u8]) -> usize
     pattern_length(code, s)
 }
 
-// One of two vectors, chosen number by number, so that the compiler needs no jump.
-fn either(test: bool, a: Vector, b: Vector) -> Vector
+// One of two vectors, chosen number by number: conditional moves instead of a branch.
+fn choose_vector(test: bool, a: Vector, b: Vector) -> Vector
     ensures { λ r. ⌜ r ≡ cond test a b ⌝ }
 {
     Vector {
@@ -122,9 +122,9 @@ pub fn copied_vector(code: u8, s: &[u8]) -> Vector
 {
     if code < 4 {
         let v = ahead_vector(byte_at(s, 0));
-        return either(code == 3, negate(v), v);
+        return choose_vector(code == 3, negate(v), v);
     }
-    either(
+    choose_vector(
         code == 4,
         near_vector(byte_at(s, 0)),
         far_vector(byte_at(s, 0), byte_at(s, 1)),

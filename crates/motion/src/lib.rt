@@ -34,7 +34,7 @@ pub fn ahead_vector(b: u8) -> Vector
     }
 }
 
-// The vector the other way.
+// Code 3: the vector of code 2 the other way.
 pub fn negate(v: Vector) -> Vector
     ensures { λ r. ⌜ r ≡ negated v ⌝ }
 {
@@ -44,13 +44,6 @@ pub fn negate(v: Vector) -> Vector
         down: v.up,
         up: v.down,
     }
-}
-
-// Code 3.
-pub fn behind_vector(b: u8) -> Vector
-    ensures { λ r. ⌜ r ≡ negated (aheadVector b) ⌝ }
-{
-    negate(ahead_vector(b))
 }
 
 // Code 4.

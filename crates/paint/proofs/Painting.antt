@@ -15,7 +15,7 @@ use Rattle.pattern.specs.Pattern.{Shaped, patternLength, patternSource}
 use Rattle.pattern.proofs.Bounds.{source-inside}
 use Rattle.stores.specs.Stores.{Plan, firstPixels}
 use Rattle.stores.proofs.Pixels.{first-none, first-more, first-length, first-join}
-use Rattle.paint.specs.Paint.{single, onFrom, fixedValue, backValue}
+use Rattle.paint.specs.Paint.{single, fromPixel, fixedValue, backValue}
 use Rattle.paint.specs.Asked.{Square}
 
 -- ---- the loop
@@ -50,13 +50,13 @@ module _ (d : Plan) (b₀ b : List ℕ) (p : ℕ) (r : Rows d b₀ b p) where
   pub rows-room : p < 64 → p ≤ 56
   rows-room h = omega (arith, r .whole)
 
-  pub rows-more : p < 64 → (b′ : List ℕ) → b′ ≡ firstPixels (onFrom p d) 0 b 8 → Rows d b₀ b′ (p + 8)
+  pub rows-more : p < 64 → (b′ : List ℕ) → b′ ≡ firstPixels (fromPixel p d) 0 b 8 → Rows d b₀ b′ (p + 8)
   rows-more h b′ e =
       record {
         whole = omega (arith, r .whole);
         painting = record {
           within = omega (arith, r .whole);
-          made = first-join d (onFrom p d) 0 0 b₀ p 8 b b′ (r .painting .made) e (λ x l. refl) (λ x l a g. refl);
+          made = first-join d (fromPixel p d) 0 0 b₀ p 8 b b′ (r .painting .made) e (λ x l. refl) (λ x l a g. refl);
         };
       }
 

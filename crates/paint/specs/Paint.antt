@@ -9,9 +9,9 @@ use Rattle.stores.specs.Stores.{Plan}
 abbrev pub single : (ℕ → ℕ) → (ℕ → List ℕ → ℕ) → Plan
 single target value = record { blocks = 1; size = λ k. 64; target = λ k i. target i; value = λ k i b. value i b }
 
--- the pixels of a block from pixel p on, as a plan of their own
-abbrev pub onFrom : ℕ → Plan → Plan
-onFrom p d = record { blocks = 1; size = λ k. d .size k - p; target = λ k i. d .target k (p + i); value = λ k i b. d .value k (p + i) b }
+-- the pixels of a block from pixel p on, as a plan of their own (`firstPixels` does not read a plan's sizes)
+abbrev pub fromPixel : ℕ → Plan → Plan
+fromPixel p d = record { blocks = 1; size = λ k. d .size k - p; target = λ k i. d .target k (p + i); value = λ k i b. d .value k (p + i) b }
 
 -- pixel i is element at i of a list that no store changes: the block's data or front
 unfoldable pub fixedValue : (ℕ → ℕ) → List ℕ → ℕ → List ℕ → ℕ

@@ -12,7 +12,7 @@ ghost use Rattle.motion.specs.Motion.{rasterIndex};
 ghost use Rattle.block.specs.Block.{cellSource, ditherSource};
 ghost use Rattle.block.specs.Asked.{Sided};
 ghost use Rattle.stores.specs.Stores.{firstPixels};
-ghost use Rattle.paint.specs.Paint.{single, onFrom, fixedValue, backValue};
+ghost use Rattle.paint.specs.Paint.{single, fromPixel, fixedValue, backValue};
 ghost use Rattle.paint.specs.Asked.{Square};
 
 // The one store of a pixel.
@@ -42,7 +42,7 @@ fn copy_front_row(
     p: usize,
 )
     requires { ⌜ Square w sx sy (length (now front)) × Square w x y (length (now back)) × (p ≤ 56) ⌝ }
-    ensures { λ _. ⌜ now (back .exit) ≡ firstPixels (onFrom p (single (rasterIndex w x y) (fixedValue (rasterIndex w sx sy) (now (front .entry))))) 0 (now (back .entry)) 8 ⌝ }
+    ensures { λ _. ⌜ now (back .exit) ≡ firstPixels (fromPixel p (single (rasterIndex w x y) (fixedValue (rasterIndex w sx sy) (now (front .entry))))) 0 (now (back .entry)) 8 ⌝ }
 {
     let mut j = 0;
     while j < 8 {
@@ -67,7 +67,7 @@ pub fn copy_front(front: &[u8], back: &mut [u8], w: usize, sx: usize, sy: usize,
 // Eight pixels, from pixel p on, copied from back itself.
 fn copy_back_row(back: &mut [u8], w: usize, sx: usize, sy: usize, x: usize, y: usize, p: usize)
     requires { ⌜ Square w sx sy (length (now back)) × Square w x y (length (now back)) × (p ≤ 56) ⌝ }
-    ensures { λ _. ⌜ now (back .exit) ≡ firstPixels (onFrom p (single (rasterIndex w x y) (backValue (rasterIndex w sx sy)))) 0 (now (back .entry)) 8 ⌝ }
+    ensures { λ _. ⌜ now (back .exit) ≡ firstPixels (fromPixel p (single (rasterIndex w x y) (backValue (rasterIndex w sx sy)))) 0 (now (back .entry)) 8 ⌝ }
 {
     let mut j = 0;
     while j < 8 {
@@ -89,10 +89,10 @@ pub fn copy_back(back: &mut [u8], w: usize, sx: usize, sy: usize, x: usize, y: u
     }
 }
 
-// Codes B to E: eight pixels from pixel p on. The eight is told by the side, here and below, so that the compiler unrolls rows where the side is a literal, and not before.
+// Codes B to E: eight pixels from pixel p on. Here and below the trip count is computed from the side, so that a loop is unrolled only once the side is a constant.
 fn cells_row(side: usize, s: &[u8], back: &mut [u8], w: usize, x: usize, y: usize, p: usize)
     requires { ⌜ Sided side × (8 / side * (8 / side) ≤ length (now s)) × Square w x y (length (now back)) × (p ≤ 56) ⌝ }
-    ensures { λ _. ⌜ now (back .exit) ≡ firstPixels (onFrom p (single (rasterIndex w x y) (fixedValue (cellSource side) (now (s .entry))))) 0 (now (back .entry)) 8 ⌝ }
+    ensures { λ _. ⌜ now (back .exit) ≡ firstPixels (fromPixel p (single (rasterIndex w x y) (fixedValue (cellSource side) (now (s .entry))))) 0 (now (back .entry)) 8 ⌝ }
 {
     let m = side * (8 / side);
     let mut j = 0;
@@ -119,7 +119,7 @@ pub fn paint_cells(side: usize, s: &[u8], back: &mut [u8], w: usize, x: usize, y
 // Code F: eight pixels from pixel p on.
 fn dither_row(s: &[u8], back: &mut [u8], w: usize, x: usize, y: usize, p: usize)
     requires { ⌜ (2 ≤ length (now s)) × Square w x y (length (now back)) × (p ≤ 56) ⌝ }
-    ensures { λ _. ⌜ now (back .exit) ≡ firstPixels (onFrom p (single (rasterIndex w x y) (fixedValue ditherSource (now (s .entry))))) 0 (now (back .entry)) 8 ⌝ }
+    ensures { λ _. ⌜ now (back .exit) ≡ firstPixels (fromPixel p (single (rasterIndex w x y) (fixedValue ditherSource (now (s .entry))))) 0 (now (back .entry)) 8 ⌝ }
 {
     let mut j = 0;
     while j < 8 {
@@ -141,7 +141,7 @@ pub fn paint_dither(s: &[u8], back: &mut [u8], w: usize, x: usize, y: usize)
     }
 }
 
-// Codes 7 to A: eight pixels from pixel p on. As with cells, the eight is told by the form, by the width of a part.
+// Codes 7 to A: eight pixels from pixel p on. As with cells the trip count is computed, from the width of a part.
 fn pattern_row(
     bits: usize,
     across: usize,
@@ -156,7 +156,7 @@ fn pattern_row(
     p: usize,
 )
     requires { ⌜ Shaped (numbers bits across down wide high) × (patternLength (numbers bits across down wide high) ≤ length (now s)) × Square w x y (length (now back)) × (p ≤ 56) ⌝ }
-    ensures { λ _. ⌜ now (back .exit) ≡ firstPixels (onFrom p (single (rasterIndex w x y) (fixedValue (patternSource (numbers bits across down wide high) (now (s .entry))) (now (s .entry))))) 0 (now (back .entry)) 8 ⌝ }
+    ensures { λ _. ⌜ now (back .exit) ≡ firstPixels (fromPixel p (single (rasterIndex w x y) (fixedValue (patternSource (numbers bits across down wide high) (now (s .entry))) (now (s .entry))))) 0 (now (back .entry)) 8 ⌝ }
 {
     let m = across * (8 / across);
     let mut j = 0;

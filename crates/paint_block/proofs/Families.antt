@@ -14,9 +14,9 @@ use Rattle.pattern.specs.Pattern.{patternLength, patternSource}
 use Rattle.motion.specs.declared.Vector.{Vector}
 use Rattle.motion.specs.Motion.{aheadVector, negated, nearVector, farVector, pointsInside, rasterIndex, copiedIndex, Short}
 use Rattle.motion.proofs.Vectors.{inside-each}
-use Rattle.block.specs.Block.{Side, pixels, Kind, same, kept, ahead, behind, near, far, patterned, celled, dithered, refused, kindOf, dataLength, isRefused, copyInside, vectorOf, cellSource, ditherSource, source, fetched}
+use Rattle.block.specs.Block.{Side, pixels, Kind, same, kept, ahead, behind, near, far, patterned, celled, dithered, refused, kindOf, dataLength, isRefused, copyInside, cellSource, ditherSource, source, fetched}
 use Rattle.block.specs.declared.Source.{Source}
-use Rattle.block.specs.Asked.{Readable, Among}
+use Rattle.block.specs.Asked.{vectorOf, Readable, Among}
 use Rattle.block.proofs.Codes.{kind-0, kind-1, kind-back, kind-front, copy-judged, code-known}
 use Rattle.stores.specs.Stores.{Plan, firstPixels}
 use Rattle.stores.proofs.Pixels.{first-agree}

@@ -52,7 +52,7 @@ fn copy_back_by(v: Vector, back: &mut [u8], w: usize, h: usize, x: usize, y: usi
     copy_back(back, w, x + v.right - v.left, y + v.down - v.up, x, y)
 }
 
-// A block of code 2 to 5: two ways to jump, since four are harder to foresee.
+// A block of code 2 to 5: a branch with two ways, since four are mispredicted more often.
 fn copy_by(
     code: u8,
     s: &[u8],
@@ -94,7 +94,7 @@ fn paint_form(form: Form, s: &[u8], back: &mut [u8], w: usize, x: usize, y: usiz
     }
 }
 
-// All 64 pixels of the block at x, y, whose data is s.
+// All 64 pixels of the block at x, y, whose data is s. Code 1 is not met here: it stores no pixel.
 fn paint_whole(
     code: u8,
     s: &[u8],
@@ -128,7 +128,7 @@ fn paint_whole(
     }
 }
 
-// The first n pixels, each read where its source is: for the one block of a call that may be left unfinished.
+// The first n pixels, each read where its source is: of the block in which a call stops, and none of code 1.
 fn paint_part(
     code: u8,
     s: &[u8],

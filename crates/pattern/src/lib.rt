@@ -39,7 +39,7 @@ pub fn form_of_7(s: &[u8]) -> Form
     Form::Two1x1
 }
 
-// Here and below both pairs are told before either is asked, so that the compiler can choose without a jump.
+// Here and below both pairs are compared before either result is tested, so that the compiler needs no branch.
 pub fn form_of_8(s: &[u8]) -> Form
     ensures { λ r. ⌜ r ≡ form8 (now (s .entry)) ⌝ }
 {

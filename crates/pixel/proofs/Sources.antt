@@ -1,6 +1,7 @@
 -- Laws of a pixel's source, by the kind of its block, as code finds it.
 -- Assumes nothing.
 use mathlib.Core.Path.{_≡_, refl, sym, ap, _∙_, subst}
+use mathlib.Core.Logic.{⊎-elim}
 use mathlib.Core.Bool.{Bool, true}
 use mathlib.Core.List.{List}
 use Prim.Native.Nat.{ℕ, _≤_, _<_}
@@ -15,8 +16,8 @@ use Rattle.motion.specs.Motion.{aheadVector, negated, nearVector, farVector, po
 use Rattle.block.specs.declared.Source.{Source}
 use Rattle.block.specs.declared.Source.the-variants.{Data, Front, Back}
 use Rattle.block.specs.Block.{Side, pixels, Kind, same, kept, ahead, behind, near, far, patterned, celled, dithered, refused, kindOf, dataLength, copyInside, cellSource, ditherSource, source, fetched}
-use Rattle.block.specs.Asked.{Readable, Among}
-use Rattle.block.proofs.Codes.{copy-ahead, copy-behind, copy-near, copy-far}
+use Rattle.block.specs.Asked.{vectorOf, Readable, Among}
+use Rattle.block.proofs.Codes.{copy-judged, kind-back, kind-front}
 
 -- ---- a patterned block, its form's numbers written out
 
@@ -34,17 +35,8 @@ module _ (code : ℕ) (s : List ℕ) (w h x y i : ℕ) where
   abbrev pub Pointed : Vector → Type 0
   Pointed v = Short v × Inside w x y i × (h ≤ 480) × (pointsInside v w h x y ≡ true)
 
-  pub ahead-asked : (b : ℕ) (v : Vector) → Readable code s w h x y i → kindOf code s ≡ ahead b → v ≡ aheadVector b → Short (aheadVector b) → Pointed v
-  ahead-asked b v r k e t = (subst Short (sym e) t, r .at, r .high, copy-ahead s code w h x y b v _ k e refl ∙ r .inside)
-
-  pub behind-asked : (b : ℕ) (v : Vector) → Readable code s w h x y i → kindOf code s ≡ behind b → v ≡ negated (aheadVector b) → Short (negated (aheadVector b)) → Pointed v
-  behind-asked b v r k e t = (subst Short (sym e) t, r .at, r .high, copy-behind s code w h x y b v _ k e refl ∙ r .inside)
-
-  pub near-asked : (b : ℕ) (v : Vector) → Readable code s w h x y i → kindOf code s ≡ near b → v ≡ nearVector b → Short (nearVector b) → Pointed v
-  near-asked b v r k e t = (subst Short (sym e) t, r .at, r .high, copy-near s code w h x y b v _ k e refl ∙ r .inside)
-
-  pub far-asked : (a b : ℕ) (v : Vector) → Readable code s w h x y i → kindOf code s ≡ far a b → v ≡ farVector a b → Short (farVector a b) → Pointed v
-  far-asked a b v r k e t = (subst Short (sym e) t, r .at, r .high, copy-far s code w h x y a b v _ k e refl ∙ r .inside)
+  pub copied-asked : (v : Vector) → Readable code s w h x y i → 1 < code → code < 6 → v ≡ vectorOf (kindOf code s) → Short v → Pointed v
+  copied-asked v r g l e t = (t, r .at, r .high, copy-judged s code w h x y v _ g l e refl ∙ r .inside)
 
   pub form-asked : (f : Form) → Readable code s w h x y i → kindOf code s ≡ patterned f → (patternLength (shape f) ≤ length s) × (i < 64)
   unfolding dataLength
@@ -61,21 +53,32 @@ module _ (code : ℕ) (s : List ℕ) (w x y i : ℕ) where
   unfolding source
   kept-source j k e = rw (k, e)
 
-  pub ahead-source : (j b : ℕ) (v : Vector) → kindOf code s ≡ ahead b → v ≡ aheadVector b → j ≡ copiedIndex v w x y i → Back j ≡ source (kindOf code s) s w x y i
+  ahead-source : (j b : ℕ) (v : Vector) → kindOf code s ≡ ahead b → v ≡ aheadVector b → j ≡ copiedIndex v w x y i → Back j ≡ source (kindOf code s) s w x y i
   unfolding source
   ahead-source j b v k e q = rw (k, ← e, q)
 
-  pub behind-source : (j b : ℕ) (v : Vector) → kindOf code s ≡ behind b → v ≡ negated (aheadVector b) → j ≡ copiedIndex v w x y i → Back j ≡ source (kindOf code s) s w x y i
+  behind-source : (j b : ℕ) (v : Vector) → kindOf code s ≡ behind b → v ≡ negated (aheadVector b) → j ≡ copiedIndex v w x y i → Back j ≡ source (kindOf code s) s w x y i
   unfolding source
   behind-source j b v k e q = rw (k, ← e, q)
 
-  pub near-source : (j b : ℕ) (v : Vector) → kindOf code s ≡ near b → v ≡ nearVector b → j ≡ copiedIndex v w x y i → Front j ≡ source (kindOf code s) s w x y i
+  near-source : (j b : ℕ) (v : Vector) → kindOf code s ≡ near b → v ≡ nearVector b → j ≡ copiedIndex v w x y i → Front j ≡ source (kindOf code s) s w x y i
   unfolding source
   near-source j b v k e q = rw (k, ← e, q)
 
-  pub far-source : (j a b : ℕ) (v : Vector) → kindOf code s ≡ far a b → v ≡ farVector a b → j ≡ copiedIndex v w x y i → Front j ≡ source (kindOf code s) s w x y i
+  far-source : (j a b : ℕ) (v : Vector) → kindOf code s ≡ far a b → v ≡ farVector a b → j ≡ copiedIndex v w x y i → Front j ≡ source (kindOf code s) s w x y i
   unfolding source
   far-source j a b v k e q = rw (k, ← e, q)
+
+  -- codes 2 and 3 read back, 4 and 5 front, by the vector of their kind
+  pub back-source : (j : ℕ) (v : Vector) → 1 < code → code < 4 → v ≡ vectorOf (kindOf code s) → j ≡ copiedIndex v w x y i → Back j ≡ source (kindOf code s) s w x y i
+  unfolding vectorOf
+  back-source j v g l e q =
+      ⊎-elim (λ k. ahead-source j _ v k (e ∙ ap vectorOf k) q) (λ k. behind-source j _ v k (e ∙ ap vectorOf k) q) (kind-back s code g l)
+
+  pub front-source : (j : ℕ) (v : Vector) → 3 < code → code < 6 → v ≡ vectorOf (kindOf code s) → j ≡ copiedIndex v w x y i → Front j ≡ source (kindOf code s) s w x y i
+  unfolding vectorOf
+  front-source j v g l e q =
+      ⊎-elim (λ k. near-source j _ v k (e ∙ ap vectorOf k) q) (λ k. far-source j _ _ v k (e ∙ ap vectorOf k) q) (kind-front s code g l)
 
   pub refused-source : kindOf code s ≡ refused → Data 0 ≡ source (kindOf code s) s w x y i
   unfolding source

@@ -1,12 +1,9 @@
 // The source of each pixel of a block, and its value.
 use block::Source;
 use block::cell_source;
+use block::copied_vector;
 use block::dither_source;
-use motion::ahead_vector;
-use motion::behind_vector;
 use motion::copied_index;
-use motion::far_vector;
-use motion::near_vector;
 use motion::raster_index;
 use pattern::Form;
 use pattern::form_of_7;
@@ -14,7 +11,6 @@ use pattern::form_of_8;
 use pattern::form_of_9;
 use pattern::form_of_a;
 use pattern::pattern_source;
-use words::byte_at;
 ghost use mathlib.Core.Path.{_≡_};
 ghost use Prim.Native.Nat.{_≤_, _<_};
 ghost use lib.ListN.{length};
@@ -52,10 +48,10 @@ pub fn source_of(code: u8, s: &[u8], w: usize, h: usize, x: usize, y: usize, i: 
     match code {
         0 => Source::Front(raster_index(w, x, y, i)),
         1 => Source::Back(raster_index(w, x, y, i)),
-        2 => Source::Back(copied_index(ahead_vector(byte_at(s, 0)), w, h, x, y, i)),
-        3 => Source::Back(copied_index(behind_vector(byte_at(s, 0)), w, h, x, y, i)),
-        4 => Source::Front(copied_index(near_vector(byte_at(s, 0)), w, h, x, y, i)),
-        5 => Source::Front(copied_index(far_vector(byte_at(s, 0), byte_at(s, 1)), w, h, x, y, i)),
+        2 => Source::Back(copied_index(copied_vector(code, s), w, h, x, y, i)),
+        3 => Source::Back(copied_index(copied_vector(code, s), w, h, x, y, i)),
+        4 => Source::Front(copied_index(copied_vector(code, s), w, h, x, y, i)),
+        5 => Source::Front(copied_index(copied_vector(code, s), w, h, x, y, i)),
         6 => Source::Data(0),
         7 => Source::Data(form_source(form_of_7(s), s, i)),
         8 => Source::Data(form_source(form_of_8(s), s, i)),

@@ -4,7 +4,7 @@ use native.Mathlib.Omega.{arith}
 use Rattle.paint.proofs.Painting.{Painting, painting-start, painting-more, painting-end, painting-length, in-row, square-inside, square-below, fixed-is, cell-row, cell-inside}
 use Rattle.motion.specs.Motion.{rasterIndex}
 use Rattle.block.specs.Block.{cellSource}
-use Rattle.paint.specs.Paint.{single, onFrom, fixedValue}
+use Rattle.paint.specs.Paint.{single, fromPixel, fixedValue}
 use Rattle.paint.proofs.cells_row.Statement.{statement}
 use Rattle.paint.proofs.cells_row.Tie as tie
 use Rattle.paint.proofs.cells_row.Reads as reads
@@ -14,7 +14,7 @@ use Rattle.motion.proofs.raster_index.Reads as raster-index-reads
 use Rattle.paint.proofs.put.Reads as put-reads
 
 abbrev Inv-loop : tie.InvT-loop
-Inv-loop side s back₀ w x y p m j₀ back j = (m ≡ 8) × Painting (onFrom p (single (rasterIndex w x y) (fixedValue (cellSource side) s))) back₀ 8 back j
+Inv-loop side s back₀ w x y p m j₀ back j = (m ≡ 8) × Painting (fromPixel p (single (rasterIndex w x y) (fixedValue (cellSource side) s))) back₀ 8 back j
 
 abbrev μ-loop : tie.MeasureT-loop
 μ-loop side s back₀ w x y p m j₀ back j = 8 - j

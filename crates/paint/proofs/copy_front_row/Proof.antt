@@ -2,7 +2,7 @@ use Prim.Native.Nat.{_-_}
 use native.Mathlib.Omega.{arith}
 use Rattle.paint.proofs.Painting.{Painting, painting-start, painting-more, painting-end, painting-length, in-row, square-inside, square-below, fixed-is}
 use Rattle.motion.specs.Motion.{rasterIndex}
-use Rattle.paint.specs.Paint.{single, onFrom, fixedValue}
+use Rattle.paint.specs.Paint.{single, fromPixel, fixedValue}
 use Rattle.paint.proofs.copy_front_row.Statement.{statement}
 use Rattle.paint.proofs.copy_front_row.Tie as tie
 use Rattle.paint.proofs.copy_front_row.Reads as reads
@@ -11,7 +11,7 @@ use Rattle.motion.proofs.raster_index.Reads as raster-index-reads
 use Rattle.paint.proofs.put.Reads as put-reads
 
 abbrev Inv-loop : tie.InvT-loop
-Inv-loop front back₀ w sx sy x y p j₀ back j = Painting (onFrom p (single (rasterIndex w x y) (fixedValue (rasterIndex w sx sy) front))) back₀ 8 back j
+Inv-loop front back₀ w sx sy x y p j₀ back j = Painting (fromPixel p (single (rasterIndex w x y) (fixedValue (rasterIndex w sx sy) front))) back₀ 8 back j
 
 abbrev μ-loop : tie.MeasureT-loop
 μ-loop front back₀ w sx sy x y p j₀ back j = 8 - j

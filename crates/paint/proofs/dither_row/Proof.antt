@@ -3,7 +3,7 @@ use native.Mathlib.Omega.{arith}
 use Rattle.paint.proofs.Painting.{Painting, painting-start, painting-more, painting-end, painting-length, in-row, square-inside, square-below, fixed-is, dither-inside}
 use Rattle.motion.specs.Motion.{rasterIndex}
 use Rattle.block.specs.Block.{ditherSource}
-use Rattle.paint.specs.Paint.{single, onFrom, fixedValue}
+use Rattle.paint.specs.Paint.{single, fromPixel, fixedValue}
 use Rattle.paint.proofs.dither_row.Statement.{statement}
 use Rattle.paint.proofs.dither_row.Tie as tie
 use Rattle.paint.proofs.dither_row.Reads as reads
@@ -13,7 +13,7 @@ use Rattle.motion.proofs.raster_index.Reads as raster-index-reads
 use Rattle.paint.proofs.put.Reads as put-reads
 
 abbrev Inv-loop : tie.InvT-loop
-Inv-loop s back₀ w x y p j₀ back j = Painting (onFrom p (single (rasterIndex w x y) (fixedValue ditherSource s))) back₀ 8 back j
+Inv-loop s back₀ w x y p j₀ back j = Painting (fromPixel p (single (rasterIndex w x y) (fixedValue ditherSource s))) back₀ 8 back j
 
 abbrev μ-loop : tie.MeasureT-loop
 μ-loop s back₀ w x y p j₀ back j = 8 - j

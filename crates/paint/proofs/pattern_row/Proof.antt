@@ -6,7 +6,7 @@ use Rattle.motion.specs.Motion.{rasterIndex}
 use Rattle.pattern.specs.Form.{numbers}
 use Rattle.pattern.specs.Pattern.{patternSource}
 use Rattle.pattern.proofs.Bounds.{small, row}
-use Rattle.paint.specs.Paint.{single, onFrom, fixedValue}
+use Rattle.paint.specs.Paint.{single, fromPixel, fixedValue}
 use Rattle.paint.proofs.pattern_row.Statement.{statement}
 use Rattle.paint.proofs.pattern_row.Tie as tie
 use Rattle.paint.proofs.pattern_row.Reads as reads
@@ -16,7 +16,7 @@ use Rattle.paint.proofs.put.Reads as put-reads
 use Rattle.pattern.proofs.pattern_source.Reads as pattern-source-reads
 
 abbrev Inv-loop : tie.InvT-loop
-Inv-loop bits across down wide high s back₀ w x y p m j₀ back j = (m ≡ 8) × Painting (onFrom p (single (rasterIndex w x y) (fixedValue (patternSource (numbers bits across down wide high) s) s))) back₀ 8 back j
+Inv-loop bits across down wide high s back₀ w x y p m j₀ back j = (m ≡ 8) × Painting (fromPixel p (single (rasterIndex w x y) (fixedValue (patternSource (numbers bits across down wide high) s) s))) back₀ 8 back j
 
 abbrev μ-loop : tie.MeasureT-loop
 μ-loop bits across down wide high s back₀ w x y p m j₀ back j = 8 - j

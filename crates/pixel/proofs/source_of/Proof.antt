@@ -1,30 +1,25 @@
-use mathlib.Core.Path.{_≡_, refl}
-use Prim.Native.Nat.{_<_, zero-le}
+use mathlib.Core.Path.{refl}
+use Prim.Native.Nat.{zero-le}
 use native.Mathlib.Omega.{arith}
-use Rattle.motion.proofs.Vectors.{ahead-short, negated-short, near-short, far-short}
 use Rattle.block.specs.Block.{one, two, four, eight}
 use Rattle.words.proofs.Tests.{beyond}
-use Rattle.block.proofs.Codes.{kind-0, kind-1, kind-2, kind-3, kind-4, kind-5, kind-6, kind-7, kind-8, kind-9, kind-A, kind-B, kind-C, kind-D, kind-E, kind-F}
-use Rattle.pixel.proofs.Sources.{ahead-asked, behind-asked, near-asked, far-asked, form-asked, same-source, kept-source, ahead-source, behind-source, near-source, far-source, refused-source, form-source-is, cell-source-is, dither-source-is}
+use Rattle.block.proofs.Codes.{kind-0, kind-1, kind-6, kind-7, kind-8, kind-9, kind-A, kind-B, kind-C, kind-D, kind-E, kind-F}
+use Rattle.pixel.proofs.Sources.{copied-asked, form-asked, same-source, kept-source, back-source, front-source, refused-source, form-source-is, cell-source-is, dither-source-is}
 use borrow.Author.Needs.{needs}
 use Rattle.pixel.proofs.source_of.Statement.{statement}
 use Rattle.pixel.proofs.source_of.Tie as tie
 use Rattle.pixel.proofs.source_of.Reads as reads
 use Rattle.pixel.proofs.source_of.Lts as lts
 use Rattle.block.proofs.cell_source.Reads as cell-source-reads
+use Rattle.block.proofs.copied_vector.Reads as copied-vector-reads
 use Rattle.block.proofs.dither_source.Reads as dither-source-reads
-use Rattle.motion.proofs.ahead_vector.Reads as ahead-vector-reads
-use Rattle.motion.proofs.behind_vector.Reads as behind-vector-reads
 use Rattle.motion.proofs.copied_index.Reads as copied-index-reads
-use Rattle.motion.proofs.far_vector.Reads as far-vector-reads
-use Rattle.motion.proofs.near_vector.Reads as near-vector-reads
 use Rattle.motion.proofs.raster_index.Reads as raster-index-reads
 use Rattle.pattern.proofs.form_of_7.Reads as form-of-7-reads
 use Rattle.pattern.proofs.form_of_8.Reads as form-of-8-reads
 use Rattle.pattern.proofs.form_of_9.Reads as form-of-9-reads
 use Rattle.pattern.proofs.form_of_a.Reads as form-of-a-reads
 use Rattle.pixel.proofs.form_source.Reads as form-source-reads
-use Rattle.words.proofs.byte_at.Reads as byte-at-reads
 
 raster-index-requires : tie.Need-raster-index-requires
 raster-index-requires c κs = c .before .before .pre .at
@@ -32,44 +27,29 @@ raster-index-requires c κs = c .before .before .pre .at
 raster-index-requires-2 : tie.Need-raster-index-requires-2
 raster-index-requires-2 c κs = c .before .before .pre .at
 
-byte-at-requires : tie.Need-byte-at-requires
-byte-at-requires c κs = search needs
-
-ahead-vector-requires : tie.Need-ahead-vector-requires
-ahead-vector-requires c κs = search needs
+copied-vector-requires : tie.Need-copied-vector-requires
+copied-vector-requires c κs = (omega (arith, c .match .keys3), omega (arith, c .match .keys3))
 
 copied-index-requires : tie.Need-copied-index-requires
-copied-index-requires c κs = ahead-asked _ _ _ _ _ _ _ _ _ (c .before .before .before .before .pre) (kind-2 _ _ _ (c .before .before .match .keys3) (c .before .byte-at .ensures)) (c .ahead-vector .ensures) (ahead-short _ (let h : c .before .byte-at .result < 256 = omega (arith, c .before .byte-at .ok) in h))
+copied-index-requires c κs = copied-asked _ _ _ _ _ _ _ _ (c .before .before .before .pre) (omega (arith, c .before .match .keys3)) (omega (arith, c .before .match .keys3)) (c .copied-vector .ensures .0) (c .copied-vector .ensures .1)
 
-byte-at-requires-2 : tie.Need-byte-at-requires-2
-byte-at-requires-2 c κs = search needs
-
-behind-vector-requires : tie.Need-behind-vector-requires
-behind-vector-requires c κs = search needs
+copied-vector-requires-2 : tie.Need-copied-vector-requires-2
+copied-vector-requires-2 c κs = (omega (arith, c .match .keys4), omega (arith, c .match .keys4))
 
 copied-index-requires-2 : tie.Need-copied-index-requires-2
-copied-index-requires-2 c κs = behind-asked _ _ _ _ _ _ _ _ _ (c .before .before .before .before .pre) (kind-3 _ _ _ (c .before .before .match .keys4) (c .before .byte-at2 .ensures)) (c .behind-vector .ensures) (negated-short _ (ahead-short _ (let h : c .before .byte-at2 .result < 256 = omega (arith, c .before .byte-at2 .ok) in h)))
+copied-index-requires-2 c κs = copied-asked _ _ _ _ _ _ _ _ (c .before .before .before .pre) (omega (arith, c .before .match .keys4)) (omega (arith, c .before .match .keys4)) (c .copied-vector2 .ensures .0) (c .copied-vector2 .ensures .1)
 
-byte-at-requires-3 : tie.Need-byte-at-requires-3
-byte-at-requires-3 c κs = search needs
-
-near-vector-requires : tie.Need-near-vector-requires
-near-vector-requires c κs = search needs
+copied-vector-requires-3 : tie.Need-copied-vector-requires-3
+copied-vector-requires-3 c κs = (omega (arith, c .match .keys5), omega (arith, c .match .keys5))
 
 copied-index-requires-3 : tie.Need-copied-index-requires-3
-copied-index-requires-3 c κs = near-asked _ _ _ _ _ _ _ _ _ (c .before .before .before .before .pre) (kind-4 _ _ _ (c .before .before .match .keys5) (c .before .byte-at3 .ensures)) (c .near-vector .ensures) (near-short _ (let h : c .before .byte-at3 .result < 256 = omega (arith, c .before .byte-at3 .ok) in h))
+copied-index-requires-3 c κs = copied-asked _ _ _ _ _ _ _ _ (c .before .before .before .pre) (omega (arith, c .before .match .keys5)) (omega (arith, c .before .match .keys5)) (c .copied-vector3 .ensures .0) (c .copied-vector3 .ensures .1)
 
-byte-at-requires-4 : tie.Need-byte-at-requires-4
-byte-at-requires-4 c κs = search needs
-
-byte-at-requires-5 : tie.Need-byte-at-requires-5
-byte-at-requires-5 c κs = search needs
-
-far-vector-requires : tie.Need-far-vector-requires
-far-vector-requires c κs = search needs
+copied-vector-requires-4 : tie.Need-copied-vector-requires-4
+copied-vector-requires-4 c κs = (omega (arith, c .match .keys6), omega (arith, c .match .keys6))
 
 copied-index-requires-4 : tie.Need-copied-index-requires-4
-copied-index-requires-4 c κs = far-asked _ _ _ _ _ _ _ _ _ _ (c .before .before .before .before .before .pre) (kind-5 _ _ _ _ (c .before .before .before .match .keys6) (c .before .before .byte-at4 .ensures) (c .before .byte-at5 .ensures)) (c .far-vector .ensures) (far-short _ _)
+copied-index-requires-4 c κs = copied-asked _ _ _ _ _ _ _ _ (c .before .before .before .pre) (omega (arith, c .before .match .keys6)) (omega (arith, c .before .match .keys6)) (c .copied-vector4 .ensures .0) (c .copied-vector4 .ensures .1)
 
 form-of-7-requires : tie.Need-form-of-7-requires
 form-of-7-requires c κs = search needs
@@ -117,16 +97,16 @@ returns-2 : tie.Need-returns-2
 returns-2 c = kept-source _ _ _ _ _ _ _ (kind-1 _ _ (c .before .match .keys2)) (c .raster-index2 .ensures)
 
 returns-3 : tie.Need-returns-3
-returns-3 c = ahead-source _ _ _ _ _ _ _ _ _ (kind-2 _ _ _ (c .before .before .before .match .keys3) (c .before .before .byte-at .ensures)) (c .before .ahead-vector .ensures) (c .copied-index .ensures)
+returns-3 c = back-source _ _ _ _ _ _ _ _ (omega (arith, c .before .before .match .keys3)) (omega (arith, c .before .before .match .keys3)) (c .before .copied-vector .ensures .0) (c .copied-index .ensures)
 
 returns-4 : tie.Need-returns-4
-returns-4 c = behind-source _ _ _ _ _ _ _ _ _ (kind-3 _ _ _ (c .before .before .before .match .keys4) (c .before .before .byte-at2 .ensures)) (c .before .behind-vector .ensures) (c .copied-index2 .ensures)
+returns-4 c = back-source _ _ _ _ _ _ _ _ (omega (arith, c .before .before .match .keys4)) (omega (arith, c .before .before .match .keys4)) (c .before .copied-vector2 .ensures .0) (c .copied-index2 .ensures)
 
 returns-5 : tie.Need-returns-5
-returns-5 c = near-source _ _ _ _ _ _ _ _ _ (kind-4 _ _ _ (c .before .before .before .match .keys5) (c .before .before .byte-at3 .ensures)) (c .before .near-vector .ensures) (c .copied-index3 .ensures)
+returns-5 c = front-source _ _ _ _ _ _ _ _ (omega (arith, c .before .before .match .keys5)) (omega (arith, c .before .before .match .keys5)) (c .before .copied-vector3 .ensures .0) (c .copied-index3 .ensures)
 
 returns-6 : tie.Need-returns-6
-returns-6 c = far-source _ _ _ _ _ _ _ _ _ _ (kind-5 _ _ _ _ (c .before .before .before .before .match .keys6) (c .before .before .before .byte-at4 .ensures) (c .before .before .byte-at5 .ensures)) (c .before .far-vector .ensures) (c .copied-index4 .ensures)
+returns-6 c = front-source _ _ _ _ _ _ _ _ (omega (arith, c .before .before .match .keys6)) (omega (arith, c .before .before .match .keys6)) (c .before .copied-vector4 .ensures .0) (c .copied-index4 .ensures)
 
 returns-7 : tie.Need-returns-7
 returns-7 c = refused-source _ _ _ _ _ _ (kind-6 _ _ (c .match .keys7))
@@ -156,7 +136,7 @@ returns-15 : tie.Need-returns-15
 returns-15 c = cell-source-is _ _ _ _ _ _ _ eight (kind-E _ _ (c .before .match .keys15)) (c .cell-source4 .ensures)
 
 returns-16 : tie.Need-returns-16
-returns-16 c = let l = (beyond 14 _ (beyond 13 _ (beyond 12 _ (beyond 11 _ (beyond 10 _ (beyond 9 _ (beyond 8 _ (beyond 7 _ (beyond 6 _ (beyond 5 _ (beyond 4 _ (beyond 3 _ (beyond 2 _ (beyond 1 _ (beyond 0 _ zero-le (c .before .match .rest .0 .0 .0 .0 .0 .0 .0 .0 .0 .0 .0 .0 .0 .0 .1)) (c .before .match .rest .0 .0 .0 .0 .0 .0 .0 .0 .0 .0 .0 .0 .0 .1)) (c .before .match .rest .0 .0 .0 .0 .0 .0 .0 .0 .0 .0 .0 .0 .1)) (c .before .match .rest .0 .0 .0 .0 .0 .0 .0 .0 .0 .0 .0 .1)) (c .before .match .rest .0 .0 .0 .0 .0 .0 .0 .0 .0 .0 .1)) (c .before .match .rest .0 .0 .0 .0 .0 .0 .0 .0 .0 .1)) (c .before .match .rest .0 .0 .0 .0 .0 .0 .0 .0 .1)) (c .before .match .rest .0 .0 .0 .0 .0 .0 .0 .1)) (c .before .match .rest .0 .0 .0 .0 .0 .0 .1)) (c .before .match .rest .0 .0 .0 .0 .0 .1)) (c .before .match .rest .0 .0 .0 .0 .1)) (c .before .match .rest .0 .0 .0 .1)) (c .before .match .rest .0 .0 .1)) (c .before .match .rest .0 .1)) (c .before .match .rest .1)) in let e : c .before .before .before .args .code ≡ 15 = omega (arith, c .before .before .before .pre .known, l) in dither-source-is _ _ _ _ _ _ _ (kind-F _ _ e) (c .dither-source .ensures)
+returns-16 c = let l = (beyond 14 _ (beyond 13 _ (beyond 12 _ (beyond 11 _ (beyond 10 _ (beyond 9 _ (beyond 8 _ (beyond 7 _ (beyond 6 _ (beyond 5 _ (beyond 4 _ (beyond 3 _ (beyond 2 _ (beyond 1 _ (beyond 0 _ zero-le (c .before .match .rest .0 .0 .0 .0 .0 .0 .0 .0 .0 .0 .0 .0 .0 .0 .1)) (c .before .match .rest .0 .0 .0 .0 .0 .0 .0 .0 .0 .0 .0 .0 .0 .1)) (c .before .match .rest .0 .0 .0 .0 .0 .0 .0 .0 .0 .0 .0 .0 .1)) (c .before .match .rest .0 .0 .0 .0 .0 .0 .0 .0 .0 .0 .0 .1)) (c .before .match .rest .0 .0 .0 .0 .0 .0 .0 .0 .0 .0 .1)) (c .before .match .rest .0 .0 .0 .0 .0 .0 .0 .0 .0 .1)) (c .before .match .rest .0 .0 .0 .0 .0 .0 .0 .0 .1)) (c .before .match .rest .0 .0 .0 .0 .0 .0 .0 .1)) (c .before .match .rest .0 .0 .0 .0 .0 .0 .1)) (c .before .match .rest .0 .0 .0 .0 .0 .1)) (c .before .match .rest .0 .0 .0 .0 .1)) (c .before .match .rest .0 .0 .0 .1)) (c .before .match .rest .0 .0 .1)) (c .before .match .rest .0 .1)) (c .before .match .rest .1)) in dither-source-is _ _ _ _ _ _ _ (kind-F _ _ (omega (arith, l, c .before .before .before .pre .known))) (c .dither-source .ensures)
 
 pub source-of-spec : {M : Type 1} → statement M
 source-of-spec =
@@ -164,18 +144,13 @@ source-of-spec =
     (tie.spec
     raster-index-requires
     raster-index-requires-2
-    byte-at-requires
-    ahead-vector-requires
+    copied-vector-requires
     copied-index-requires
-    byte-at-requires-2
-    behind-vector-requires
+    copied-vector-requires-2
     copied-index-requires-2
-    byte-at-requires-3
-    near-vector-requires
+    copied-vector-requires-3
     copied-index-requires-3
-    byte-at-requires-4
-    byte-at-requires-5
-    far-vector-requires
+    copied-vector-requires-4
     copied-index-requires-4
     form-of-7-requires
     form-source-requires
