@@ -22,10 +22,11 @@ examples/play.c is a whole player, which is stopped and goes on.
 
 MEMORY
 
-Nothing is allocated and nothing is kept between calls; all memory is lent by the caller. What is lent must be private
-to the call while it runs: nobody else writes it, and nobody else reads what is lent for writing (palette, pictures,
-place). What is lent for writing shares no byte with anything else that is lent. Every address comes with its length
-and is not null, also where the length is 0. Nothing else is asked: any bytes, state, place and number are answered.
+Nothing is allocated and nothing is kept between calls; all memory is lent by the caller. (The library calls memset, to
+set lent bytes, and nothing else.) What is lent must be private to the call while it runs: nobody else writes it, and
+nobody else reads what is lent for writing (palette, pictures, place). What is lent for writing shares no byte with
+anything else that is lent. Every address comes with its length and is not null, also where the length is 0. Nothing
+else is asked: any bytes, state, place and number are answered.
 
 A refused call changes nothing that is lent. A step that is refused, ended or unfinished gives back the state that it
 was given.
