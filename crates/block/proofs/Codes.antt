@@ -123,14 +123,13 @@ chosen-short : (t : Bool) (a b r : Vector) → r ≡ cond t a b → Short a → 
 chosen-short true a b r e h g = subst Short (sym e) h
 chosen-short false a b r e h g = subst Short (sym e) g
 
-pub back-short : (b : ℕ) (t : Bool) (v u r : Vector) → b < 256 → v ≡ aheadVector b → u ≡ negated v → r ≡ cond t u v → Short r
-back-short b t v u r h e n q =
-    let s : Short v = subst Short (sym e) (ahead-short b h) in
-    chosen-short t u v r q (subst Short (sym n) (negated-short v s)) s
+pub back-short : (b : ℕ) (t : Bool) (u v r : Vector) → b < 256 → u ≡ negated (aheadVector b) → v ≡ aheadVector b → r ≡ cond t u v → Short r
+back-short b t u v r h n e q =
+    chosen-short t u v r q (subst Short (sym n) (negated-short _ (ahead-short b h))) (subst Short (sym e) (ahead-short b h))
 
-pub front-short : (a b d : ℕ) (t : Bool) (v u r : Vector) → a < 256 → v ≡ nearVector a → u ≡ farVector b d → r ≡ cond t v u → Short r
-front-short a b d t v u r h e f q =
-    chosen-short t v u r q (subst Short (sym e) (near-short a h)) (subst Short (sym f) (far-short b d))
+pub front-short : (b d : ℕ) (t : Bool) (u v r : Vector) → b < 256 → u ≡ nearVector b → v ≡ farVector b d → r ≡ cond t u v → Short r
+front-short b d t u v r h e f q =
+    chosen-short t u v r q (subst Short (sym e) (near-short b h)) (subst Short (sym f) (far-short b d))
 
 -- ---- data bytes
 
@@ -239,20 +238,21 @@ module _ (s : List ℕ) where
   Backward : ℕ → Type 0
   Backward c = c < 4 → cond (eqb c 3) (negated (aheadVector (getD s 0 0))) (aheadVector (getD s 0 0)) ≡ vectorOf (kindOf c s)
 
-  pub chosen-back : (c b : ℕ) (v u r : Vector) → 1 < c → c < 4 → b ≡ getD s 0 0 → v ≡ aheadVector b → u ≡ negated v → r ≡ cond (eqb c 3) u v → r ≡ vectorOf (kindOf c s)
+  pub chosen-back : (c b : ℕ) (u v r : Vector) → 1 < c → c < 4 → b ≡ getD s 0 0 → u ≡ negated (aheadVector b) → v ≡ aheadVector b → r ≡ cond (eqb c 3) u v
+      → r ≡ vectorOf (kindOf c s)
   unfolding Backward kindOf kinds vectorOf
-  chosen-back c b v u r g l e a n q =
+  chosen-back c b u v r g l e n a q =
       rw (q, n, a, e)
       (copying Backward (λ _. refl) (λ _. refl) (λ k. absurd (let z : ⊥ = omega arith in z)) (λ k. absurd (let z : ⊥ = omega arith in z)) c g (omega arith) l)
 
   Forward : ℕ → Type 0
   Forward c = 3 < c → cond (eqb c 4) (nearVector (getD s 0 0)) (farVector (getD s 0 0) (getD s 1 0)) ≡ vectorOf (kindOf c s)
 
-  pub chosen-front : (c a b d : ℕ) (v u r : Vector) → 3 < c → c < 6 → a ≡ getD s 0 0 → b ≡ getD s 0 0 → d ≡ getD s 1 0 → v ≡ nearVector a → u ≡ farVector b d → r ≡ cond (eqb c 4) v u
+  pub chosen-front : (c b d : ℕ) (u v r : Vector) → 3 < c → c < 6 → b ≡ getD s 0 0 → d ≡ getD s 1 0 → u ≡ nearVector b → v ≡ farVector b d → r ≡ cond (eqb c 4) u v
       → r ≡ vectorOf (kindOf c s)
   unfolding Forward kindOf kinds vectorOf
-  chosen-front c a b d v u r g l ea eb ed en ef q =
-      rw (q, en, ef, ea, eb, ed)
+  chosen-front c b d u v r g l eb ed en ef q =
+      rw (q, en, ef, eb, ed)
       (copying Forward (λ k. absurd (let z : ⊥ = omega arith in z)) (λ k. absurd (let z : ⊥ = omega arith in z)) (λ _. refl) (λ _. refl) c (omega arith) l g)
 
 -- ---- cells

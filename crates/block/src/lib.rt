@@ -1,9 +1,9 @@
 // One 8x8 block: its code, its data bytes, whether its copy lies inside, and the source of each of its pixels.
 use motion::Vector;
 use motion::ahead_vector;
+use motion::behind_vector;
 use motion::far_vector;
 use motion::near_vector;
-use motion::negate;
 use motion::points_inside;
 use pattern::is_falling;
 use words::byte_at;
@@ -120,15 +120,11 @@ pub fn copied_vector(code: u8, s: &[u8]) -> Vector
     requires { ⌜ (1 < code) × (code < 6) ⌝ }
     ensures { λ r. ⌜ (r ≡ vectorOf (kindOf code (now (s .entry)))) × Short r ⌝ }
 {
+    let b = byte_at(s, 0);
     if code < 4 {
-        let v = ahead_vector(byte_at(s, 0));
-        return choose_vector(code == 3, negate(v), v);
+        return choose_vector(code == 3, behind_vector(b), ahead_vector(b));
     }
-    choose_vector(
-        code == 4,
-        near_vector(byte_at(s, 0)),
-        far_vector(byte_at(s, 0), byte_at(s, 1)),
-    )
+    choose_vector(code == 4, near_vector(b), far_vector(b, byte_at(s, 1)))
 }
 
 // Whether the 8x8 that a block at x, y is copied from lies inside the picture w by h.

@@ -8,8 +8,7 @@ use native.Mathlib.Numerals.{add-one}
 use native.Mathlib.Nat.{div-le-self}
 use lib.ListN.{length, drop, length-drop}
 use Rattle.motion.specs.Motion.{rasterIndex}
-use Rattle.block.specs.Block.{Kind, kept, codeAt, kinds, kindOf, dataLength}
-use Rattle.block.proofs.Codes.{each-code}
+use Rattle.block.specs.Block.{kindOf, dataLength}
 use Rattle.paint.specs.Paint.{single}
 use Rattle.paint_block.specs.Value.{pixelCount, pixelValue, blockPlan}
 use Rattle.paint_block.specs.Asked.{Canvas, Drawable}
@@ -25,21 +24,6 @@ use Rattle.stores.proofs.Pixels.{first-agree}
 use Rattle.stores.proofs.Loop.{made-none, made-length, made-over, made-part, made-block}
 use Rattle.draw.specs.Drawing.{sizeAt, targetAt, valueAt, plan}
 use Rattle.draw.specs.Asked.{Accepted}
-
--- ---- the pixels of a code
-
-Counted : List ℕ → ℕ → Type 0
-Counted s c = (c ≡ 1 → ⊥) → 64 ≡ pixelCount (kindOf c s)
-
-pub count-64 : (s : List ℕ) (c : ℕ) → c < 16 → (c ≡ 1 → ⊥) → 64 ≡ pixelCount (kindOf c s)
-unfolding Counted kindOf kinds pixelCount
-count-64 s =
-    each-code (Counted s) (λ n. refl) (λ n. absurd (n refl)) (λ n. refl) (λ n. refl) (λ n. refl) (λ n. refl) (λ n. refl) (λ n. refl)
-    (λ n. refl) (λ n. refl) (λ n. refl) (λ n. refl) (λ n. refl) (λ n. refl) (λ n. refl) (λ n. refl)
-
-pub count-0 : (s : List ℕ) (c : ℕ) → c ≡ 1 → 0 ≡ pixelCount (kindOf c s)
-unfolding kindOf kinds pixelCount
-count-0 s c e = rw e
 
 -- ---- the loop
 
@@ -162,12 +146,12 @@ module _ (p : Packet) (front b₀ : List ℕ) (k₀ n : ℕ) (b : List ℕ) (pla
 
     -- the whole block, and then its place
     pub going-block : (u z : ℕ) (b′ : List ℕ) (place′ : ℕ) → u ≡ pixelCount (kindOf c s) → z ≡ dataLength (kindOf c s) → u < l
-        → b′ ≡ firstPixels (blockPlan (kindOf c s) s (width p) x y front) 0 b u → place′ ≡ k + 1
+        → b′ ≡ firstPixels (blockPlan (kindOf c s) s (width p) x y front) 0 b (pixelCount (kindOf c s)) → place′ ≡ k + 1
         → (x′ y′ : ℕ) → (x′ ≡ left p (k + 1)) × (y′ ≡ top p (k + 1)) → Going p front b₀ k₀ n b′ place′ (k + 1) (at + z) (l - (u + 1)) x′ y′
     going-block u z b′ place′ eu ez q e ep x′ y′ corner =
         let su : u ≡ sizeAt p k = omega (arith, size-is, eu) in
         record {
-          made = made-block (plan p front) (memory b₀ k₀) (n - l) k b (g .made) h u b′ su (painted u b′ e) (n - (l - (u + 1))) (k + 1) (omega (arith, g .room)) refl;
+          made = made-block (plan p front) (memory b₀ k₀) (n - l) k b (g .made) h u b′ su (painted u b′ (rw eu e)) (n - (l - (u + 1))) (k + 1) (omega (arith, g .room)) refl;
           stands = ep;
           found = position-next (p .map) (p .bytes) s k at c z (g .found) ec es ez;
           below = omega arith;

@@ -8,6 +8,7 @@ use packet::is_legal_size;
 use paint::set_place;
 use paint_block::paint_block;
 use refusal::Refusal;
+use whole::paint_whole;
 use words::part_from;
 ghost use mathlib.Core.Path.{_≡_};
 ghost use Prim.Native.Nat.{_<_};
@@ -103,7 +104,7 @@ fn draw_blocks(
             paint_block(code, s, front, back, w, h, x, y, left);
             return allowed;
         }
-        paint_block(code, s, front, back, w, h, x, y, due);
+        paint_whole(code, s, front, back, w, h, x, y);
         set_place(place, k + 1);
         left -= due + 1;
         at += data_length(code, s);

@@ -34,10 +34,11 @@ pub fn ahead_vector(b: u8) -> Vector
     }
 }
 
-// Code 3: the vector of code 2 the other way.
-pub fn negate(v: Vector) -> Vector
-    ensures { λ r. ⌜ r ≡ negated v ⌝ }
+// Code 3.
+pub fn behind_vector(b: u8) -> Vector
+    ensures { λ r. ⌜ r ≡ negated (aheadVector b) ⌝ }
 {
+    let v = ahead_vector(b);
     Vector {
         right: v.left,
         left: v.right,

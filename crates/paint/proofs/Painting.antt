@@ -1,21 +1,21 @@
 -- The loop over a block's pixels: after i turns the picture is as the first i pixel stores leave it. A law for its start, each turn and its end.
 -- Assumes nothing.
-use mathlib.Core.Path.{_≡_, refl, sym, ap, _∙_, subst}
+use mathlib.Core.Path.{_≡_, refl, sym, ap, _∙_}
 use mathlib.Core.List.{List}
 use Prim.Native.Nat.{ℕ, _+_, _*_, _/_, _%_, _≤_, _<_, zero-le}
 use native.Mathlib.Omega.{arith}
 use native.Mathlib.Nat.{mul-le-mul-right, add-mul}
 use lib.ListN.{length, getD, set}
 use Rattle.motion.specs.Motion.{rasterIndex, Inside}
-use Rattle.block.specs.Block.{Side, one, two, four, eight, pixels, cellSource, ditherSource}
+use Rattle.block.specs.Block.{cellSource, ditherSource}
 use Rattle.block.specs.Asked.{Sided}
 use Rattle.block.proofs.Codes.{cell}
 use Rattle.pattern.specs.Form.{Shape}
 use Rattle.pattern.specs.Pattern.{Shaped, patternLength, patternSource}
 use Rattle.pattern.proofs.Bounds.{source-inside}
 use Rattle.stores.specs.Stores.{Plan, firstPixels}
-use Rattle.stores.proofs.Pixels.{first-none, first-more, first-length, first-join}
-use Rattle.paint.specs.Paint.{single, fromPixel, fixedValue, backValue}
+use Rattle.stores.proofs.Pixels.{first-none, first-more, first-length}
+use Rattle.paint.specs.Paint.{single, fixedValue, backValue}
 use Rattle.paint.specs.Asked.{Square}
 
 -- ---- the loop
@@ -37,39 +37,6 @@ module _ (d : Plan) (b₀ : List ℕ) (n : ℕ) (b : List ℕ) (i : ℕ) (p : Pa
   pub painting-length : length b ≡ length b₀
   painting-length = first-length d 0 b₀ i b (p .made)
 
--- ---- the loop over its rows: p is the first pixel of a row
-
-pub record Rows (d : Plan) (b₀ : List ℕ) (b : List ℕ) (p : ℕ) : Type 0 where
-  pub whole : p % 8 ≡ 0
-  pub painting : Painting d b₀ 64 b p
-
-pub rows-start : (d : Plan) (b : List ℕ) → Rows d b b 0
-rows-start d b = record { whole = refl; painting = painting-start d b 64 }
-
-module _ (d : Plan) (b₀ b : List ℕ) (p : ℕ) (r : Rows d b₀ b p) where
-  pub rows-room : p < 64 → p ≤ 56
-  rows-room h = omega (arith, r .whole)
-
-  pub rows-more : p < 64 → (b′ : List ℕ) → b′ ≡ firstPixels (fromPixel p d) 0 b 8 → Rows d b₀ b′ (p + 8)
-  rows-more h b′ e =
-      record {
-        whole = omega (arith, r .whole);
-        painting = record {
-          within = omega (arith, r .whole);
-          made = first-join d (fromPixel p d) 0 0 b₀ p 8 b b′ (r .painting .made) e (λ x l. refl) (λ x l a g. refl);
-        };
-      }
-
-  pub rows-end : 64 ≤ p → b ≡ firstPixels d 0 b₀ 64
-  rows-end h = painting-end d b₀ 64 b p (r .painting) h
-
-  pub rows-length : length b ≡ length b₀
-  rows-length = painting-length d b₀ 64 b p (r .painting)
-
--- pixel j of the row that begins at pixel p
-pub in-row : (p j : ℕ) → p ≤ 56 → j < 8 → p + j < 64
-in-row p j h l = omega arith
-
 -- ---- the pixels' places
 
 module _ (w x y long i : ℕ) (q : Square w x y long) (h : i < 64) where
@@ -82,10 +49,6 @@ module _ (w x y long i : ℕ) (q : Square w x y long) (h : i < 64) where
       let a : y + i / 8 + 1 ≤ y + 8 = omega arith in
       omega (arith, e, q .room, q .across, mul-le-mul-right w a, add-mul (y + i / 8) 1 w)
 
--- it stands in every picture of that length
-pub square-kept : {w x y long long′ : ℕ} → Square w x y long → long′ ≡ long → Square w x y long′
-square-kept {w} {x} {y} q e = subst (Square w x y) (sym e) q
-
 -- ---- their values
 
 pub fixed-is : (at : ℕ → ℕ) (s : List ℕ) (i : ℕ) (b : List ℕ) (j : ℕ) → j ≡ at i → getD s j 0 ≡ fixedValue at s i b
@@ -95,20 +58,6 @@ fixed-is at s i b j e = rw e
 pub back-is : (at : ℕ → ℕ) (i : ℕ) (b : List ℕ) (j : ℕ) → j ≡ at i → getD b j 0 ≡ backValue at i b
 unfolding backValue
 back-is at i b j e = rw e
-
--- the cells beside each other make up a row of eight pixels
-pub record CellRow (side : ℕ) : Type 0 where
-  pub some : 0 < side
-  pub row : side * (8 / side) ≡ 8
-
-cell-row-of : (c : Side) → CellRow (pixels c)
-cell-row-of one = record { some = omega arith; row = refl }
-cell-row-of two = record { some = omega arith; row = refl }
-cell-row-of four = record { some = omega arith; row = refl }
-cell-row-of eight = record { some = omega arith; row = refl }
-
-pub cell-row : {side : ℕ} → Sided side → CellRow side
-cell-row (c, e) = subst CellRow e (cell-row-of c)
 
 -- the byte that gives a pixel is one of the block's
 pub cell-inside : (side i j long : ℕ) → Sided side → i < 64 → 8 / side * (8 / side) ≤ long → j ≡ cellSource side i → j < long

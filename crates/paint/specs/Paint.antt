@@ -1,17 +1,13 @@
 -- The pixel stores of one block, as a plan of its own: where each pixel stands, and what it is read from.
 -- Assumes nothing.
 use mathlib.Core.List.{List}
-use Prim.Native.Nat.{ℕ, _+_, _-_}
+use Prim.Native.Nat.{ℕ}
 use lib.ListN.{getD}
 use Rattle.stores.specs.Stores.{Plan}
 
 -- one block of 64 pixels: pixel i is stored at target i, and is value i of the picture drawn on
 abbrev pub single : (ℕ → ℕ) → (ℕ → List ℕ → ℕ) → Plan
 single target value = record { blocks = 1; size = λ k. 64; target = λ k i. target i; value = λ k i b. value i b }
-
--- the pixels of a block from pixel p on, as a plan of their own (`firstPixels` does not read a plan's sizes)
-abbrev pub fromPixel : ℕ → Plan → Plan
-fromPixel p d = record { blocks = 1; size = λ k. d .size k - p; target = λ k i. d .target k (p + i); value = λ k i b. d .value k (p + i) b }
 
 -- pixel i is element at i of a list that no store changes: the block's data or front
 unfoldable pub fixedValue : (ℕ → ℕ) → List ℕ → ℕ → List ℕ → ℕ

@@ -2,7 +2,7 @@
 -- Assumes nothing.
 use mathlib.Core.Path.{_≡_, refl, sym, ap, _∙_, subst}
 use mathlib.Core.Logic.{_⊎_, inl, inr, ⊎-elim}
-use mathlib.Core.Bool.{Bool, true, false}
+use mathlib.Core.Bool.{Bool, true}
 use mathlib.Core.List.{List}
 use Prim.Native.Nat.{ℕ, zero, suc, _+_, _-_, _*_, _/_, _≤_, _<_}
 use native.Mathlib.Omega.{arith}
@@ -14,15 +14,13 @@ use Rattle.pattern.specs.Pattern.{patternLength, patternSource}
 use Rattle.motion.specs.declared.Vector.{Vector}
 use Rattle.motion.specs.Motion.{aheadVector, negated, nearVector, farVector, pointsInside, rasterIndex, copiedIndex, Short}
 use Rattle.motion.proofs.Vectors.{inside-each}
-use Rattle.block.specs.Block.{Side, pixels, Kind, same, kept, ahead, behind, near, far, patterned, celled, dithered, refused, kindOf, dataLength, isRefused, copyInside, cellSource, ditherSource, source, fetched}
-use Rattle.block.specs.declared.Source.{Source}
-use Rattle.block.specs.Asked.{vectorOf, Readable, Among}
-use Rattle.block.proofs.Codes.{kind-0, kind-1, kind-back, kind-front, copy-judged, code-known}
+use Rattle.block.specs.Block.{Side, pixels, Kind, same, kept, ahead, behind, near, far, patterned, celled, dithered, refused, kinds, kindOf, dataLength, copyInside, cellSource, ditherSource, source, fetched}
+use Rattle.block.specs.Asked.{vectorOf}
+use Rattle.block.proofs.Codes.{each-code, kind-0, kind-1, kind-back, kind-front, copy-judged}
 use Rattle.stores.specs.Stores.{Plan, firstPixels}
-use Rattle.stores.proofs.Pixels.{first-agree}
+use Rattle.stores.proofs.Pixels.{first-none, first-agree}
 use Rattle.paint.specs.Paint.{single, fixedValue, backValue}
 use Rattle.paint.specs.Asked.{Square}
-use Rattle.paint.proofs.Painting.{square-inside, square-below, cell-inside, dither-inside, pattern-inside}
 use Rattle.paint_block.specs.Value.{pixelCount, pixelValue, blockPlan}
 use Rattle.paint_block.specs.Asked.{Canvas, Pointed, Drawable}
 
@@ -45,24 +43,21 @@ module _ (w h x y front back : ℕ) (c : Canvas w h x y front back) where
       record { width = c .width; height = c .height; across = c .across; down = c .down; front-room = c .back-room; back-room = c .back-room }
 
   -- the 8x8 that a vector points at
-  canvas-at : (v : Vector) → pointsInside v w h x y ≡ true → Canvas w h (x + v .right - v .left) (y + v .down - v .up) front back
-  canvas-at v e =
-      let i = inside-each v w h x y e in
-      record {
-        width = c .width;
-        height = c .height;
-        across = omega (arith, i .left, i .right);
-        down = omega (arith, i .up, i .down);
-        front-room = c .front-room;
-        back-room = c .back-room;
-      }
-
   module _ (v : Vector) (p : Pointed v w h x y) where
     pub starts : (v .left ≤ x + v .right) × (v .up ≤ y + v .down)
     starts = let i = inside-each v w h x y (p .inside) in (i .left, i .up)
 
     pointed-canvas : Canvas w h (x + v .right - v .left) (y + v .down - v .up) front back
-    pointed-canvas = canvas-at v (p .inside)
+    pointed-canvas =
+        let i = inside-each v w h x y (p .inside) in
+        record {
+          width = c .width;
+          height = c .height;
+          across = omega (arith, i .left, i .right);
+          down = omega (arith, i .up, i .down);
+          front-room = c .front-room;
+          back-room = c .back-room;
+        }
 
 pub pointed-front : (w h x y front back : ℕ) → Canvas w h x y front back → (v : Vector) → Pointed v w h x y → Square w (x + v .right - v .left) (y + v .down - v .up) front
 pointed-front w h x y front back c v p = front-square _ _ _ _ _ _ (pointed-canvas w h x y front back c v p)
@@ -93,6 +88,19 @@ form-painted f g q target s b b′ n e k h =
     subst (λ (x : Shape). b′ ≡ firstPixels (single target (fixedValue (patternSource x s) s)) 0 b n) (sym (ap shape e ∙ k)) h
 
 -- ---- what each kind asks
+
+Counted : List ℕ → ℕ → Type 0
+Counted s c = (c ≡ 1 → ⊥) → 64 ≡ pixelCount (kindOf c s)
+
+pub count-64 : (s : List ℕ) (c : ℕ) → c < 16 → (c ≡ 1 → ⊥) → 64 ≡ pixelCount (kindOf c s)
+unfolding Counted kindOf kinds pixelCount
+count-64 s =
+    each-code (Counted s) (λ n. refl) (λ n. absurd (n refl)) (λ n. refl) (λ n. refl) (λ n. refl) (λ n. refl) (λ n. refl) (λ n. refl)
+    (λ n. refl) (λ n. refl) (λ n. refl) (λ n. refl) (λ n. refl) (λ n. refl) (λ n. refl) (λ n. refl)
+
+pub count-0 : (s : List ℕ) (c : ℕ) → c ≡ 1 → 0 ≡ pixelCount (kindOf c s)
+unfolding kindOf kinds pixelCount
+count-0 s c e = rw e
 
 pub count-few : (κ : Kind) → pixelCount κ ≤ 64
 unfolding pixelCount
@@ -198,75 +206,12 @@ module _ (code : ℕ) (s : List ℕ) (w x y n : ℕ) (front b b′ : List ℕ) w
   unfolding fixedValue pixelValue source fetched
   paints-dither k = by-kind dithered k _ (λ i a. refl)
 
--- ---- a block pixel by pixel
-
--- where the picture drawn on has kept its length
-pub canvas-kept : {w h x y front back back′ : ℕ} → Canvas w h x y front back → back′ ≡ back → Canvas w h x y front back′
-canvas-kept {w} {h} {x} {y} {front} c e = subst (Canvas w h x y front) (sym e) c
-
-module _ (w h x y front back : ℕ) (c : Canvas w h x y front back) (i : ℕ) (l : i < 64) where
-  front-below : rasterIndex w x y i < front
-  front-below = square-below w x y front i (front-square w h x y front back c) l _ refl
-
-  back-below : rasterIndex w x y i < back
-  back-below = square-below w x y back i (back-square w h x y front back c) l _ refl
-
--- the source of each pixel of a block that is accepted is one of the bytes or pixels there
-module _ (s : List ℕ) (w h x y front back : ℕ) (c : Canvas w h x y front back) (i : ℕ) (l : i < 64) where
-  at-front : (v : Vector) → pointsInside v w h x y ≡ true → copiedIndex v w x y i < front
-  unfolding copiedIndex
-  at-front v e = front-below _ _ _ _ _ _ (canvas-at w h x y front back c v e) i l
-
-  at-back : (v : Vector) → pointsInside v w h x y ≡ true → copiedIndex v w x y i < back
-  unfolding copiedIndex
-  at-back v e = back-below _ _ _ _ _ _ (canvas-at w h x y front back c v e) i l
-
-  source-among : (κ : Kind) → isRefused κ ≡ false → dataLength κ ≤ length s → copyInside κ w h x y ≡ true → Among (source κ s w x y i) (length s) front back
-  unfolding isRefused dataLength copyInside source
-  source-among same k t e = front-below w h x y front back c i l
-  source-among kept k t e = back-below w h x y front back c i l
-  source-among (ahead b) k t e = at-back (aheadVector b) e
-  source-among (behind b) k t e = at-back (negated (aheadVector b)) e
-  source-among (near b) k t e = at-front (nearVector b) e
-  source-among (far a b) k t e = at-front (farVector a b) e
-  source-among (patterned f) k t e = pattern-inside (shape f) s i _ (length s) (f, refl) l t refl
-  source-among (celled d) k t e = cell-inside (pixels d) i _ (length s) (d, refl) l t refl
-  source-among dithered k t e = dither-inside i _ (length s) t refl
-  source-among refused k t e = absurd (let z : _≡_ {A = ℕ} 0 1 = cc in let y : ⊥ = omega arith in y)
-
-module _ (code : ℕ) (s : List ℕ) (w h x y n : ℕ) (d : Drawable code s w h x y n) (i : ℕ) (l : i < n) where
-  pub readable : (front back : ℕ) → Canvas w h x y front back → Readable code s w h x y i
-  readable front back c =
-      record {
-        known = d .known;
-        there = d .there;
-        inside = d .inside;
-        at = square-inside w x y front i (front-square w h x y front back c) (omega (arith, l, few code s w h x y n d));
-        high = c .height;
-      }
-
-  pub among : (front back : ℕ) → Canvas w h x y front back → (u : Source) → u ≡ source (kindOf code s) s w x y i → Among u (length s) front back
-  among front back c u e =
-      subst (λ (z : Source). Among z (length s) front back) (sym e)
-      (source-among s w h x y front back c i (omega (arith, l, few code s w h x y n d)) (kindOf code s)
-      (code-known s code (d .known) (d .taken)) (d .there) (d .inside))
-
-  pub below : (front back r : ℕ) → Canvas w h x y front back → r ≡ rasterIndex w x y i → r < back
-  below front back r c e = rw e (back-below w h x y front back c i (omega (arith, l, few code s w h x y n d)))
-
--- what stands at its source is the pixel's value
-pub value-is : (κ : Kind) (s : List ℕ) (w x y : ℕ) (front back : List ℕ) (i v : ℕ) (u : Source) → u ≡ source κ s w x y i → v ≡ fetched u s front back
-    → v ≡ pixelValue κ s w x y front i back
-unfolding pixelValue
-value-is κ s w x y front back i v u e h = rw (← e) h
-
--- where not fewer than 64 pixels are asked for, all are
-module _ (code : ℕ) (s : List ℕ) (w h x y n : ℕ) (d : Drawable code s w h x y n) (l : 64 ≤ n) where
-  all : n ≡ 64
-  all = omega (arith, few code s w h x y n d)
-
-  pub all-drawable : Drawable code s w h x y 64
-  all-drawable = subst (Drawable code s w h x y) all d
-
-  pub all-painted : (p : Plan) (b b′ : List ℕ) → b′ ≡ firstPixels p 0 b 64 → b′ ≡ firstPixels p 0 b n
-  all-painted p b b′ e = e ∙ ap (firstPixels p 0 b) (sym all)
+-- code 1 stores nothing, so where the code is below 2, what is stored is of code 0
+module _ (code : ℕ) (s : List ℕ) (w h x y n : ℕ) (d : Drawable code s w h x y n) (l : code < 2) (front b b′ : List ℕ) where
+  pub paints-low : b′ ≡ firstPixels (single (rasterIndex w x y) (fixedValue (rasterIndex w x y) front)) 0 b n
+      → b′ ≡ firstPixels (blockPlan (kindOf code s) s w x y front) 0 b n
+  paints-low e = by-count n refl
+    where
+      by-count : (m : ℕ) → n ≡ m → b′ ≡ firstPixels (blockPlan (kindOf code s) s w x y front) 0 b n
+      by-count zero z = e ∙ ap (firstPixels _ 0 b) z ∙ first-none _ _ _ ∙ sym (first-none _ _ _) ∙ ap (firstPixels _ 0 b) (sym z)
+      by-count (suc m) z = paints-same code s w x y n front b b′ (same-kind code s w h x y n d l (omega (arith, z))) e

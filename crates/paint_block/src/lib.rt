@@ -1,20 +1,16 @@
 // The first n pixels of a block of any code.
 use block::copied_vector;
 use motion::Vector;
-use motion::raster_index;
 use paint::copy_back;
 use paint::copy_front;
 use paint::paint_cells;
 use paint::paint_dither;
 use paint::paint_pattern;
-use paint::put;
 use pattern::Form;
 use pattern::form_of_7;
 use pattern::form_of_8;
 use pattern::form_of_9;
 use pattern::form_of_a;
-use pixel::fetch;
-use pixel::source_of;
 ghost use mathlib.Core.Path.{_≡_};
 ghost use Prim.Native.Nat.{_≤_, _<_};
 ghost use lib.ListN.{length};
@@ -29,9 +25,18 @@ ghost use Rattle.paint_block.specs.Value.{blockPlan};
 ghost use Rattle.paint_block.specs.Asked.{Canvas, Pointed, Drawable};
 
 // A copy of the 8x8 of front that v points at.
-fn copy_front_by(v: Vector, front: &[u8], back: &mut [u8], w: usize, h: usize, x: usize, y: usize)
-    requires { ⌜ Pointed v w h x y × Canvas w h x y (length (now front)) (length (now back)) ⌝ }
-    ensures { λ _. ⌜ now (back .exit) ≡ firstPixels (single (rasterIndex w x y) (fixedValue (copiedIndex v w x y) (now (front .entry)))) 0 (now (back .entry)) 64 ⌝ }
+fn copy_front_by(
+    v: Vector,
+    front: &[u8],
+    back: &mut [u8],
+    w: usize,
+    h: usize,
+    x: usize,
+    y: usize,
+    n: usize,
+)
+    requires { ⌜ Pointed v w h x y × Canvas w h x y (length (now front)) (length (now back)) × (n ≤ 64) ⌝ }
+    ensures { λ _. ⌜ now (back .exit) ≡ firstPixels (single (rasterIndex w x y) (fixedValue (copiedIndex v w x y) (now (front .entry)))) 0 (now (back .entry)) n ⌝ }
 {
     copy_front(
         front,
@@ -41,95 +46,20 @@ fn copy_front_by(v: Vector, front: &[u8], back: &mut [u8], w: usize, h: usize, x
         y + v.down - v.up,
         x,
         y,
+        n,
     )
 }
 
 // A copy of the 8x8 of back that v points at.
-fn copy_back_by(v: Vector, back: &mut [u8], w: usize, h: usize, x: usize, y: usize)
-    requires { ⌜ Pointed v w h x y × Canvas w h x y (length (now back)) (length (now back)) ⌝ }
-    ensures { λ _. ⌜ now (back .exit) ≡ firstPixels (single (rasterIndex w x y) (backValue (copiedIndex v w x y))) 0 (now (back .entry)) 64 ⌝ }
+fn copy_back_by(v: Vector, back: &mut [u8], w: usize, h: usize, x: usize, y: usize, n: usize)
+    requires { ⌜ Pointed v w h x y × Canvas w h x y (length (now back)) (length (now back)) × (n ≤ 64) ⌝ }
+    ensures { λ _. ⌜ now (back .exit) ≡ firstPixels (single (rasterIndex w x y) (backValue (copiedIndex v w x y))) 0 (now (back .entry)) n ⌝ }
 {
-    copy_back(back, w, x + v.right - v.left, y + v.down - v.up, x, y)
+    copy_back(back, w, x + v.right - v.left, y + v.down - v.up, x, y, n)
 }
 
-// A block of code 2 to 5: a branch with two ways, since four are mispredicted more often.
+// A block of code 2 to 5.
 fn copy_by(
-    code: u8,
-    s: &[u8],
-    front: &[u8],
-    back: &mut [u8],
-    w: usize,
-    h: usize,
-    x: usize,
-    y: usize,
-)
-    requires { ⌜ Drawable code (now s) w h x y 64 × Canvas w h x y (length (now front)) (length (now back)) × (1 < code) × (code < 6) ⌝ }
-    ensures { λ _. ⌜ now (back .exit) ≡ firstPixels (blockPlan (kindOf code (now (s .entry))) (now (s .entry)) w x y (now (front .entry))) 0 (now (back .entry)) 64 ⌝ }
-{
-    let v = copied_vector(code, s);
-    if code < 4 {
-        return copy_back_by(v, back, w, h, x, y);
-    }
-    copy_front_by(v, front, back, w, h, x, y)
-}
-
-// A patterned block. The numbers of each form are literals, so that each form has a loop of its own.
-fn paint_form(form: Form, s: &[u8], back: &mut [u8], w: usize, x: usize, y: usize)
-    requires { ⌜ (patternLength (shape form) ≤ length (now s)) × Square w x y (length (now back)) ⌝ }
-    ensures { λ _. ⌜ now (back .exit) ≡ firstPixels (single (rasterIndex w x y) (fixedValue (patternSource (shape form) (now (s .entry))) (now (s .entry)))) 0 (now (back .entry)) 64 ⌝ }
-{
-    match form {
-        Form::Two1x1 => paint_pattern(1, 8, 8, 1, 1, s, back, w, x, y),
-        Form::Two2x2 => paint_pattern(1, 8, 8, 2, 2, s, back, w, x, y),
-        Form::TwoQuarters => paint_pattern(1, 4, 4, 1, 1, s, back, w, x, y),
-        Form::TwoLeftRight => paint_pattern(1, 4, 8, 1, 1, s, back, w, x, y),
-        Form::TwoTopBottom => paint_pattern(1, 8, 4, 1, 1, s, back, w, x, y),
-        Form::Four1x1 => paint_pattern(2, 8, 8, 1, 1, s, back, w, x, y),
-        Form::Four2x2 => paint_pattern(2, 8, 8, 2, 2, s, back, w, x, y),
-        Form::Four2x1 => paint_pattern(2, 8, 8, 2, 1, s, back, w, x, y),
-        Form::Four1x2 => paint_pattern(2, 8, 8, 1, 2, s, back, w, x, y),
-        Form::FourQuarters => paint_pattern(2, 4, 4, 1, 1, s, back, w, x, y),
-        Form::FourLeftRight => paint_pattern(2, 4, 8, 1, 1, s, back, w, x, y),
-        Form::FourTopBottom => paint_pattern(2, 8, 4, 1, 1, s, back, w, x, y),
-    }
-}
-
-// All 64 pixels of the block at x, y, whose data is s. Code 1 is not met here: it stores no pixel.
-fn paint_whole(
-    code: u8,
-    s: &[u8],
-    front: &[u8],
-    back: &mut [u8],
-    w: usize,
-    h: usize,
-    x: usize,
-    y: usize,
-)
-    requires { ⌜ Drawable code (now s) w h x y 64 × Canvas w h x y (length (now front)) (length (now back)) ⌝ }
-    ensures { λ _. ⌜ now (back .exit) ≡ firstPixels (blockPlan (kindOf code (now (s .entry))) (now (s .entry)) w x y (now (front .entry))) 0 (now (back .entry)) 64 ⌝ }
-{
-    if code < 2 {
-        return copy_front(front, back, w, x, y, x, y);
-    }
-    if code < 6 {
-        return copy_by(code, s, front, back, w, h, x, y);
-    }
-    match code {
-        7 => paint_form(form_of_7(s), s, back, w, x, y),
-        8 => paint_form(form_of_8(s), s, back, w, x, y),
-        9 => paint_form(form_of_9(s), s, back, w, x, y),
-        10 => paint_form(form_of_a(s), s, back, w, x, y),
-        11 => paint_cells(1, s, back, w, x, y),
-        12 => paint_cells(2, s, back, w, x, y),
-        13 => paint_cells(4, s, back, w, x, y),
-        14 => paint_cells(8, s, back, w, x, y),
-        15 => paint_dither(s, back, w, x, y),
-        _ => {}
-    }
-}
-
-// The first n pixels, each read where its source is: of the block in which a call stops, and none of code 1.
-fn paint_part(
     code: u8,
     s: &[u8],
     front: &[u8],
@@ -140,14 +70,34 @@ fn paint_part(
     y: usize,
     n: usize,
 )
-    requires { ⌜ Drawable code (now s) w h x y n × Canvas w h x y (length (now front)) (length (now back)) ⌝ }
+    requires { ⌜ Drawable code (now s) w h x y n × Canvas w h x y (length (now front)) (length (now back)) × (1 < code) × (code < 6) ⌝ }
     ensures { λ _. ⌜ now (back .exit) ≡ firstPixels (blockPlan (kindOf code (now (s .entry))) (now (s .entry)) w x y (now (front .entry))) 0 (now (back .entry)) n ⌝ }
 {
-    let mut i = 0;
-    while i < n {
-        let v = fetch(source_of(code, s, w, h, x, y, i), s, front, &back[..]);
-        put(back, raster_index(w, x, y, i), v);
-        i += 1;
+    let v = copied_vector(code, s);
+    if code < 4 {
+        return copy_back_by(v, back, w, h, x, y, n);
+    }
+    copy_front_by(v, front, back, w, h, x, y, n)
+}
+
+// A patterned block.
+fn paint_form(form: Form, s: &[u8], back: &mut [u8], w: usize, x: usize, y: usize, n: usize)
+    requires { ⌜ (patternLength (shape form) ≤ length (now s)) × Square w x y (length (now back)) × (n ≤ 64) ⌝ }
+    ensures { λ _. ⌜ now (back .exit) ≡ firstPixels (single (rasterIndex w x y) (fixedValue (patternSource (shape form) (now (s .entry))) (now (s .entry)))) 0 (now (back .entry)) n ⌝ }
+{
+    match form {
+        Form::Two1x1 => paint_pattern(1, 8, 8, 1, 1, s, back, w, x, y, n),
+        Form::Two2x2 => paint_pattern(1, 8, 8, 2, 2, s, back, w, x, y, n),
+        Form::TwoQuarters => paint_pattern(1, 4, 4, 1, 1, s, back, w, x, y, n),
+        Form::TwoLeftRight => paint_pattern(1, 4, 8, 1, 1, s, back, w, x, y, n),
+        Form::TwoTopBottom => paint_pattern(1, 8, 4, 1, 1, s, back, w, x, y, n),
+        Form::Four1x1 => paint_pattern(2, 8, 8, 1, 1, s, back, w, x, y, n),
+        Form::Four2x2 => paint_pattern(2, 8, 8, 2, 2, s, back, w, x, y, n),
+        Form::Four2x1 => paint_pattern(2, 8, 8, 2, 1, s, back, w, x, y, n),
+        Form::Four1x2 => paint_pattern(2, 8, 8, 1, 2, s, back, w, x, y, n),
+        Form::FourQuarters => paint_pattern(2, 4, 4, 1, 1, s, back, w, x, y, n),
+        Form::FourLeftRight => paint_pattern(2, 4, 8, 1, 1, s, back, w, x, y, n),
+        Form::FourTopBottom => paint_pattern(2, 8, 4, 1, 1, s, back, w, x, y, n),
     }
 }
 
@@ -166,9 +116,22 @@ pub fn paint_block(
     requires { ⌜ Drawable code (now s) w h x y n × Canvas w h x y (length (now front)) (length (now back)) ⌝ }
     ensures { λ _. ⌜ now (back .exit) ≡ firstPixels (blockPlan (kindOf code (now (s .entry))) (now (s .entry)) w x y (now (front .entry))) 0 (now (back .entry)) n ⌝ }
 {
-    if n < 64 {
-        paint_part(code, s, front, back, w, h, x, y, n);
-        return;
+    if code < 2 {
+        return copy_front(front, back, w, x, y, x, y, n);
     }
-    paint_whole(code, s, front, back, w, h, x, y)
+    if code < 6 {
+        return copy_by(code, s, front, back, w, h, x, y, n);
+    }
+    match code {
+        7 => paint_form(form_of_7(s), s, back, w, x, y, n),
+        8 => paint_form(form_of_8(s), s, back, w, x, y, n),
+        9 => paint_form(form_of_9(s), s, back, w, x, y, n),
+        10 => paint_form(form_of_a(s), s, back, w, x, y, n),
+        11 => paint_cells(1, s, back, w, x, y, n),
+        12 => paint_cells(2, s, back, w, x, y, n),
+        13 => paint_cells(4, s, back, w, x, y, n),
+        14 => paint_cells(8, s, back, w, x, y, n),
+        15 => paint_dither(s, back, w, x, y, n),
+        _ => {}
+    }
 }

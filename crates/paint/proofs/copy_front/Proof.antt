@@ -1,40 +1,53 @@
-use Prim.Native.Nat.{_-_}
+use Prim.Native.Nat.{_<_, _-_}
 use native.Mathlib.Omega.{arith}
-use Rattle.paint.proofs.Painting.{Rows, rows-start, rows-room, rows-more, rows-end, rows-length, square-kept}
+use Rattle.paint.proofs.Painting.{Painting, painting-start, painting-more, painting-end, painting-length, square-inside, square-below}
 use Rattle.motion.specs.Motion.{rasterIndex}
 use Rattle.paint.specs.Paint.{single, fixedValue}
+use Rattle.paint.proofs.Painting.{fixed-is}
+use borrow.Author.Needs.{needs}
+use Rattle.paint.specs.Paint.{fixedValue}
 use Rattle.paint.proofs.copy_front.Statement.{statement}
 use Rattle.paint.proofs.copy_front.Tie as tie
 use Rattle.paint.proofs.copy_front.Reads as reads
 use Rattle.paint.proofs.copy_front.Lts as lts
-use Rattle.paint.proofs.copy_front_row.Reads as copy-front-row-reads
+use Rattle.motion.proofs.raster_index.Reads as raster-index-reads
+use Rattle.paint.proofs.put.Reads as put-reads
 
 abbrev Inv-loop : tie.InvT-loop
-Inv-loop front back₀ w sx sy x y p₀ back p = Rows (single (rasterIndex w x y) (fixedValue (rasterIndex w sx sy) front)) back₀ back p
+Inv-loop front back₀ w sx sy x y n i₀ back i = Painting (single (rasterIndex w x y) (fixedValue (rasterIndex w sx sy) front)) back₀ n back i
 
 abbrev μ-loop : tie.MeasureT-loop
-μ-loop front back₀ w sx sy x y p₀ back p = 64 - p
+μ-loop front back₀ w sx sy x y n i₀ back i = n - i
 
 loop-holds : tie.Need-loop-holds Inv-loop μ-loop
-loop-holds c = rows-start _ _
+loop-holds c = painting-start _ _ _
 
-copy-front-row-requires : tie.Need-copy-front-row-requires Inv-loop μ-loop
-copy-front-row-requires c κs = (c .before .before .before .before .before .pre .0, square-kept (c .before .before .before .before .before .pre .1) (rows-length _ _ _ _ (c .before .before .loop .inv)), rows-room _ _ _ _ (c .before .before .loop .inv) (c .before .loop-test .taken))
+raster-index-requires : tie.Need-raster-index-requires Inv-loop μ-loop
+raster-index-requires c κs = square-inside _ _ _ _ _ (c .before .before .before .before .pre .0) (let h : c .before .loop .i < 64 = omega (arith, c .loop-test .taken, c .before .before .before .before .pre .2) in h)
 
-add-p : tie.Need-add-p Inv-loop μ-loop
-add-p c = omega (arith, c .before .before .before .before .loop-test .taken)
+shared-slice-read-v : tie.Need-shared-slice-read-v Inv-loop μ-loop
+shared-slice-read-v c = square-below _ _ _ _ _ (c .before .before .before .before .before .before .pre .0) (let h : c .before .before .before .loop .i < 64 = omega (arith, c .before .before .loop-test .taken, c .before .before .before .before .before .before .pre .2) in h) _ (c .before .raster-index .ensures)
+
+raster-index-requires-2 : tie.Need-raster-index-requires-2 Inv-loop μ-loop
+raster-index-requires-2 c κs = square-inside _ _ _ _ _ (c .before .before .before .before .before .before .before .pre .1) (let h : c .before .before .before .before .loop .i < 64 = omega (arith, c .before .before .before .loop-test .taken, c .before .before .before .before .before .before .before .pre .2) in h)
+
+put-requires : tie.Need-put-requires Inv-loop μ-loop
+put-requires c κs = let q = square-below _ _ _ _ _ (c .before .before .before .before .before .before .before .before .pre .1) (let h : c .before .before .before .before .before .loop .i < 64 = omega (arith, c .before .before .before .before .loop-test .taken, c .before .before .before .before .before .before .before .before .pre .2) in h) _ (c .raster-index2 .ensures) in omega (arith, q, painting-length _ _ _ _ _ (c .before .before .before .before .before .loop .inv))
+
+add-i : tie.Need-add-i Inv-loop μ-loop
+add-i c = omega (arith, c .before .before .before .before .before .before .before .before .before .before .before .pre .2, c .before .before .before .before .before .before .before .loop-test .taken)
 
 loop-less : tie.Need-loop-less Inv-loop μ-loop
-loop-less c = omega (arith, c .before .before .before .before .loop-test .taken)
+loop-less c = omega (arith, c .before .before .before .before .before .before .before .loop-test .taken)
 
 loop-again : tie.Need-loop-again Inv-loop μ-loop
-loop-again c = rows-more _ _ _ _ (c .before .before .before .before .before .loop .inv) (c .before .before .before .before .loop-test .taken) _ (c .before .before .copy-front-row .ensures)
+loop-again c = painting-more _ _ _ _ _ (c .before .before .before .before .before .before .before .before .loop .inv) (c .before .before .before .before .before .before .before .loop-test .taken) _ _ _ (c .before .before .before .raster-index2 .ensures) (fixed-is _ _ _ _ _ (c .before .before .before .before .before .before .raster-index .ensures)) (c .before .before .put .ensures)
 
 same-length : tie.Need-same-length Inv-loop μ-loop
-same-length c = rows-length _ _ _ _ (c .before .loop .inv)
+same-length c = painting-length _ _ _ _ _ (c .before .loop .inv)
 
 returns : tie.Need-returns Inv-loop μ-loop
-returns c = rows-end _ _ _ _ (c .before .loop .inv) (c .loop-test .left)
+returns c = painting-end _ _ _ _ _ (c .before .loop .inv) (c .loop-test .left)
 
 pub copy-front-spec : {M : Type 1} → statement M
 copy-front-spec =
@@ -43,8 +56,11 @@ copy-front-spec =
     Inv-loop
     μ-loop
     loop-holds
-    copy-front-row-requires
-    add-p
+    raster-index-requires
+    shared-slice-read-v
+    raster-index-requires-2
+    put-requires
+    add-i
     loop-less
     loop-again
     same-length

@@ -1,51 +1,55 @@
-use mathlib.Core.Path.{_≡_}
-use Prim.Native.Nat.{_-_}
+use Prim.Native.Nat.{_<_, _-_}
 use native.Mathlib.Omega.{arith}
-use Rattle.paint.proofs.Painting.{Rows, rows-start, rows-room, rows-more, rows-end, rows-length, square-kept, cell-row}
+use Rattle.paint.proofs.Painting.{Painting, painting-start, painting-more, painting-end, painting-length, square-inside, square-below}
 use Rattle.motion.specs.Motion.{rasterIndex}
 use Rattle.block.specs.Block.{cellSource}
 use Rattle.paint.specs.Paint.{single, fixedValue}
+use Rattle.paint.proofs.Painting.{fixed-is, cell-inside}
+use borrow.Author.Needs.{needs}
+use Rattle.paint.specs.Paint.{fixedValue}
 use Rattle.paint.proofs.paint_cells.Statement.{statement}
 use Rattle.paint.proofs.paint_cells.Tie as tie
 use Rattle.paint.proofs.paint_cells.Reads as reads
 use Rattle.paint.proofs.paint_cells.Lts as lts
-use Rattle.paint.proofs.cells_row.Reads as cells-row-reads
+use Rattle.block.proofs.cell_source.Reads as cell-source-reads
+use Rattle.motion.proofs.raster_index.Reads as raster-index-reads
+use Rattle.paint.proofs.put.Reads as put-reads
 
 abbrev Inv-loop : tie.InvT-loop
-Inv-loop side s back₀ w x y n p₀ back p = (n ≡ 64) × Rows (single (rasterIndex w x y) (fixedValue (cellSource side) s)) back₀ back p
+Inv-loop side s back₀ w x y n i₀ back i = Painting (single (rasterIndex w x y) (fixedValue (cellSource side) s)) back₀ n back i
 
 abbrev μ-loop : tie.MeasureT-loop
-μ-loop side s back₀ w x y n p₀ back p = 64 - p
-
-div-n : tie.Need-div-n Inv-loop μ-loop
-div-n c = let k = cell-row (c .before .before .pre .0) in omega (arith, k .some)
-
-mul-n : tie.Need-mul-n Inv-loop μ-loop
-mul-n c = let k = cell-row (c .before .before .pre .0) in omega (arith, k .row)
-
-mul-n-2 : tie.Need-mul-n-2 Inv-loop μ-loop
-mul-n-2 c = let k = cell-row (c .before .before .pre .0) in omega (arith, k .row)
+μ-loop side s back₀ w x y n i₀ back i = n - i
 
 loop-holds : tie.Need-loop-holds Inv-loop μ-loop
-loop-holds c = (let k = cell-row (c .before .before .pre .0) in omega (arith, k .row), rows-start _ _)
+loop-holds c = painting-start _ _ _
 
-cells-row-requires : tie.Need-cells-row-requires Inv-loop μ-loop
-cells-row-requires c κs = (c .before .before .before .before .before .pre .0, c .before .before .before .before .before .pre .1, square-kept (c .before .before .before .before .before .pre .2) (rows-length _ _ _ _ (c .before .before .loop .inv .1)), rows-room _ _ _ _ (c .before .before .loop .inv .1) (omega (arith, c .before .loop-test .taken, c .before .before .loop .inv .0)))
+cell-source-requires : tie.Need-cell-source-requires Inv-loop μ-loop
+cell-source-requires c κs = (c .before .before .before .before .pre .0, (let h : c .before .loop .i < 64 = omega (arith, c .loop-test .taken, c .before .before .before .before .pre .3) in h))
 
-add-p : tie.Need-add-p Inv-loop μ-loop
-add-p c = omega (arith, c .before .before .before .before .loop-test .taken, c .before .before .before .before .before .loop .inv .0)
+shared-slice-read-v : tie.Need-shared-slice-read-v Inv-loop μ-loop
+shared-slice-read-v c = cell-inside _ _ _ _ (c .before .before .before .before .before .before .pre .0) (let h : c .before .before .before .loop .i < 64 = omega (arith, c .before .before .loop-test .taken, c .before .before .before .before .before .before .pre .3) in h) (c .before .before .before .before .before .before .pre .1) (c .before .cell-source .ensures)
+
+raster-index-requires : tie.Need-raster-index-requires Inv-loop μ-loop
+raster-index-requires c κs = square-inside _ _ _ _ _ (c .before .before .before .before .before .before .before .pre .2) (let h : c .before .before .before .before .loop .i < 64 = omega (arith, c .before .before .before .loop-test .taken, c .before .before .before .before .before .before .before .pre .3) in h)
+
+put-requires : tie.Need-put-requires Inv-loop μ-loop
+put-requires c κs = let q = square-below _ _ _ _ _ (c .before .before .before .before .before .before .before .before .pre .2) (let h : c .before .before .before .before .before .loop .i < 64 = omega (arith, c .before .before .before .before .loop-test .taken, c .before .before .before .before .before .before .before .before .pre .3) in h) _ (c .raster-index .ensures) in omega (arith, q, painting-length _ _ _ _ _ (c .before .before .before .before .before .loop .inv))
+
+add-i : tie.Need-add-i Inv-loop μ-loop
+add-i c = omega (arith, c .before .before .before .before .before .before .before .before .before .before .before .pre .3, c .before .before .before .before .before .before .before .loop-test .taken)
 
 loop-less : tie.Need-loop-less Inv-loop μ-loop
-loop-less c = omega (arith, c .before .before .before .before .loop-test .taken, c .before .before .before .before .before .loop .inv .0)
+loop-less c = omega (arith, c .before .before .before .before .before .before .before .loop-test .taken)
 
 loop-again : tie.Need-loop-again Inv-loop μ-loop
-loop-again c = (c .before .before .before .before .before .loop .inv .0, rows-more _ _ _ _ (c .before .before .before .before .before .loop .inv .1) (omega (arith, c .before .before .before .before .loop-test .taken, c .before .before .before .before .before .loop .inv .0)) _ (c .before .before .cells-row .ensures))
+loop-again c = painting-more _ _ _ _ _ (c .before .before .before .before .before .before .before .before .loop .inv) (c .before .before .before .before .before .before .before .loop-test .taken) _ _ _ (c .before .before .before .raster-index .ensures) (fixed-is _ _ _ _ _ (c .before .before .before .before .before .before .cell-source .ensures)) (c .before .before .put .ensures)
 
 same-length : tie.Need-same-length Inv-loop μ-loop
-same-length c = rows-length _ _ _ _ (c .before .loop .inv .1)
+same-length c = painting-length _ _ _ _ _ (c .before .loop .inv)
 
 returns : tie.Need-returns Inv-loop μ-loop
-returns c = rows-end _ _ _ _ (c .before .loop .inv .1) (omega (arith, c .loop-test .left, c .before .loop .inv .0))
+returns c = painting-end _ _ _ _ _ (c .before .loop .inv) (c .loop-test .left)
 
 pub paint-cells-spec : {M : Type 1} → statement M
 paint-cells-spec =
@@ -53,12 +57,12 @@ paint-cells-spec =
     (tie.spec
     Inv-loop
     μ-loop
-    div-n
-    mul-n
-    mul-n-2
     loop-holds
-    cells-row-requires
-    add-p
+    cell-source-requires
+    shared-slice-read-v
+    raster-index-requires
+    put-requires
+    add-i
     loop-less
     loop-again
     same-length

@@ -19,7 +19,7 @@ sub-copy-back-2 : tie.Need-sub-copy-back-2
 sub-copy-back-2 c = starts _ _ _ _ _ _ (c .before .before .before .before .before .before .pre .1) _ (c .before .before .before .before .before .before .pre .0) .1
 
 copy-back-requires : tie.Need-copy-back-requires
-copy-back-requires c κs = (pointed-front _ _ _ _ _ _ (c .before .before .before .before .before .before .pre .1) _ (c .before .before .before .before .before .before .pre .0), back-square _ _ _ _ _ _ (c .before .before .before .before .before .before .pre .1))
+copy-back-requires c κs = (pointed-front _ _ _ _ _ _ (c .before .before .before .before .before .before .pre .1) _ (c .before .before .before .before .before .before .pre .0), back-square _ _ _ _ _ _ (c .before .before .before .before .before .before .pre .1), c .before .before .before .before .before .before .pre .2)
 
 same-length : tie.Need-same-length
 same-length c = search needs

@@ -1,5 +1,5 @@
 use native.Mathlib.Omega.{arith}
-use Rattle.paint_block.proofs.Families.{copy-pointed, back-canvas, paints-back, paints-front}
+use Rattle.paint_block.proofs.Families.{few, copy-pointed, back-canvas, paints-back, paints-front}
 use borrow.Author.Needs.{needs}
 use Rattle.paint_block.proofs.copy_by.Statement.{statement}
 use Rattle.paint_block.proofs.copy_by.Tie as tie
@@ -13,7 +13,7 @@ copied-vector-requires : tie.Need-copied-vector-requires
 copied-vector-requires c κs = (c .before .before .before .pre .2, c .before .before .before .pre .3)
 
 copy-back-by-requires : tie.Need-copy-back-by-requires
-copy-back-by-requires c κs = (copy-pointed _ _ _ _ _ _ _ (c .before .before .before .before .before .before .pre .0) _ (c .before .before .before .before .before .before .pre .2) (c .before .before .before .before .before .before .pre .3) (c .before .before .copied-vector .ensures .0) (c .before .before .copied-vector .ensures .1), back-canvas _ _ _ _ _ _ (c .before .before .before .before .before .before .pre .1))
+copy-back-by-requires c κs = (copy-pointed _ _ _ _ _ _ _ (c .before .before .before .before .before .before .pre .0) _ (c .before .before .before .before .before .before .pre .2) (c .before .before .before .before .before .before .pre .3) (c .before .before .copied-vector .ensures .0) (c .before .before .copied-vector .ensures .1), back-canvas _ _ _ _ _ _ (c .before .before .before .before .before .before .pre .1), few _ _ _ _ _ _ _ (c .before .before .before .before .before .before .pre .0))
 
 same-length : tie.Need-same-length
 same-length c = search needs
@@ -22,7 +22,7 @@ returns : tie.Need-returns
 returns c = paints-back _ _ _ _ _ _ _ _ _ _ (c .before .before .before .before .before .before .before .before .before .pre .2) (c .before .before .before .before .if1 .taken) (c .before .before .before .before .before .copied-vector .ensures .0) (c .before .before .copy-back-by .ensures)
 
 copy-front-by-requires : tie.Need-copy-front-by-requires
-copy-front-by-requires c κs = (copy-pointed _ _ _ _ _ _ _ (c .before .before .before .before .before .before .pre .0) _ (c .before .before .before .before .before .before .pre .2) (c .before .before .before .before .before .before .pre .3) (c .before .before .copied-vector .ensures .0) (c .before .before .copied-vector .ensures .1), c .before .before .before .before .before .before .pre .1)
+copy-front-by-requires c κs = (copy-pointed _ _ _ _ _ _ _ (c .before .before .before .before .before .before .pre .0) _ (c .before .before .before .before .before .before .pre .2) (c .before .before .before .before .before .before .pre .3) (c .before .before .copied-vector .ensures .0) (c .before .before .copied-vector .ensures .1), c .before .before .before .before .before .before .pre .1, few _ _ _ _ _ _ _ (c .before .before .before .before .before .before .pre .0))
 
 same-length-2 : tie.Need-same-length-2
 same-length-2 c = search needs
