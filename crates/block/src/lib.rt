@@ -43,7 +43,7 @@ fn choose(test: bool, a: usize, b: usize) -> usize
     b
 }
 
-// The data bytes of a block of any code but 7 to A, which are not met here; with them the match is a dense table of constants, without a branch.
+// The data bytes of a block of any code but 7 to A, which are not met here; with them the match is dense, so that the compiler may make it a table.
 fn fixed_length(code: u8, s: &[u8]) -> usize
     requires { ⌜ (code < 16) × Fixed code ⌝ }
     ensures { λ r. ⌜ r ≡ dataLength (kindOf code (now (s .entry))) ⌝ }

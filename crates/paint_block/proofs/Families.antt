@@ -87,7 +87,7 @@ pub form-painted : (f g : Form) (q : Shape) (target : ℕ → ℕ) (s b b′ : L
 form-painted f g q target s b b′ n e k h =
     subst (λ (x : Shape). b′ ≡ firstPixels (single target (fixedValue (patternSource x s) s)) 0 b n) (sym (ap shape e ∙ k)) h
 
--- ---- what each kind asks
+-- ---- how many pixels a code stores
 
 Counted : List ℕ → ℕ → Type 0
 Counted s c = (c ≡ 1 → ⊥) → 64 ≡ pixelCount (kindOf c s)
@@ -114,6 +114,8 @@ count-few (patterned f) = omega arith
 count-few (celled c) = omega arith
 count-few dithered = omega arith
 count-few refused = omega arith
+
+-- ---- what each kind asks
 
 module _ (code : ℕ) (s : List ℕ) (w h x y n : ℕ) (d : Drawable code s w h x y n) where
   pub few : n ≤ 64

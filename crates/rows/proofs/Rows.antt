@@ -14,7 +14,6 @@ use Rattle.paint.proofs.Painting.{Painting, painting-start, painting-end, paint
 use Rattle.rows.specs.Row.{fromPixel}
 
 -- p is the first pixel of a row
-
 pub record Rows (d : Plan) (b₀ : List ℕ) (b : List ℕ) (p : ℕ) : Type 0 where
   pub whole : p % 8 ≡ 0
   pub painting : Painting d b₀ 64 b p
@@ -46,7 +45,7 @@ module _ (d : Plan) (b₀ b : List ℕ) (p : ℕ) (r : Rows d b₀ b p) where
 pub in-row : (p j : ℕ) → p ≤ 56 → j < 8 → p + j < 64
 in-row p j h l = omega arith
 
--- it stands in every picture of that length
+-- an 8x8 stands in every picture of the same length
 pub square-kept : {w x y long long′ : ℕ} → Square w x y long → long′ ≡ long → Square w x y long′
 square-kept {w} {x} {y} q e = subst (Square w x y) (sym e) q
 
