@@ -1,38 +1,37 @@
 -- Demand 3 of the drawing call: `demand-3`. The theorem about any drawing (`as-booked` of the crate `stores`) at the drawing of an accepted packet,
--- which is lawful (proofs/Lawful). Its hypotheses: an accepted packet with its map and size and pictures long enough (`Given`), and that along the list
--- only refused calls bring another packet, map, size or shown picture (`OnlyRefusedDiffer`).
+-- which is lawful (proofs/Lawful). Its hypotheses: an accepted packet with its map and size and pictures long enough (`Given`), that along the list
+-- only refused calls bring another packet, map, size or shown picture (`OnlyRefusedDiffer`), and that each cut point is one of its call (`CutsWithin`).
 -- Assumes nothing.
-use mathlib.Core.Path.{_≡_, refl, sym, ap, _∙_, subst}
+use mathlib.Core.Path.{_≡_, refl, sym, _∙_}
 use mathlib.Core.Logic.{_⊎_}
 use mathlib.Core.List.{List, [], _∷_}
-use Prim.Native.Nat.{ℕ, suc, _+_, _*_, _/_, _≤_, _<_}
+use Prim.Native.Nat.{ℕ, _+_, _*_, _/_, _≤_, _<_}
 use native.Mathlib.Omega.{arith}
-use lib.ListN.{length, getD}
+use lib.ListN.{length}
 use Rattle.refusal.specs.Number.{Verdict, accept, refuse}
-use Rattle.packet.specs.Packet.{Packet, blocks, width, height}
+use Rattle.packet.specs.Packet.{blocks, width, height, kind}
 use Rattle.packet.specs.Verdict.{sized}
-use Rattle.packet.specs.Accepted.{Accepts}
 use Rattle.packet.specs.Asked.{Sized}
 use Rattle.packet.proofs.Sizes.{is-size, is-sized}
-use Rattle.stores.specs.Stores.{Plan, Memory, memory, Off, after, Lawful}
-use Rattle.stores.specs.Calls.{Call, allowed, refused, Calling, leave, step, Each, Fair, AsBooked}
-use Rattle.stores.proofs.Recover.{after-off}
+use Rattle.stores.specs.Stores.{Memory, memory, Lawful}
+use Rattle.stores.specs.Calls.{allowed, whole, step, reply, Event, returns, cut, callOf, happens, Returning, CutWithin, Each, Fair, AsBooked}
 use Rattle.stores.proofs.Calls.{as-booked}
 use Rattle.paint_block.proofs.Families.{count-few}
-use Rattle.packet.specs.Packet.{kind}
-use Rattle.draw.specs.Drawing.{sizeAt, targetAt, plan}
-use Rattle.draw.specs.Call.{Request, packetOf, drawVerdict, Reason, reason, comes, calling}
-use Rattle.draw.specs.Asked.{Accepted}
-use Rattle.draw.proofs.Judged.{area, accepted-call}
-use Rattle.book.specs.Demand.{Same, OnlyRefusedDiffer, Given, Demand3}
-use Rattle.book.proofs.Lawful.{few, inside, plan-lawful}
+use Rattle.draw.specs.Drawing.{sizeAt, plan}
+use Rattle.draw.specs.Call.{Request, packetOf, drawVerdict, comes, calling}
+use Rattle.draw.specs.Taken.{DrawAccepts}
+use Rattle.draw.proofs.Judged.{area}
+use Rattle.draw.proofs.Exactly.{drawn-exactly}
+use Rattle.book.specs.Demand.{Same, OnlyRefusedDiffer, CutsWithin, Given, Demand3}
+use Rattle.book.proofs.Lawful.{plan-lawful}
 
 -- ---- lists
 
-each-as : (P Q : Memory → Request → Type 0) → ((m : Memory) (r : Request) → P m r → Q m r) → (m : Memory) (cs : List Request) → Each calling P m cs → Each calling Q m cs
+each-as : (P Q R : Memory → Event Request → Type 0) → ((m : Memory) (e : Event Request) → P m e → Q m e → R m e) → (m : Memory) (es : List (Event Request))
+    → Each calling P m es → Each calling Q m es → Each calling R m es
 unfolding Each
-each-as P Q f m [] e = tt
-each-as P Q f m (c ∷ cs) e = (f m c (e .0), each-as P Q f (step calling m c) cs (e .1))
+each-as P Q R f m [] p q = tt
+each-as P Q R f m (e ∷ es) p q = (f m e (p .0) (q .0), each-as P Q R f (happens calling m e) es (p .1) (q .1))
 
 -- ---- calls
 
@@ -52,9 +51,11 @@ same-plan w w′ h h′ m m′ b b′ f f′ p q r s t = rw (p, q, r, s, t) refl
 plan-same : (r c : Request) → Same r c → plan (packetOf r) (r .front) ≡ plan (packetOf c) (c .front)
 plan-same r c s = same-plan _ _ _ _ _ _ _ _ _ _ (s .width) (s .height) (s .map) (s .bytes) (s .front)
 
-fair : (c : Request) (m : Memory) (cs : List Request) → OnlyRefusedDiffer c m cs → Fair calling (plan (packetOf c) (c .front)) m cs
+fair : (c : Request) (m : Memory) (es : List (Event Request)) → OnlyRefusedDiffer c m es → CutsWithin m es
+    → Fair calling (plan (packetOf c) (c .front)) m es
 unfolding OnlyRefusedDiffer Fair
-fair c m cs o = each-as _ _ (λ m r f n e. plan-same r c (f (comes-back (drawVerdict r m) (r .allowed) n e))) m cs o
+fair c m es o w =
+    each-as _ _ _ (λ m e f g. (λ n q. plan-same (callOf e) c (f (comes-back (drawVerdict (callOf e) m) (callOf e .allowed) n q)), g)) m es o w
 
 -- ---- the packet
 
@@ -72,32 +73,32 @@ module _ (c : Request) (first : List ℕ) (g : Given c first) where
   unfolding sizeAt
   at-most-64 k h = count-few (kind (packetOf c) k)
 
-  off-beyond : (t : ℕ) → c .width * c .height ≤ t → (k : ℕ) → k < blocks (packetOf c) → Off (plan (packetOf c) (c .front)) k t
-  off-beyond t h k hk j hj e = omega (arith, inside (packetOf c) is k j hk (few (packetOf c) is k j hj), long, e)
+  -- a call that brings what c brings, at a place that is not too high, on a picture that is as long as the first
+  takes : (m : Memory) (r : Request) → m .place ≤ blocks (packetOf c) → length (m .picture) ≡ length first → Same r c → drawVerdict r m ≡ accept
+  takes m r at l s =
+      rw (s .width, s .height, s .map, s .bytes, s .front)
+      (drawn-exactly (c .width) (c .height) (c .map) (c .bytes) (length (c .front)) (length (m .picture)) (m .place) .1
+      (record { accepted = g .accepted; front-long = g .front-long; back-long = rw l (g .back-long); within = at }))
 
-  -- a call leaves the bytes beyond the size as they were
-  keeps-beyond : (m : Memory) (r : Request) → (drawVerdict r m ≡ accept → Same r c) → (t : ℕ) → c .width * c .height ≤ t
-      → getD (step calling m r .picture) t 0 ≡ getD (m .picture) t 0
-  unfolding leave comes
-  keeps-beyond m r f t h = by (drawVerdict r m) refl
-    where
-      by : (v : Verdict) → drawVerdict r m ≡ v → getD (leave (plan (packetOf r) (r .front)) m (comes v (r .allowed)) .picture) t 0 ≡ getD (m .picture) t 0
-      by (refuse a k) e = refl
-      by accept e =
-          let q = plan-same r c (f e) in
-          let at : m .place ≤ blocks (packetOf c) =
-          subst (λ (d : Plan). m .place ≤ d .blocks) q
-          (accepted-call (r .width) (r .height) (r .map) (r .bytes) (length (r .front)) (length (m .picture)) (m .place) e .1 .at) in
-          subst (λ (d : Plan). getD (after d m (r .allowed) .picture) t 0 ≡ getD (m .picture) t 0) (sym q)
-          (after-off (plan (packetOf c) (c .front)) t (off-beyond t h) m (r .allowed) at)
+  abbrev Advances : Memory → Request → Type 0
+  Advances m r = (m .place < step calling m r .place) ⊎ (reply calling m r .answer ≡ whole)
 
-  pub demand-3 : (cs : List Request) → OnlyRefusedDiffer c (memory first 0) cs → Demand3 c first cs
+  -- an event of which `goes-on` of the book is known
+  goes-on : (m : Memory) (e : Event Request) → Returning (λ m r. (n : ℕ) → comes (drawVerdict r m) (r .allowed) ≡ allowed n → 64 < n → Advances m r) m e
+      → Returning (λ m r. drawVerdict r m ≡ accept → 65 ≤ r .allowed → Advances m r) m e
+  unfolding Returning
+  goes-on m (returns r) f = λ q l. f (r .allowed) (comes-on (drawVerdict r m) (r .allowed) q) (omega arith)
+  goes-on m (cut r j) f = tt
+
+  pub demand-3 : (es : List (Event Request)) → OnlyRefusedDiffer c (memory first 0) es → CutsWithin (memory first 0) es → Demand3 c first es
   unfolding OnlyRefusedDiffer
-  demand-3 cs o =
-      let b : AsBooked calling (plan (packetOf c) (c .front)) first cs = as-booked calling (plan (packetOf c) (c .front)) first lawful cs (fair c (memory first 0) cs o) in
+  demand-3 es o w =
+      let m = memory first 0 in
+      let b : AsBooked calling (plan (packetOf c) (c .front)) first es = as-booked calling (plan (packetOf c) (c .front)) first lawful es (fair c m es o w) in
       record {
         booked = b;
-        progress = each-as _ _ (λ m r f e l. f (r .allowed) (comes-on (drawVerdict r m) (r .allowed) e) (omega arith)) (memory first 0) cs (b .goes-on 64 at-most-64);
+        accepts = each-as _ _ _ (λ m e at l. takes m (callOf e) (at .0) (l .0)) m es (b .at-most) (b .keeps-length);
+        shown = each-as _ _ _ (λ m e f _. (refl, λ q. f q .front)) m es o o;
+        progress = each-as _ _ _ (λ m e f _. goes-on m e f) m es (b .goes-on 64 at-most-64) o;
         finishes = b .ends 64 at-most-64;
-        beyond = each-as _ _ keeps-beyond (memory first 0) cs o;
       }

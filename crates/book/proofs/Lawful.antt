@@ -25,6 +25,20 @@ use Rattle.stores.specs.Stores.{due, Off, Own, Lawful}
 use Rattle.stores.proofs.Steps.{due-few}
 use Rattle.draw.specs.Drawing.{sizeAt, targetAt, valueAt, plan}
 
+-- the 8x8 at x, y stands in a picture w by h, which is no larger than any
+pub record Framed (w h x y : ℕ) : Type 0 where
+  pub width : w ≤ 640
+  pub height : h ≤ 480
+  pub across : x + 8 ≤ w
+  pub down : y + 8 ≤ h
+
+-- so each of its pixels is one of the picture's
+pub raster-below : (w h x y i : ℕ) → Framed w h x y → i < 64 → rasterIndex w x y i < h * w
+raster-below w h x y i f hi =
+    square-below w x y (h * w) i
+    (record { width = f .width; across = f .across; down = omega (arith, f .down, f .height); room = mul-le-mul-right w (f .down) })
+    hi (rasterIndex w x y i) refl
+
 module _ (p : Packet) (z : Sized p) where
   some : 0 < p .columns
   some = omega (arith, z .some-columns)
@@ -63,18 +77,19 @@ module _ (p : Packet) (z : Sized p) where
       let q : k ≡ k′ = sym (target-block k i h) ∙ ap (blockOf (p .columns)) e ∙ target-block k′ i′ h′ in
       (q, same-pixel k i i′ h h′ (e ∙ ap (λ (n : ℕ). targetAt p n i′) (sym q)))
 
-  pub inside : (k i : ℕ) → k < blocks p → i < 64 → targetAt p k i < height p * width p
-  unfolding targetAt
-  inside k i h hi =
-      let down : top p k + 8 ≤ height p = omega (arith, row-below (p .columns) (p .rows) k some h) in
-      let q : Square (width p) (left p k) (top p k) (height p * width p) =
+  -- the corner of a block, and the picture, in pixels
+  pub framed : (k : ℕ) → k < blocks p → Framed (width p) (height p) (left p k) (top p k)
+  framed k h =
       record {
         width = omega (arith, z .columns);
+        height = omega (arith, z .rows);
         across = omega (arith, column-below (p .columns) k some);
-        down = omega (arith, z .rows);
-        room = mul-le-mul-right (width p) down;
-      } in
-      square-below (width p) (left p k) (top p k) (height p * width p) i q hi (rasterIndex (width p) (left p k) (top p k) i) refl
+        down = omega (arith, row-below (p .columns) (p .rows) k some h);
+      }
+
+  pub inside : (k i : ℕ) → k < blocks p → i < 64 → targetAt p k i < height p * width p
+  unfolding targetAt
+  inside k i h hi = raster-below (width p) (height p) (left p k) (top p k) i (framed k h) hi
 
   module _ (w : Whole p) (front : List ℕ) (n : ℕ) where
     -- a source in back is no pixel of the block, in a block that is drawn

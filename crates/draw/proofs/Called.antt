@@ -6,11 +6,11 @@ use Prim.Native.Nat.{ℕ}
 use Rattle.refusal.specs.Number.{Verdict, accept, refuse}
 use Rattle.packet.specs.Packet.{blocks}
 use Rattle.stores.specs.Stores.{Memory, memory}
-use Rattle.stores.specs.Calls.{Call, allowed, refused, Outcome, whole, unfinished, refusal, step, reply}
+use Rattle.stores.specs.Calls.{Call, allowed, refused, Outcome, whole, unfinished, refusal, reply}
 use Rattle.stores.specs.Loop.{Called}
 use Rattle.stores.proofs.Loop.{refused-leaves, refused-answers, called-leaves, called-whole, called-unfinished}
 use Rattle.draw.specs.Drawing.{plan}
-use Rattle.draw.specs.Call.{Request, packetOf, drawVerdict, Reason, reason, comes, calling}
+use Rattle.draw.specs.Call.{Request, packetOf, drawVerdict, Reason, reason, comes, calling, pictures, leaves}
 
 comes-allowed : (v : Verdict) (n : ℕ) → v ≡ accept → comes v n ≡ allowed n
 unfolding comes
@@ -22,21 +22,21 @@ comes-refused v n a k e = rw e
 
 module _ (c : Request) (m : Memory) where
   pub says-refused : (a k : ℕ) → refuse a k ≡ drawVerdict c m
-      → (m ≡ step calling m c) × (_≡_ {A = Outcome Reason} (record { answer = refusal (reason a k); count = 0 }) (reply calling m c))
+      → (pictures (c .front) m ≡ leaves c m) × (_≡_ {A = Outcome Reason} (record { answer = refusal (reason a k); count = 0 }) (reply calling m c))
   says-refused a k e =
       let q = comes-refused (drawVerdict c m) (c .allowed) a k (sym e) in
-      (refused-leaves (plan (packetOf c) (c .front)) m _ (reason a k) q, refused-answers (plan (packetOf c) (c .front)) m _ (reason a k) q)
+      (ap (pictures (c .front)) (refused-leaves (plan (packetOf c) (c .front)) m _ (reason a k) q), refused-answers (plan (packetOf c) (c .front)) m _ (reason a k) q)
 
   module _ (b : List ℕ) (k j : ℕ) (h : Called (plan (packetOf c) (c .front)) m (c .allowed) b k j) (e : accept ≡ drawVerdict c m) where
     taken : comes (drawVerdict c m) (c .allowed) ≡ allowed (c .allowed)
     taken = comes-allowed (drawVerdict c m) (c .allowed) (sym e)
 
     pub says-whole : k ≡ blocks (packetOf c)
-        → (memory b k ≡ step calling m c) × (_≡_ {A = Outcome Reason} (record { answer = whole; count = j }) (reply calling m c))
+        → (pictures (c .front) (memory b k) ≡ leaves c m) × (_≡_ {A = Outcome Reason} (record { answer = whole; count = j }) (reply calling m c))
     says-whole q =
-        (called-leaves (plan (packetOf c) (c .front)) m _ (c .allowed) b k j h taken, called-whole (plan (packetOf c) (c .front)) m _ (c .allowed) b k j h taken q)
+        (ap (pictures (c .front)) (called-leaves (plan (packetOf c) (c .front)) m _ (c .allowed) b k j h taken), called-whole (plan (packetOf c) (c .front)) m _ (c .allowed) b k j h taken q)
 
     pub says-unfinished : (k ≡ blocks (packetOf c) → ⊥)
-        → (memory b k ≡ step calling m c) × (_≡_ {A = Outcome Reason} (record { answer = unfinished; count = j }) (reply calling m c))
+        → (pictures (c .front) (memory b k) ≡ leaves c m) × (_≡_ {A = Outcome Reason} (record { answer = unfinished; count = j }) (reply calling m c))
     says-unfinished q =
-        (called-leaves (plan (packetOf c) (c .front)) m _ (c .allowed) b k j h taken, called-unfinished (plan (packetOf c) (c .front)) m _ (c .allowed) b k j h taken q)
+        (ap (pictures (c .front)) (called-leaves (plan (packetOf c) (c .front)) m _ (c .allowed) b k j h taken), called-unfinished (plan (packetOf c) (c .front)) m _ (c .allowed) b k j h taken q)

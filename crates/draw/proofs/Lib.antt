@@ -1,3 +1,4 @@
 pub mod Judged
 pub mod Going
 pub mod Called
+pub mod Exactly

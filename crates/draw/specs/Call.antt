@@ -10,7 +10,7 @@ use Rattle.refusal.specs.Number.{Verdict, accept, refuse, number, block}
 use Rattle.packet.specs.Packet.{Packet, blocks}
 use Rattle.packet.specs.Verdict.{legalSize, mapFits, blocksVerdict, sized}
 use Rattle.stores.specs.Stores.{Memory}
-use Rattle.stores.specs.Calls.{Call, refused, allowed, Answer, whole, unfinished, refusal, Outcome, Calling}
+use Rattle.stores.specs.Calls.{Call, refused, allowed, Answer, whole, unfinished, refusal, Outcome, Calling, step}
 use Rattle.draw.specs.Drawing.{plan}
 use Rattle.draw.specs.declared.Drawn.{Drawn}
 use Rattle.draw.specs.declared.Drawn.the-variants.{Whole, Unfinished, Refused}
@@ -61,6 +61,18 @@ comes (refuse number block) n = refused (reason number block)
 -- drawing calls: the plan that each draws, and what it comes to
 abbrev pub calling : Calling Request Reason
 calling = record { plan = λ c. plan (packetOf c) (c .front); meets = λ c m. comes (drawVerdict c m) (c .allowed) }
+
+-- all that a call is lent: the shown picture, and the picture drawn on with the place
+pub record Pictures : Type 0 where
+  pub shown : List ℕ
+  pub drawn : Memory
+
+abbrev pub pictures : List ℕ → Memory → Pictures
+pictures shown m = record { shown = shown; drawn = m }
+
+-- what a call leaves of it: the shown picture stays
+abbrev pub leaves : Request → Memory → Pictures
+leaves c m = pictures (c .front) (step calling m c)
 
 -- document 01's values of each answer: "whole" and "unfinished" with the count of stores made, a refusal with its number and block
 abbrev pub said : Drawn → Outcome Reason

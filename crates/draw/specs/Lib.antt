@@ -1,3 +1,4 @@
 pub mod Drawing
 pub mod Call
 pub mod Asked
+pub mod Taken

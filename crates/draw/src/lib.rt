@@ -18,10 +18,10 @@ ghost use Rattle.paint_block.specs.Value.{pixelCount};
 ghost use Rattle.packet.specs.Packet.{packet};
 ghost use Rattle.packet.specs.Verdict.{told};
 ghost use Rattle.stores.specs.Stores.{memory};
-ghost use Rattle.stores.specs.Calls.{step, reply};
+ghost use Rattle.stores.specs.Calls.{reply};
 ghost use Rattle.stores.specs.Loop.{Called};
 ghost use Rattle.draw.specs.Drawing.{plan};
-ghost use Rattle.draw.specs.Call.{request, callVerdict, calling, said};
+ghost use Rattle.draw.specs.Call.{request, callVerdict, calling, pictures, leaves, said};
 ghost use Rattle.draw.specs.Asked.{Accepted};
 
 // What a drawing call answers: with the stores made, or why it is refused.
@@ -129,7 +129,7 @@ pub fn draw(
     place: &mut usize,
     allowed: usize,
 ) -> Drawn
-    ensures { λ r. ⌜ memory (now (back .exit)) (now (place .exit)) ≡ step calling (memory (now (back .entry)) (now (place .entry))) (request width height (now (map .entry)) (now («data» .entry)) (now (front .entry)) allowed) ⌝ }
+    ensures { λ r. ⌜ pictures (now (front .exit)) (memory (now (back .exit)) (now (place .exit))) ≡ leaves (request width height (now (map .entry)) (now («data» .entry)) (now (front .entry)) allowed) (memory (now (back .entry)) (now (place .entry))) ⌝ }
     ensures { λ r. ⌜ said r ≡ reply calling (memory (now (back .entry)) (now (place .entry))) (request width height (now (map .entry)) (now («data» .entry)) (now (front .entry)) allowed) ⌝ }
 {
     let at = *place;

@@ -1,17 +1,19 @@
 -- Demand 3 for any drawing: a fair list of calls, begun at place 0, leaves and answers what the book says (`as-booked`).
 -- Each call is taken by what it comes to. A refused call changes nothing, whatever its plan; one that is allowed stores has the plan d, and
--- proofs/Recover says what it leaves. The list goes by recursion, with `Reached` of the memory that each call finds.
+-- proofs/Recover says what it leaves. A cut call leaves what one allowed j leaves (`cut-allowed`). The list goes by recursion, with `Reached` of the
+-- memory that each call finds.
 use mathlib.Core.Path.{_≡_, refl, ap, ap₂, _∙_}
 use mathlib.Core.Logic.{_⊎_, inl, inr, ⊎-elim}
 use mathlib.Core.Bool.{Bool, true, false, cond}
-use mathlib.Core.List.{List, [], _∷_}
+use mathlib.Core.List.{List, [], _∷_, _++_}
 use Prim.Native.Nat.{ℕ, _+_, _≤_, _<_, min}
 use native.Mathlib.Omega.{arith}
 use borrow.Author.Tests.{eqb-true, eq-eqb, ltb-true}
 use lib.Dec.{eqb, ltb}
-use lib.ListN.{length}
-use Rattle.stores.specs.Stores.{Plan, Memory, memory, after, count, final, book, Sized, Lawful}
-use Rattle.stores.specs.Calls.{Call, refused, allowed, Answer, whole, answered, leave, outcome, ample, Calling, step, finally, outcomes, Each, ampleCalls, Fair, booked, AsBooked}
+use lib.ListN.{length, length-take}
+use lib.Seq.{take-take}
+use Rattle.stores.specs.Stores.{Plan, due, Memory, memory, run, after, count, final, book, Sized, Lawful}
+use Rattle.stores.specs.Calls.{Call, refused, allowed, Answer, whole, Outcome, answered, leave, outcome, leaveCut, fed, ample, Calling, Event, returns, cut, callOf, step, reply, happens, says, ampleAt, Returning, CutWithin, finally, outcomes, Each, ampleCalls, Fair, booked, bookHappens, bookFinally, bookOutcomes, AsBooked}
 use Rattle.stores.proofs.Recover.{Reached, reached-first, reached-final, going, rises}
 
 -- ---- one call
@@ -67,58 +69,121 @@ module _ {R : Type 0} (d : Plan) (first : List ℕ) (laws : Lawful d (length fir
   one e (refused x) f = one-refused e x
   one e (allowed n) f = rw (f n refl) (one-allowed n)
 
+-- a call cut after j of the stores that it would make leaves what a call allowed j leaves
+pub cut-allowed : {R : Type 0} (d : Plan) (m : Memory) (v : Call R) (j : ℕ) → j ≤ outcome d m v .count → leaveCut d m v j ≡ leave d m (fed j v)
+unfolding leaveCut leave fed outcome after count
+cut-allowed d m (refused r) j h = refl
+cut-allowed d m (allowed n) j h =
+    let l = due d (m .place) in
+    ap (run d m) (take-take j n l (omega (arith, length-take n l)))
+
+fed-allowed : {R : Type 0} (v : Call R) (j n : ℕ) → fed j v ≡ allowed n → (n′ : ℕ) × (v ≡ allowed n′)
+unfolding fed
+fed-allowed (refused r) j n e = let z : _≡_ {A = ℕ} 0 1 = cc in absurd (let y : ⊥ = omega arith in y)
+fed-allowed (allowed n′) j n e = (n′, refl)
+
 -- ---- a list of calls
 
 module _ {C R : Type 0} (s : Calling C R) (d : Plan) (first : List ℕ) (laws : Lawful d (length first)) where
-  -- a call of the list
-  one-of : (m : Memory) → Reached d first m → (c : C) → ((n : ℕ) → s .meets c m ≡ allowed n → s .plan c ≡ d) → One d first (s .plan c) m (s .meets c m)
-  one-of m r c f = one d first laws m r (s .plan c) (s .meets c m) f
+  abbrev Final : Memory → C → Type 0
+  Final m c = reply s m c .answer ≡ whole → step s m c .picture ≡ final d first
+
+  abbrev GoesOn : ℕ → Memory → C → Type 0
+  GoesOn p m c = (n : ℕ) → s .meets c m ≡ allowed n → p < n → (m .place < step s m c .place) ⊎ (reply s m c .answer ≡ whole)
+
+  -- what holds of an event at the memory m
+  record Happens (m : Memory) (e : Event C) : Type 0 where
+    found : Reached d first m
+    same : happens s m e ≡ bookHappens s d first m e
+    said : says s m e ≡ says (booked s d first) m e
+    reached : Reached d first (happens s m e)
+    is-final : Returning Final m e
+    advance : (p : ℕ) → Sized d p → Returning (GoesOn p) m e
+    climb : (p : ℕ) → Sized d p → min (d .blocks) (m .place + ampleAt s p m e) ≤ happens s m e .place
+
+  -- what is asked of it
+  abbrev Asked : Memory → Event C → Type 0
+  Asked m e = ((n : ℕ) → s .meets (callOf e) m ≡ allowed n → s .plan (callOf e) ≡ d) × CutWithin s m e
+
+  event : (m : Memory) → Reached d first m → (e : Event C) → Asked m e → Happens m e
+  unfolding callOf happens bookHappens says ampleAt Returning CutWithin leave
+  event m r (returns c) h =
+      let x = one d first laws m r (s .plan c) (s .meets c m) (h .0) in
+      record {
+        found = r;
+        same = x .same;
+        said = ap (λ (o : Outcome R). o ∷ []) (x .said);
+        reached = x .reached;
+        is-final = x .is-final;
+        advance = x .advance;
+        climb = x .climb;
+      }
+  event m r (cut c j) h =
+      let v = s .meets c m in
+      let q = cut-allowed (s .plan c) m v j (h .1) in
+      let x = one d first laws m r (s .plan c) (fed j v) (λ n e. let y = fed-allowed v j n e in h .0 (y .0) (y .1)) in
+      let up : m .place ≤ leave (s .plan c) m (fed j v) .place = stays (fed j v) (λ n e. let y = fed-allowed v j n e in h .0 (y .0) (y .1)) in
+      record {
+        found = r;
+        same = q ∙ x .same;
+        said = refl;
+        reached = rw q (x .reached);
+        is-final = tt;
+        advance = λ p z. tt;
+        climb = λ p z. rw q (omega (arith, up));
+      }
+    where
+      -- the place never falls
+      stays : (u : Call R) → ((n : ℕ) → u ≡ allowed n → s .plan c ≡ d) → m .place ≤ leave (s .plan c) m u .place
+      stays (refused a) f = omega arith
+      stays (allowed n) f = rw (f n refl) (going d first laws m n r .up)
 
   -- what holds of each of them holds along the list
-  along : (P : Memory → C → Type 0) → ((m : Memory) (c : C) → One d first (s .plan c) m (s .meets c m) → P m c)
-      → (cs : List C) (m : Memory) → Reached d first m → Fair s d m cs → Each s P m cs
-  unfolding Each Fair
+  along : (P : Memory → Event C → Type 0) → ((m : Memory) (e : Event C) → Happens m e → P m e)
+      → (es : List (Event C)) (m : Memory) → Reached d first m → Each s Asked m es → Each s P m es
+  unfolding Each
   along P f [] m r h = tt
-  along P f (c ∷ cs) m r h = let x = one-of m r c (h .0) in (f m c x, along P f cs (step s m c) (x .reached) (h .1))
+  along P f (e ∷ es) m r h = let x = event m r e (h .0) in (f m e x, along P f es (happens s m e) (x .reached) (h .1))
 
-  same-finally : (cs : List C) (m : Memory) → Reached d first m → Fair s d m cs → finally s m cs ≡ finally (booked s d first) m cs
-  unfolding Each Fair finally
+  same-finally : (es : List (Event C)) (m : Memory) → Reached d first m → Each s Asked m es → finally s m es ≡ bookFinally s d first m es
+  unfolding Each finally bookFinally
   same-finally [] m r h = refl
-  same-finally (c ∷ cs) m r h =
-      let x = one-of m r c (h .0) in
-      same-finally cs (step s m c) (x .reached) (h .1) ∙ ap (λ (y : Memory). finally (booked s d first) y cs) (x .same)
+  same-finally (e ∷ es) m r h =
+      let x = event m r e (h .0) in
+      same-finally es (happens s m e) (x .reached) (h .1) ∙ ap (λ (y : Memory). bookFinally s d first y es) (x .same)
 
-  same-outcomes : (cs : List C) (m : Memory) → Reached d first m → Fair s d m cs → outcomes s m cs ≡ outcomes (booked s d first) m cs
-  unfolding Each Fair outcomes
+  same-outcomes : (es : List (Event C)) (m : Memory) → Reached d first m → Each s Asked m es → outcomes s m es ≡ bookOutcomes s d first m es
+  unfolding Each outcomes bookOutcomes
   same-outcomes [] m r h = refl
-  same-outcomes (c ∷ cs) m r h =
-      let x = one-of m r c (h .0) in
-      ap₂ _∷_ (x .said) (same-outcomes cs (step s m c) (x .reached) (h .1) ∙ ap (λ (y : Memory). outcomes (booked s d first) y cs) (x .same))
+  same-outcomes (e ∷ es) m r h =
+      let x = event m r e (h .0) in
+      ap₂ _++_ (x .said) (same-outcomes es (happens s m e) (x .reached) (h .1) ∙ ap (λ (y : Memory). bookOutcomes s d first y es) (x .same))
 
-  reached-finally : (cs : List C) (m : Memory) → Reached d first m → Fair s d m cs → Reached d first (finally s m cs)
-  unfolding Each Fair finally
+  reached-finally : (es : List (Event C)) (m : Memory) → Reached d first m → Each s Asked m es → Reached d first (finally s m es)
+  unfolding Each finally
   reached-finally [] m r h = r
-  reached-finally (c ∷ cs) m r h = let x = one-of m r c (h .0) in reached-finally cs (step s m c) (x .reached) (h .1)
+  reached-finally (e ∷ es) m r h = let x = event m r e (h .0) in reached-finally es (happens s m e) (x .reached) (h .1)
 
-  climbs : (p : ℕ) → Sized d p → (cs : List C) (m : Memory) → Reached d first m → Fair s d m cs
-      → min (d .blocks) (m .place + ampleCalls s p m cs) ≤ finally s m cs .place
-  unfolding Each Fair finally ampleCalls
+  climbs : (p : ℕ) → Sized d p → (es : List (Event C)) (m : Memory) → Reached d first m → Each s Asked m es
+      → min (d .blocks) (m .place + ampleCalls s p m es) ≤ finally s m es .place
+  unfolding Each finally ampleCalls
   climbs p q [] m r h = omega arith
-  climbs p q (c ∷ cs) m r h =
-      let x = one-of m r c (h .0) in
-      omega (arith, climbs p q cs (step s m c) (x .reached) (h .1), x .climb p q)
+  climbs p q (e ∷ es) m r h =
+      let x = event m r e (h .0) in
+      omega (arith, climbs p q es (happens s m e) (x .reached) (h .1), x .climb p q)
 
-  pub as-booked : (cs : List C) → Fair s d (memory first 0) cs → AsBooked s d first cs
-  as-booked cs h =
+  pub as-booked : (es : List (Event C)) → Fair s d (memory first 0) es → AsBooked s d first es
+  unfolding Fair
+  as-booked es h =
       let m = memory first 0 in
       let r = reached-first d first in
-      let e = reached-finally cs m r h in
+      let e = reached-finally es m r h in
       record {
-        leaves = same-finally cs m r h;
-        answers = same-outcomes cs m r h;
-        whole-is-final = along _ (λ m c x. x .is-final) cs m r h;
-        goes-on = λ p q. along _ (λ m c x. x .advance p q) cs m r h;
-        at-most = along _ (λ m c x. x .reached .low) cs m r h;
-        keeps-length = along _ (λ m c x. x .reached .long) cs m r h;
-        ends = λ p q l. reached-final d first (finally s m cs) e (omega (arith, e .low, climbs p q cs m r h));
+        leaves = same-finally es m r h;
+        answers = same-outcomes es m r h;
+        whole-is-final = along _ (λ m c x. x .is-final) es m r h;
+        goes-on = λ p q. along _ (λ m c x. x .advance p q) es m r h;
+        at-most = along _ (λ m c x. (x .found .low, x .reached .low)) es m r h;
+        keeps-length = along _ (λ m c x. (x .found .long, x .reached .long)) es m r h;
+        ends = λ p q l. reached-final d first (finally s m es) e (omega (arith, e .low, climbs p q es m r h));
       }

@@ -1,13 +1,13 @@
 -- The definitions computed, and the theorem applied, for a small plan: two blocks of two pixels. Block 0 is block 1 plus 1, read before block 1 is
--- drawn; block 1 is block 0 plus 10, read after block 0 is drawn. The calls: one stopped in block 0, one stopped in block 1, a refused one that
--- brings another plan, one that ends the drawing, and one after the end.
+-- drawn; block 1 is block 0 plus 10, read after block 0 is drawn. The calls: one that stops in block 0, one that is cut in block 1, a refused one
+-- that brings another plan, one that ends the drawing, and one after the end.
 use mathlib.Core.Path.{_≡_, refl, ap}
 use mathlib.Core.List.{List, [], _∷_}
 use Prim.Native.Nat.{ℕ, zero, suc, _+_, _*_}
 use native.Mathlib.Omega.{arith}
 use lib.ListN.{getD}
 use Rattle.stores.specs.Stores.{Plan, pixels, stores, following, Memory, memory, apply, run, firstPixels, after, count, stage, final, Own, Lawful}
-use Rattle.stores.specs.Calls.{Call, refused, allowed, Answer, whole, unfinished, refusal, Outcome, answered, leave, outcome, Calling, finally, outcomes, Each, Fair, booked, AsBooked}
+use Rattle.stores.specs.Calls.{Call, refused, allowed, Answer, whole, unfinished, refusal, Outcome, answered, leave, outcome, leaveCut, fed, Calling, Event, returns, cut, callOf, happens, says, CutWithin, finally, outcomes, Each, Fair, bookHappens, bookFinally, AsBooked}
 use Rattle.stores.proofs.Calls.{as-booked}
 
 abbrev across : ℕ → ℕ → List ℕ → ℕ
@@ -36,15 +36,15 @@ met stray m = refused 9
 abbrev asked : Calling Ask ℕ
 asked = record { plan = planOf; meets = met }
 
-abbrev asks : List Ask
-asks = draw 1 ∷ draw 4 ∷ stray ∷ draw 100 ∷ draw 5 ∷ []
+abbrev asks : List (Event Ask)
+asks = returns (draw 1) ∷ cut (draw 100) 4 ∷ returns stray ∷ returns (draw 100) ∷ returns (draw 5) ∷ []
 
 -- the memory that the calls find
 abbrev found : Memory
 found = memory (1 ∷ 2 ∷ 3 ∷ 4 ∷ []) 0
 
-abbrev says : Answer ℕ → ℕ → Outcome ℕ
-says a n = record { answer = a; count = n }
+abbrev gives : Answer ℕ → ℕ → Outcome ℕ
+gives a n = record { answer = a; count = n }
 
 -- ---- computed
 
@@ -52,21 +52,21 @@ the-final : final two (found .picture) ≡ 4 ∷ 5 ∷ 14 ∷ 15 ∷ []
 unfolding stage firstPixels pixels run apply
 the-final = refl
 
-the-outcomes : outcomes asked found asks ≡ says unfinished 1 ∷ says unfinished 4 ∷ says (refusal 9) 0 ∷ says whole 3 ∷ says whole 0 ∷ []
-unfolding outcomes outcome answered leave after count pixels stores following run apply
+the-outcomes : outcomes asked found asks ≡ gives unfinished 1 ∷ gives (refusal 9) 0 ∷ gives whole 3 ∷ gives whole 0 ∷ []
+unfolding outcomes happens says outcome answered leave leaveCut after count pixels stores following run apply
 the-outcomes = refl
 
--- after the second call block 0 is drawn, and one pixel of block 1
-half-way : finally asked found (draw 1 ∷ draw 4 ∷ []) ≡ memory (4 ∷ 5 ∷ 14 ∷ 4 ∷ []) 1
-unfolding finally leave after pixels stores following run apply
+-- after the cut call block 0 is drawn, and one pixel of block 1
+half-way : finally asked found (returns (draw 1) ∷ cut (draw 100) 4 ∷ []) ≡ memory (4 ∷ 5 ∷ 14 ∷ 4 ∷ []) 1
+unfolding finally happens leave leaveCut after pixels stores following run apply
 half-way = refl
 
 the-memory : finally asked found asks ≡ memory (4 ∷ 5 ∷ 14 ∷ 15 ∷ []) 2
-unfolding finally leave after pixels stores following run apply
+unfolding finally happens leave leaveCut after pixels stores following run apply
 the-memory = refl
 
-the-book : finally (booked asked two (found .picture)) found (draw 1 ∷ draw 4 ∷ []) ≡ memory (4 ∷ 5 ∷ 14 ∷ 4 ∷ []) 1
-unfolding finally leave after stage firstPixels pixels stores following run apply
+the-book : bookFinally asked two (found .picture) found (returns (draw 1) ∷ cut (draw 100) 4 ∷ []) ≡ memory (4 ∷ 5 ∷ 14 ∷ 4 ∷ []) 1
+unfolding bookFinally bookHappens leave fed after stage firstPixels pixels stores following run apply
 the-book = refl
 
 -- ---- the theorem's hypotheses hold
@@ -83,11 +83,12 @@ lawful =
       own = λ k hk. own k;
     }
 
-fair : (cs : List Ask) (m : Memory) → Fair asked two m cs
-unfolding Fair Each
-fair [] m = tt
-fair (draw n ∷ cs) m = (λ n e. refl, fair cs _)
-fair (stray ∷ cs) m = (λ n e. let z : _≡_ {A = ℕ} 0 1 = cc in absurd (let y : ⊥ = omega arith in y), fair cs _)
+never : (n : ℕ) → _≡_ {A = Call ℕ} (refused 9) (allowed n) → other ≡ two
+never n e = let z : _≡_ {A = ℕ} 0 1 = cc in absurd (let y : ⊥ = omega arith in y)
+
+fair : Fair asked two found asks
+unfolding Fair Each callOf happens CutWithin leave leaveCut outcome after count pixels stores following run apply
+fair = ((λ n e. refl, tt), ((λ n e. refl, omega arith), ((never, tt), ((λ n e. refl, tt), ((λ n e. refl, tt), tt)))))
 
 booked-so : AsBooked asked two (found .picture) asks
-booked-so = as-booked _ _ _ lawful _ (fair asks found)
+booked-so = as-booked _ _ _ lawful _ fair

@@ -3,4 +3,5 @@ pub mod Pixels
 pub mod Loop
 pub mod Recover
 pub mod Calls
+pub mod Within
 pub mod Example

@@ -20,7 +20,7 @@ pub first-none : (d : Plan) (k : ℕ) (b : List ℕ) → firstPixels d k b 0 ≡
 unfolding firstPixels pixels run
 first-none d k b = refl
 
-first-suc : (d : Plan) (k : ℕ) (b : List ℕ) (n : ℕ)
+pub first-suc : (d : Plan) (k : ℕ) (b : List ℕ) (n : ℕ)
     → firstPixels d k b (suc n) ≡ set (firstPixels d k b n) (d .target k n) (d .value k n (firstPixels d k b n))
 unfolding firstPixels pixels run apply
 first-suc d k b n =

@@ -1,14 +1,14 @@
 -- Lists of calls, and the claim of demand 3 about them (`AsBooked`). What a call brings is any type C: a `Calling` says which plan a call of C draws,
 -- and whether it is refused at the memory that it finds, with an answer of any type R, or allowed a number of stores.
--- A call that is cut after j stores stands here as one allowed j.
+-- A call of the list returns, or it is cut: document 01's "cut point j of a call, from 0 to the stores it would make".
 use mathlib.Core.Path.{_≡_}
 use mathlib.Core.Logic.{_⊎_}
 use mathlib.Core.Bool.{Bool, true, false, cond}
-use mathlib.Core.List.{List, [], _∷_}
+use mathlib.Core.List.{List, [], _∷_, _++_}
 use Prim.Native.Nat.{ℕ, _+_, _≤_, _<_}
 use lib.Dec.{eqb, ltb}
-use lib.ListN.{length}
-use Rattle.stores.specs.Stores.{Plan, Memory, memory, after, count, final, book, Sized}
+use lib.ListN.{length, take}
+use Rattle.stores.specs.Stores.{Plan, due, Memory, memory, run, after, count, final, book, Sized}
 
 -- ---- one call
 
@@ -44,6 +44,16 @@ module _ {R : Type 0} where
   outcome d m (refused r) = record { answer = refusal r; count = 0 }
   outcome d m (allowed n) = record { answer = answered (eqb (after d m n .place) (d .blocks)); count = count d m n }
 
+  -- the memory that it leaves where it is cut after j stores: of the stores that it would make, the first j are made and the others not at all
+  unfoldable pub leaveCut : Plan → Memory → Call R → ℕ → Memory
+  leaveCut d m (refused r) j = m
+  leaveCut d m (allowed n) j = run d m (take j (take n (due d (m .place))))
+
+  -- what the book is fed for it: a call allowed j
+  unfoldable pub fed : ℕ → Call R → Call R
+  fed j (refused r) = refused r
+  fed j (allowed n) = allowed j
+
   -- 1 for a call allowed more than p stores, else 0
   unfoldable pub ample : ℕ → Call R → ℕ
   ample p (refused r) = 0
@@ -56,6 +66,21 @@ pub record Calling (C R : Type 0) : Type 0 where
   pub plan : C → Plan
   pub meets : C → Memory → Call R
 
+-- a call that returns with its answer, or one that is cut after j stores and gives none
+pub data Event (C : Type 0) : Type 0 where
+  returns : C → Event C
+  cut : C → ℕ → Event C
+
+-- the call of an event
+unfoldable pub callOf : {C : Type 0} → Event C → C
+callOf (returns c) = c
+callOf (cut c j) = c
+
+-- P holds of an event where it is a call that returns
+unfoldable pub Returning : {C : Type 0} → (Memory → C → Type 0) → Memory → Event C → Type 0
+Returning P m (returns c) = P m c
+Returning P m (cut c j) = Unit
+
 module _ {C R : Type 0} where
   -- a call c that finds the memory m: the memory that it leaves
   abbrev pub step : Calling C R → Memory → C → Memory
@@ -65,51 +90,88 @@ module _ {C R : Type 0} where
   abbrev pub reply : Calling C R → Memory → C → Outcome R
   reply s m c = outcome (s .plan c) m (s .meets c m)
 
-  -- the memory after a list of calls
-  unfoldable pub finally : Calling C R → Memory → List C → Memory
+  -- the memory that an event leaves
+  unfoldable pub happens : Calling C R → Memory → Event C → Memory
+  happens s m (returns c) = step s m c
+  happens s m (cut c j) = leaveCut (s .plan c) m (s .meets c m) j
+
+  -- the answer and count that it gives; a cut call gives none
+  unfoldable pub says : Calling C R → Memory → Event C → List (Outcome R)
+  says s m (returns c) = reply s m c ∷ []
+  says s m (cut c j) = []
+
+  -- 1 for a call that returns, is not refused and is allowed more than p stores; a cut call does not count
+  unfoldable pub ampleAt : Calling C R → ℕ → Memory → Event C → ℕ
+  ampleAt s p m (returns c) = ample p (s .meets c m)
+  ampleAt s p m (cut c j) = 0
+
+  -- a cut point is at most the number of stores that the call would make
+  unfoldable pub CutWithin : Calling C R → Memory → Event C → Type 0
+  CutWithin s m (returns c) = Unit
+  CutWithin s m (cut c j) = j ≤ reply s m c .count
+
+  -- the memory after a list of events
+  unfoldable pub finally : Calling C R → Memory → List (Event C) → Memory
   finally s m [] = m
-  finally s m (c ∷ cs) = finally s (step s m c) cs
+  finally s m (e ∷ es) = finally s (happens s m e) es
 
-  -- the answer and count of each
-  unfoldable pub outcomes : Calling C R → Memory → List C → List (Outcome R)
+  -- the answer and count of each call that returns
+  unfoldable pub outcomes : Calling C R → Memory → List (Event C) → List (Outcome R)
   outcomes s m [] = []
-  outcomes s m (c ∷ cs) = reply s m c ∷ outcomes s (step s m c) cs
+  outcomes s m (e ∷ es) = says s m e ++ outcomes s (happens s m e) es
 
-  -- how many of them are not refused and are allowed more than p stores
-  unfoldable pub ampleCalls : Calling C R → ℕ → Memory → List C → ℕ
+  -- how many calls return, are not refused and are allowed more than p stores
+  unfoldable pub ampleCalls : Calling C R → ℕ → Memory → List (Event C) → ℕ
   ampleCalls s p m [] = 0
-  ampleCalls s p m (c ∷ cs) = ample p (s .meets c m) + ampleCalls s p (step s m c) cs
+  ampleCalls s p m (e ∷ es) = ampleAt s p m e + ampleCalls s p (happens s m e) es
 
-  -- P holds of each call and the memory that it finds
-  unfoldable pub Each : Calling C R → (Memory → C → Type 0) → Memory → List C → Type 0
+  -- P holds of each event and the memory that it finds
+  unfoldable pub Each : Calling C R → (Memory → Event C → Type 0) → Memory → List (Event C) → Type 0
   Each s P m [] = Unit
-  Each s P m (c ∷ cs) = P m c × Each s P (step s m c) cs
+  Each s P m (e ∷ es) = P m e × Each s P (happens s m e) es
 
-  -- each call that is not refused at the memory that it finds has the plan d; of a refused call nothing is asked
-  unfoldable pub Fair : Calling C R → Plan → Memory → List C → Type 0
-  Fair s d m cs = Each s (λ m c. (n : ℕ) → s .meets c m ≡ allowed n → s .plan c ≡ d) m cs
+  -- each call that is not refused at the memory that it finds has the plan d, and each cut point is one of its call; of the plan of a refused call
+  -- nothing is asked
+  unfoldable pub Fair : Calling C R → Plan → Memory → List (Event C) → Type 0
+  Fair s d m es =
+      Each s (λ m e. ((n : ℕ) → s .meets (callOf e) m ≡ allowed n → s .plan (callOf e) ≡ d) × CutWithin s m e) m es
 
-  -- the same calls at the book of d: a call that is not refused makes the book's stores
-  abbrev pub booked : Calling C R → Plan → List ℕ → Calling C R
-  booked s d first = record { plan = λ c. book d first; meets = s .meets }
+-- ---- the book
+
+-- The same calls at the book of d: a call that is not refused makes the book's stores, and a call cut at j is fed as one allowed j.
+module _ {C R : Type 0} (s : Calling C R) (d : Plan) (first : List ℕ) where
+  abbrev pub booked : Calling C R
+  booked = record { plan = λ c. book d first; meets = s .meets }
+
+  unfoldable pub bookHappens : Memory → Event C → Memory
+  bookHappens m (returns c) = step booked m c
+  bookHappens m (cut c j) = leave (book d first) m (fed j (s .meets c m))
+
+  unfoldable pub bookFinally : Memory → List (Event C) → Memory
+  bookFinally m [] = m
+  bookFinally m (e ∷ es) = bookFinally (bookHappens m e) es
+
+  unfoldable pub bookOutcomes : Memory → List (Event C) → List (Outcome R)
+  bookOutcomes m [] = []
+  bookOutcomes m (e ∷ es) = says booked m e ++ bookOutcomes (bookHappens m e) es
 
 -- ---- demand 3
 
--- The claim about a list of calls cs that finds the picture first and the place 0, where d is the plan of those that are not refused.
-pub record AsBooked {C R : Type 0} (s : Calling C R) (d : Plan) (first : List ℕ) (cs : List C) : Type 0 where
+-- The claim about a list of events es that finds the picture first and the place 0, where d is the plan of the calls that are not refused.
+pub record AsBooked {C R : Type 0} (s : Calling C R) (d : Plan) (first : List ℕ) (es : List (Event C)) : Type 0 where
   -- the picture drawn on and the place are then the book's
-  pub leaves : finally s (memory first 0) cs ≡ finally (booked s d first) (memory first 0) cs
+  pub leaves : finally s (memory first 0) es ≡ bookFinally s d first (memory first 0) es
   -- every answer and every count is the book's
-  pub answers : outcomes s (memory first 0) cs ≡ outcomes (booked s d first) (memory first 0) cs
+  pub answers : outcomes s (memory first 0) es ≡ bookOutcomes s d first (memory first 0) es
   -- a call that answers "whole" has left the picture of demand 2
-  pub whole-is-final : Each s (λ m c. reply s m c .answer ≡ whole → step s m c .picture ≡ final d first) (memory first 0) cs
-  -- a call that is not refused and is allowed more than p stores, where no block stores more than p pixels, raises the place or answers "whole"
+  pub whole-is-final : Each s (Returning (λ m c. reply s m c .answer ≡ whole → step s m c .picture ≡ final d first)) (memory first 0) es
+  -- a call that returns, is not refused and is allowed more than p stores, where no block stores more than p pixels, raises the place or answers "whole"
   pub goes-on : (p : ℕ) → Sized d p
-      → Each s (λ m c. (n : ℕ) → s .meets c m ≡ allowed n → p < n → (m .place < step s m c .place) ⊎ (reply s m c .answer ≡ whole)) (memory first 0) cs
-  -- the place never passes the block count
-  pub at-most : Each s (λ m c. step s m c .place ≤ d .blocks) (memory first 0) cs
+      → Each s (Returning (λ m c. (n : ℕ) → s .meets c m ≡ allowed n → p < n → (m .place < step s m c .place) ⊎ (reply s m c .answer ≡ whole))) (memory first 0) es
+  -- each event finds a place that does not pass the block count, and leaves one
+  pub at-most : Each s (λ m e. (m .place ≤ d .blocks) × (happens s m e .place ≤ d .blocks)) (memory first 0) es
   -- the picture keeps its length
-  pub keeps-length : Each s (λ m c. length (step s m c .picture) ≡ length first) (memory first 0) cs
-  -- as many such calls as there are blocks finish the picture, whatever refused calls and calls allowed less stand between
-  pub ends : (p : ℕ) → Sized d p → d .blocks ≤ ampleCalls s p (memory first 0) cs
-      → finally s (memory first 0) cs ≡ memory (final d first) (d .blocks)
+  pub keeps-length : Each s (λ m e. (length (m .picture) ≡ length first) × (length (happens s m e .picture) ≡ length first)) (memory first 0) es
+  -- as many such calls as there are blocks finish the picture, whatever refused calls, cut calls and calls allowed less stand between
+  pub ends : (p : ℕ) → Sized d p → d .blocks ≤ ampleCalls s p (memory first 0) es
+      → finally s (memory first 0) es ≡ memory (final d first) (d .blocks)

@@ -2,16 +2,16 @@
 -- Assumes nothing.
 use mathlib.Core.List.{List, [], _∷_, _++_}
 use Prim.Native.Nat.{ℕ, zero, suc, _+_, _-_, _*_}
-use lib.ListN.{length, take, getD, replicate}
+use lib.ListN.{take, getD, replicate}
 use Rattle.motion.specs.declared.Vector.{Vector}
 use Rattle.motion.specs.Motion.{aheadVector, nearVector}
 use Rattle.block.specs.Block.{codeAt, kindOf}
 use Rattle.paint_block.specs.Value.{pixelValue}
 use Rattle.stores.specs.Stores.{Memory, memory}
-use Rattle.stores.specs.Calls.{step, reply}
-use Rattle.draw.specs.Call.{Request, request, calling}
-use Rattle.palette.specs.Store.{Store}
-use Rattle.palette.specs.Gradient.{gradient, component, gradientStores}
+use Rattle.stores.specs.Calls.{Answer, whole, unfinished, refusal, Outcome, reply}
+use Rattle.draw.specs.Call.{Request, request, Reason, calling, leaves}
+use Rattle.palette.specs.Update.{paletteAfter}
+use Rattle.palette.specs.Gradient.{createGradient}
 
 pub record Case : Type 0 where
   pub given : List ℕ
@@ -36,19 +36,30 @@ pixels code s i n = valuesFrom (λ j. pixelValue (kindOf code s) s 8 0 0 [] j []
 unfoldable pub offset : ℕ → Vector → List ℕ → List ℕ
 offset bias v rest = (v .right + bias - v .left) ∷ ((v .down + bias - v .up) ∷ rest)
 
-unfoldable pub firstIndex : List Store → ℕ
-firstIndex [] = 0
-firstIndex (s ∷ l) = s .index
+-- the palette after opcode 0B with the gradient 12, 5, 4 for red and blue and none for red and green, on one whose bytes are all 9
+unfoldable pub palette : List ℕ
+palette = paletteAfter (createGradient (12 ∷ 5 ∷ 4 ∷ 0 ∷ 0 ∷ 0 ∷ [])) (replicate 768 9)
+
+-- component c of entry e
+abbrev pub entry : ℕ → ℕ → ℕ
+entry e c = getD palette (3 * e + c) 0
 
 -- the case 16x8, map E2, data 00 07, back all 5
 unfoldable pub example : ℕ → Request
 example n = request 16 8 (0xe2 ∷ []) (0x00 ∷ 0x07 ∷ []) (replicate 128 0) n
 
+-- what a call of it allowed n stores leaves and says
 abbrev pub drawn : ℕ → Memory
-drawn n = step calling (memory (replicate 128 5) 0) (example n)
+drawn n = leaves (example n) (memory (replicate 128 5) 0) .drawn
 
-abbrev pub count : ℕ → ℕ
-count n = reply calling (memory (replicate 128 5) 0) (example n) .count
+abbrev pub said : ℕ → Outcome Reason
+said n = reply calling (memory (replicate 128 5) 0) (example n)
+
+-- "whole" as 1, "unfinished" as 2, a refusal as 4
+unfoldable pub answer : Answer Reason → ℕ
+answer whole = 1
+answer unfinished = 2
+answer (refusal r) = 4
 
 -- n rows of eight 5 and eight 7
 unfoldable pub twoHalves : ℕ → List ℕ
@@ -67,12 +78,12 @@ cases =
     ∷ case (pixels 8 (0x00 ∷ 0x22 ∷ 0xf9 ∷ 0x9f ∷ 0x11 ∷ 0x33 ∷ 0xcc ∷ 0x33 ∷ 0x44 ∷ 0x55 ∷ 0xaa ∷ 0x55 ∷ 0x66 ∷ 0x77 ∷ 0x01 ∷ 0xef ∷ []) 32 8) (0x33 ∷ 0x33 ∷ 0x11 ∷ 0x11 ∷ 0x66 ∷ 0x66 ∷ 0x66 ∷ 0x66 ∷ [])
     ∷ case (offset 14 (aheadVector 0) (offset 14 (aheadVector 55) (offset 14 (aheadVector 56) (offset 14 (aheadVector 255) [])))) (22 ∷ 14 ∷ 28 ∷ 21 ∷ 0 ∷ 22 ∷ 25 ∷ 28 ∷ [])
     ∷ case (offset 8 (nearVector 0x00) (offset 8 (nearVector 0x88) (offset 8 (nearVector 0xff) []))) (0 ∷ 0 ∷ 8 ∷ 8 ∷ 15 ∷ 15 ∷ [])
-    ∷ case (values (λ i. component 5 4 2 (12 * i)) 5) (0 ∷ 15 ∷ 31 ∷ 47 ∷ 63 ∷ [])
-    ∷ case (values (λ j. component 5 4 2 (3 * j + 2)) 4) (0 ∷ 13 ∷ 26 ∷ 39 ∷ [])
-    ∷ case (firstIndex (gradientStores (gradient 12 5 4 2)) ∷ length (gradientStores (gradient 12 5 4 2)) ∷ []) (36 ∷ 60 ∷ [])
+    ∷ case (values (λ i. entry (12 + 4 * i) 0) 5) (0 ∷ 15 ∷ 31 ∷ 47 ∷ 63 ∷ [])
+    ∷ case (values (λ j. entry (12 + j) 2) 4) (0 ∷ 13 ∷ 26 ∷ 39 ∷ [])
+    ∷ case (entry 11 2 ∷ entry 12 1 ∷ entry 31 1 ∷ entry 32 0 ∷ []) (9 ∷ 0 ∷ 0 ∷ 9 ∷ [])
     ∷ case (codeAt (0xe1 ∷ []) 0 ∷ codeAt (0xe1 ∷ []) 1 ∷ []) (1 ∷ 14 ∷ [])
     ∷ case (drawn 312000 .picture) (twoHalves 8)
-    ∷ case (count 312000 ∷ drawn 312000 .place ∷ []) (130 ∷ 2 ∷ [])
-    ∷ case (count 75 ∷ drawn 75 .place ∷ []) (75 ∷ 1 ∷ [])
+    ∷ case (answer (said 312000 .answer) ∷ said 312000 .count ∷ drawn 312000 .place ∷ []) (1 ∷ 130 ∷ 2 ∷ [])
+    ∷ case (answer (said 75 .answer) ∷ said 75 .count ∷ drawn 75 .place ∷ []) (2 ∷ 75 ∷ 1 ∷ [])
     ∷ case (take 32 (drawn 75 .picture)) (5 ∷ 5 ∷ 5 ∷ 5 ∷ 5 ∷ 5 ∷ 5 ∷ 5 ∷ 7 ∷ 7 ∷ 7 ∷ 7 ∷ 7 ∷ 7 ∷ 7 ∷ 7 ∷ 5 ∷ 5 ∷ 5 ∷ 5 ∷ 5 ∷ 5 ∷ 5 ∷ 5 ∷ 7 ∷ 7 ∷ 5 ∷ 5 ∷ 5 ∷ 5 ∷ 5 ∷ 5 ∷ [])
     ∷ []

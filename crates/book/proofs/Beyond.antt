@@ -1,0 +1,150 @@
+-- Bytes beyond the size: no drawing call writes one (`beyond-unwritten`) or reads one (`beyond-unread`). Each pixel that is stored, and each pixel
+-- that one is copied from, lies within the picture.
+-- Assumes nothing.
+use mathlib.Core.Path.{_≡_, refl, sym, ap, _∙_, subst}
+use mathlib.Core.Bool.{Bool, true, false, cond}
+use mathlib.Core.List.{List}
+use Prim.Native.Nat.{ℕ, _+_, _-_, _*_, _≤_, _<_, min}
+use native.Mathlib.Omega.{arith}
+use native.Mathlib.Decide.{decLt}
+use borrow.Author.Tests.{lt-ltb, le-ltb}
+use lib.Dec.{eqb, ltb}
+use lib.ListN.{length, getD, take, length-take}
+use Rattle.refusal.specs.Number.{Verdict, accept, refuse}
+use Rattle.motion.specs.declared.Vector.{Vector}
+use Rattle.motion.specs.Motion.{PointsInside, aheadVector, negated, nearVector, farVector, rasterIndex, copiedIndex}
+use Rattle.block.specs.Block.{Kind, same, kept, ahead, behind, near, far, patterned, celled, dithered, refused, source, fetched}
+use Rattle.packet.specs.Packet.{Packet, blocks, width, height, left, top, dataOf, kind}
+use Rattle.packet.specs.Accepted.{CopyInside}
+use Rattle.packet.proofs.Sizes.{size-is}
+use Rattle.stores.specs.Stores.{Plan, Memory, memory, Off, after, count}
+use Rattle.stores.specs.Calls.{Call, allowed, Outcome, answered, Event, returns, cut, callOf, leave, leaveCut, outcome, happens, reply, step}
+use Rattle.stores.proofs.Recover.{after-off}
+use Rattle.stores.proofs.Within.{AgreeTo, agree-take, take-agree, Both, after-within, cut-least}
+use Rattle.paint_block.specs.Value.{pixelValue}
+use Rattle.draw.specs.Drawing.{sizeAt, targetAt, valueAt, plan}
+use Rattle.draw.specs.Call.{Request, packetOf, callVerdict, drawVerdict, Reason, comes, calling}
+use Rattle.draw.specs.Asked.{Accepted}
+use Rattle.draw.proofs.Judged.{accepted-call, area as picture-area}
+use Rattle.book.specs.Beyond.{area, Unwritten, showing, SameTo, SameCalls, Unread}
+use Rattle.book.proofs.Lawful.{Framed, raster-below, framed, few, inside}
+
+-- ---- what is read
+
+-- of a block whose copy lies inside, a pixel of two pictures that agree as far as they are w by h
+module _ (s : List ℕ) (w h x y i : ℕ) (f : Framed w h x y) (hi : i < 64) (front front′ a b : List ℕ) (p : AgreeTo (h * w) front front′) (q : AgreeTo (h * w) a b) where
+  copied-below : (v : Vector) → PointsInside v w h x y → copiedIndex v w x y i < h * w
+  unfolding copiedIndex
+  copied-below v c =
+      raster-below w h (x + v .right - v .left) (y + v .down - v .up) i
+      (record { width = f .width; height = f .height; across = omega (arith, c .left, c .right); down = omega (arith, c .up, c .down) })
+      hi
+
+  reads-within : (κ : Kind) → CopyInside κ w h x y → pixelValue κ s w x y front i a ≡ pixelValue κ s w x y front′ i b
+  unfolding pixelValue source fetched CopyInside
+  reads-within same c = p .same _ (raster-below w h x y i f hi)
+  reads-within kept c = q .same _ (raster-below w h x y i f hi)
+  reads-within (ahead n) c = q .same _ (copied-below (aheadVector n) c)
+  reads-within (behind n) c = q .same _ (copied-below (negated (aheadVector n)) c)
+  reads-within (near n) c = p .same _ (copied-below (nearVector n) c)
+  reads-within (far n m) c = p .same _ (copied-below (farVector n m) c)
+  reads-within (patterned g) c = refl
+  reads-within (celled g) c = refl
+  reads-within dithered c = refl
+  reads-within refused c = refl
+
+-- ---- an accepted call
+
+module _ (c : Request) (m : Memory) (e : drawVerdict c m ≡ accept) where
+  call : Accepted (packetOf c) (length (c .front)) (length (m .picture)) (m .place)
+  call = accepted-call (c .width) (c .height) (c .map) (c .bytes) (length (c .front)) (length (m .picture)) (m .place) e .1
+
+  long : height (packetOf c) * width (packetOf c) ≡ area c
+  long =
+      let l = size-is (c .width) (c .height) (accepted-call (c .width) (c .height) (c .map) (c .bytes) (length (c .front)) (length (m .picture)) (m .place) e .0) in
+      picture-area (c .width) (c .height) (l .0) (l .1)
+
+  -- n stores leave what lies beyond
+  keeps : (n t : ℕ) → area c ≤ t → getD (after (plan (packetOf c) (c .front)) m n .picture) t 0 ≡ getD (m .picture) t 0
+  keeps n t h =
+      after-off (plan (packetOf c) (c .front)) t
+      (λ k hk j hj q. omega (arith, inside (packetOf c) (call .sized) k j hk (few (packetOf c) (call .sized) k j hj), long, q))
+      m n (call .at)
+
+  -- two that are lent the same up to the size
+  both : (front b : List ℕ) (n : ℕ) → AgreeTo (area c) (c .front) front → AgreeTo (area c) (m .picture) b
+      → Both (area c) (after (plan (packetOf c) (c .front)) m n) (after (plan (packetOf c) front) (memory b (m .place)) n)
+  unfolding valueAt
+  both front b n f g =
+      after-within (plan (packetOf c) (c .front)) (valueAt (packetOf c) front) (area c)
+      (λ k i hk hi x y z.
+      reads-within (dataOf (packetOf c) k) (width (packetOf c)) (height (packetOf c)) (left (packetOf c) k) (top (packetOf c) k) i
+      (framed (packetOf c) (call .sized) k hk) (few (packetOf c) (call .sized) k i hi) (c .front) front x y
+      (rw long f) (rw long z) (kind (packetOf c) k) (call .taken .each k hk .inside))
+      m n (call .at) b g
+
+-- ---- none is written
+
+pub beyond-unwritten : (m : Memory) (e : Event Request) → Unwritten m e
+unfolding callOf happens leave leaveCut comes
+beyond-unwritten m (returns c) t h = by (drawVerdict c m) refl
+  where
+    by : (v : Verdict) → drawVerdict c m ≡ v → getD (leave (plan (packetOf c) (c .front)) m (comes v (c .allowed)) .picture) t 0 ≡ getD (m .picture) t 0
+    by (refuse a k) q = refl
+    by accept q = keeps c m q (c .allowed) t h
+beyond-unwritten m (cut c j) t h = by (drawVerdict c m) refl
+  where
+    by : (v : Verdict) → drawVerdict c m ≡ v → getD (leaveCut (plan (packetOf c) (c .front)) m (comes v (c .allowed)) j .picture) t 0 ≡ getD (m .picture) t 0
+    by (refuse a k) q = refl
+    by accept q = rw (cut-least (plan (packetOf c) (c .front)) m (comes accept (c .allowed)) (c .allowed) j refl) (keeps c m q (min j (c .allowed)) t h)
+
+-- ---- none is read
+
+-- whether a list is shorter than n shows in its leading n
+same-short : (n : ℕ) (a b : List ℕ) → take n a ≡ take n b → ltb (length a) n ≡ ltb (length b) n
+same-short n a b e = by (decLt (length a) n)
+  where
+    least : min n (length a) ≡ min n (length b)
+    least = omega (arith, length-take n a, length-take n b, ap length e)
+
+    by : Dec (length a < n) → ltb (length a) n ≡ ltb (length b) n
+    by (yes h) = let z : length b < n = omega (arith, least) in lt-ltb (length a) n h ∙ sym (lt-ltb (length b) n z)
+    by (no h) =
+        let y : n ≤ length a = omega arith in
+        let z : n ≤ length b = omega (arith, least) in
+        le-ltb (length a) n y ∙ sym (le-ltb (length b) n z)
+
+module _ (c : Request) (front : List ℕ) (m m′ : Memory) (f : take (area c) (c .front) ≡ take (area c) front) (s : SameTo (area c) m m′) where
+  same-verdict : drawVerdict c m ≡ drawVerdict (showing c front) m′
+  unfolding callVerdict
+  same-verdict = rw (same-short (area c) (c .front) front f, same-short (area c) (m .picture) (m′ .picture) (s .picture), s .place) refl
+
+  agree : (a b : List ℕ) → area c ≤ length a → take (area c) a ≡ take (area c) b → AgreeTo (area c) a b
+  agree a b l e = take-agree (area c) a b l (omega (arith, length-take (area c) a, length-take (area c) b, ap length e)) e
+
+  drawn-both : drawVerdict c m ≡ accept
+      → Both (area c) (after (plan (packetOf c) (c .front)) m (c .allowed)) (after (plan (packetOf c) front) m′ (c .allowed))
+  drawn-both e =
+      let r = call c m e in
+      let l = long c m e in
+      subst (λ (k : ℕ). Both (area c) (after (plan (packetOf c) (c .front)) m (c .allowed)) (after (plan (packetOf c) front) (memory (m′ .picture) k) (c .allowed)))
+      (s .place)
+      (both c m e front (m′ .picture) (c .allowed)
+      (agree (c .front) front (omega (arith, l, r .front-room)) f)
+      (agree (m .picture) (m′ .picture) (omega (arith, l, r .back-room)) (s .picture)))
+
+  same-calls : (v : Verdict) → drawVerdict c m ≡ v → SameCalls (area c) c front m m′
+  unfolding comes leave outcome count
+  same-calls (refuse n k) e =
+      let e′ = sym same-verdict ∙ e in
+      record { answers = rw (e, e′) refl; leaves = rw (e, e′) s }
+  same-calls accept e =
+      let e′ = sym same-verdict ∙ e in
+      let g = drawn-both e in
+      record {
+        answers = rw (e, e′, g .place, s .place) refl;
+        leaves = rw (e, e′) (record { picture = agree-take (area c) _ _ (g .pictures); place = g .place });
+      }
+
+pub beyond-unread : (c : Request) → Unread c
+beyond-unread c front m m′ f s = same-calls c front m m′ f s (drawVerdict c m) refl

@@ -1,0 +1,36 @@
+-- Bytes of a lent picture beyond the size (document 01: "are never touched"), of every drawing call, whatever the memory, the place and the answer, cut
+-- or not: none is written, and none is read, so that two calls that are lent the same up to the size answer the same and leave the same up to it.
+-- Assumes nothing.
+use mathlib.Core.Path.{_≡_}
+use mathlib.Core.List.{List}
+use Prim.Native.Nat.{ℕ, _+_, _-_, _*_, _≤_}
+use lib.ListN.{getD, take}
+use Rattle.stores.specs.Stores.{Memory}
+use Rattle.stores.specs.Calls.{Event, callOf, happens, reply, step}
+use Rattle.draw.specs.Call.{Request, request, calling}
+
+-- the bytes of a picture of a call's size
+abbrev pub area : Request → ℕ
+area c = c .width * c .height
+
+-- an event writes no byte beyond the size
+abbrev pub Unwritten : Memory → Event Request → Type 0
+Unwritten m e = (t : ℕ) → area (callOf e) ≤ t → getD (happens calling m e .picture) t 0 ≡ getD (m .picture) t 0
+
+-- the same call with another shown picture
+abbrev pub showing : Request → List ℕ → Request
+showing c front = request (c .width) (c .height) (c .map) (c .bytes) front (c .allowed)
+
+-- two memories with one place whose pictures are the same up to n
+pub record SameTo (n : ℕ) (m m′ : Memory) : Type 0 where
+  pub picture : take n (m .picture) ≡ take n (m′ .picture)
+  pub place : m .place ≡ m′ .place
+
+-- a call, and the same with another shown picture, at two memories: one answer and count, and what they leave is the same up to n
+pub record SameCalls (n : ℕ) (c : Request) (front : List ℕ) (m m′ : Memory) : Type 0 where
+  pub answers : reply calling m c ≡ reply calling m′ (showing c front)
+  pub leaves : SameTo n (step calling m c) (step calling m′ (showing c front))
+
+-- a call reads no byte beyond the size
+abbrev pub Unread : Request → Type 0
+Unread c = (front : List ℕ) (m m′ : Memory) → take (area c) (c .front) ≡ take (area c) front → SameTo (area c) m m′ → SameCalls (area c) c front m m′
