@@ -22,7 +22,7 @@ use Rattle.draw.specs.Call.{Request, packetOf, drawVerdict, comes, calling}
 use Rattle.draw.specs.Taken.{DrawAccepts}
 use Rattle.draw.proofs.Judged.{area}
 use Rattle.draw.proofs.Exactly.{drawn-exactly}
-use Rattle.book.specs.Demand.{Same, OnlyRefusedDiffer, CutsWithin, Given, Demand3}
+use Rattle.book.specs.Demand.{Same, OnlyRefusedDiffer, CutsWithin, Given, Progresses, Demand3}
 use Rattle.book.proofs.Lawful.{plan-lawful}
 
 -- ---- lists
@@ -80,12 +80,10 @@ module _ (c : Request) (first : List ℕ) (g : Given c first) where
       (drawn-exactly (c .width) (c .height) (c .map) (c .bytes) (length (c .front)) (length (m .picture)) (m .place) .1
       (record { accepted = g .accepted; front-long = g .front-long; back-long = rw l (g .back-long); within = at }))
 
-  abbrev Advances : Memory → Request → Type 0
-  Advances m r = (m .place < step calling m r .place) ⊎ (reply calling m r .answer ≡ whole)
-
   -- an event of which `goes-on` of the book is known
-  goes-on : (m : Memory) (e : Event Request) → Returning (λ m r. (n : ℕ) → comes (drawVerdict r m) (r .allowed) ≡ allowed n → 64 < n → Advances m r) m e
-      → Returning (λ m r. drawVerdict r m ≡ accept → 65 ≤ r .allowed → Advances m r) m e
+  goes-on : (m : Memory) (e : Event Request)
+      → Returning (λ m r. (n : ℕ) → comes (drawVerdict r m) (r .allowed) ≡ allowed n → 64 < n → (m .place < step calling m r .place) ⊎ (reply calling m r .answer ≡ whole)) m e
+      → Returning Progresses m e
   unfolding Returning
   goes-on m (returns r) f = λ q l. f (r .allowed) (comes-on (drawVerdict r m) (r .allowed) q) (omega arith)
   goes-on m (cut r j) f = tt

@@ -41,6 +41,10 @@ pub record Given (c : Request) (first : List ℕ) : Type 0 where
 abbrev pub leavesAt : Memory → Event Request → Pictures
 leavesAt m e = pictures (callOf e .front) (happens calling m e)
 
+-- a call that is not refused and is allowed 65 stores or more raises the place or answers "whole"
+abbrev pub Progresses : Memory → Request → Type 0
+Progresses m r = drawVerdict r m ≡ accept → 65 ≤ r .allowed → (m .place < step calling m r .place) ⊎ (reply calling m r .answer ≡ whole)
+
 -- what a list of calls es that finds the picture first and place 0 comes to
 pub record Demand3 (c : Request) (first : List ℕ) (es : List (Event Request)) : Type 0 where
   -- the place, every byte of the picture drawn on, every answer and every count are the book's; "whole" has left the picture of demand 2; the place
@@ -50,9 +54,8 @@ pub record Demand3 (c : Request) (first : List ℕ) (es : List (Event Request)) 
   pub accepts : Each calling (λ m e. Same (callOf e) c → drawVerdict (callOf e) m ≡ accept) (memory first 0) es
   -- each call, refused, cut or not, leaves the shown picture that it was lent; one that is not refused, that of c
   pub shown : Each calling (λ m e. (leavesAt m e .shown ≡ callOf e .front) × (drawVerdict (callOf e) m ≡ accept → leavesAt m e .shown ≡ c .front)) (memory first 0) es
-  -- a call that returns, is not refused and is allowed 65 stores or more raises the place or answers "whole"
-  pub progress : Each calling (Returning (λ m r. drawVerdict r m ≡ accept → 65 ≤ r .allowed
-      → (m .place < step calling m r .place) ⊎ (reply calling m r .answer ≡ whole))) (memory first 0) es
+  -- each call that returns makes progress
+  pub progress : Each calling (Returning Progresses) (memory first 0) es
   -- as many such calls as there are blocks leave the picture of demand 2, whatever refused calls, cut calls and calls allowed less stand between
   pub finishes : blocks (packetOf c) ≤ ampleCalls calling 64 (memory first 0) es
       → finally calling (memory first 0) es ≡ memory (final (plan (packetOf c) (c .front)) first) (blocks (packetOf c))
