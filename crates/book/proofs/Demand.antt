@@ -18,7 +18,7 @@ use Rattle.stores.specs.Stores.{Plan, Memory, memory, Off, after, Lawful}
 use Rattle.stores.specs.Calls.{Call, allowed, refused, Calling, leave, step, Each, Fair, AsBooked}
 use Rattle.stores.proofs.Recover.{after-off}
 use Rattle.stores.proofs.Calls.{as-booked}
-use Rattle.paint_block.proofs.Families.{count-few}
+use Rattle.paint.proofs.Counts.{count-few}
 use Rattle.packet.specs.Packet.{kind}
 use Rattle.draw.specs.Drawing.{sizeAt, targetAt, plan}
 use Rattle.draw.specs.Call.{Request, packetOf, drawVerdict, Reason, reason, comes, calling}
