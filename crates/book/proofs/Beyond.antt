@@ -21,7 +21,7 @@ use Rattle.stores.specs.Stores.{Plan, Memory, memory, Off, after, count}
 use Rattle.stores.specs.Calls.{Call, allowed, Outcome, answered, Event, returns, cut, callOf, leave, leaveCut, outcome, happens, reply, step}
 use Rattle.stores.proofs.Recover.{after-off}
 use Rattle.stores.proofs.Within.{AgreeTo, agree-take, take-agree, Both, after-within, cut-least}
-use Rattle.paint_block.specs.Value.{pixelValue}
+use Rattle.paint.specs.Value.{pixelValue}
 use Rattle.draw.specs.Drawing.{sizeAt, targetAt, valueAt, plan}
 use Rattle.draw.specs.Call.{Request, packetOf, callVerdict, drawVerdict, Reason, comes, calling}
 use Rattle.draw.specs.Asked.{Accepted}

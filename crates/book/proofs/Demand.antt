@@ -16,7 +16,7 @@ use Rattle.packet.proofs.Sizes.{is-size, is-sized}
 use Rattle.stores.specs.Stores.{Memory, memory, Lawful}
 use Rattle.stores.specs.Calls.{allowed, whole, step, reply, Event, returns, cut, callOf, happens, Returning, CutWithin, Each, Fair, AsBooked}
 use Rattle.stores.proofs.Calls.{as-booked}
-use Rattle.paint_block.proofs.Families.{count-few}
+use Rattle.paint.proofs.Counts.{count-few}
 use Rattle.draw.specs.Drawing.{sizeAt, plan}
 use Rattle.draw.specs.Call.{Request, packetOf, drawVerdict, comes, calling}
 use Rattle.draw.specs.Taken.{DrawAccepts}

@@ -13,8 +13,8 @@ use Rattle.block.specs.declared.Source.the-variants.{Data, Front, Back}
 use Rattle.block.specs.Block.{Kind, kept, source, fetched}
 use Rattle.paint.specs.Asked.{Square}
 use Rattle.paint.proofs.Painting.{square-below}
-use Rattle.paint_block.specs.Value.{pixelCount, pixelValue}
-use Rattle.paint_block.proofs.Families.{count-few}
+use Rattle.paint.specs.Value.{pixelCount, pixelValue}
+use Rattle.paint.proofs.Counts.{count-few}
 use Rattle.packet.specs.Packet.{Packet, blocks, width, height, left, top, dataOf, kind, blockOf}
 use Rattle.packet.specs.Asked.{Sized}
 use Rattle.packet.specs.Accepted.{Whole}

@@ -1,24 +1,20 @@
 -- The loop over blocks: after j stores memory is as the first j of those due leave it (`Made`), between blocks. A law for its start, each turn and its ends.
 -- Assumes nothing.
-use mathlib.Core.Path.{_≡_, refl, sym, ap, _∙_, subst}
+use mathlib.Core.Path.{_≡_, refl, sym, ap, _∙_}
 use mathlib.Core.List.{List}
-use Prim.Native.Nat.{ℕ, _+_, _-_, _*_, _/_, _%_, _≤_, _<_}
+use Prim.Native.Nat.{ℕ, _+_, _-_, _/_, _%_, _≤_, _<_}
 use native.Mathlib.Omega.{arith}
-use native.Mathlib.Numerals.{add-one}
 use native.Mathlib.Nat.{div-le-self}
 use lib.ListN.{length, drop, length-drop}
-use Rattle.motion.specs.Motion.{rasterIndex}
 use Rattle.block.specs.Block.{kindOf, dataLength}
-use Rattle.paint.specs.Paint.{single}
-use Rattle.paint_block.specs.Value.{pixelCount, pixelValue, blockPlan}
-use Rattle.paint_block.specs.Asked.{Canvas, Drawable}
+use Rattle.paint.specs.Value.{pixelCount, blockPlan}
+use Rattle.paint.specs.Asked.{Canvas, Drawable}
 use Rattle.packet.specs.Packet.{Packet, blocks, width, height, left, top, code, start, dataOf, kind}
 use Rattle.packet.specs.Accepted.{Takes}
-use Rattle.packet.specs.Asked.{Sized}
 use Rattle.packet.proofs.Grid.{next-column, next-row, column-below, row-below}
 use Rattle.packet.proofs.Walk.{code-below, position-next, blocks-few}
 use Rattle.packet.proofs.Exactly.{is-copy}
-use Rattle.stores.specs.Stores.{Plan, Memory, memory, firstPixels}
+use Rattle.stores.specs.Stores.{memory, firstPixels}
 use Rattle.stores.specs.Loop.{Made, Called}
 use Rattle.stores.proofs.Pixels.{first-agree}
 use Rattle.stores.proofs.Loop.{made-none, made-length, made-over, made-part, made-block}
@@ -76,7 +72,7 @@ module _ (p : Packet) (front b₀ : List ℕ) (k₀ n : ℕ) (b : List ℕ) (pla
     data-is : s ≡ dataOf p k
     data-is = es ∙ ap (λ (i : ℕ). drop i (p .bytes)) (g .found)
 
-    pub kind-is : kindOf c s ≡ kind p k
+    kind-is : kindOf c s ≡ kind p k
     kind-is = rw (ec, data-is)
 
     takes : Takes p k

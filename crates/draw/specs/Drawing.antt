@@ -5,7 +5,7 @@ use Prim.Native.Nat.{ℕ}
 use Rattle.motion.specs.Motion.{rasterIndex}
 use Rattle.packet.specs.Packet.{Packet, blocks, width, left, top, dataOf, kind}
 use Rattle.stores.specs.Stores.{Plan}
-use Rattle.paint_block.specs.Value.{pixelCount, pixelValue}
+use Rattle.paint.specs.Value.{pixelCount, pixelValue}
 
 -- of block k: the pixels it stores, the index of pixel i, and its value where back is the picture drawn on as it is then
 unfoldable pub sizeAt : Packet → ℕ → ℕ

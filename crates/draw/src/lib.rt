@@ -5,8 +5,8 @@ use packet::Checked;
 use packet::check_blocks;
 use packet::data_position;
 use packet::is_legal_size;
+use paint::paint_part;
 use paint::set_place;
-use paint_block::paint_block;
 use refusal::Refusal;
 use whole::paint_whole;
 use words::part_from;
@@ -14,7 +14,7 @@ ghost use mathlib.Core.Path.{_≡_};
 ghost use Prim.Native.Nat.{_<_};
 ghost use lib.ListN.{length};
 ghost use Rattle.block.specs.Block.{kindOf};
-ghost use Rattle.paint_block.specs.Value.{pixelCount};
+ghost use Rattle.paint.specs.Value.{pixelCount};
 ghost use Rattle.packet.specs.Packet.{packet};
 ghost use Rattle.packet.specs.Verdict.{told};
 ghost use Rattle.stores.specs.Stores.{memory};
@@ -101,7 +101,7 @@ fn draw_blocks(
         let s = part_from(data, at);
         let due = pixel_count(code, s);
         if left <= due {
-            paint_block(code, s, front, back, w, h, x, y, left);
+            paint_part(code, s, front, back, w, h, x, y, left);
             return allowed;
         }
         paint_whole(code, s, front, back, w, h, x, y);

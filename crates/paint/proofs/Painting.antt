@@ -1,10 +1,9 @@
 -- The loop over a block's pixels: after i turns the picture is as the first i pixel stores leave it. A law for its start, each turn and its end.
 -- Assumes nothing.
-use mathlib.Core.Path.{_≡_, refl, sym, ap, _∙_}
+use mathlib.Core.Path.{_≡_, sym, ap, _∙_}
 use mathlib.Core.List.{List}
-use Prim.Native.Nat.{ℕ, _+_, _*_, _/_, _%_, _≤_, _<_, zero-le}
+use Prim.Native.Nat.{ℕ, _+_, _*_, _/_, _≤_, _<_, zero-le}
 use native.Mathlib.Omega.{arith}
-use native.Mathlib.Nat.{mul-le-mul-right, add-mul}
 use lib.ListN.{length, getD, set}
 use Rattle.motion.specs.Motion.{rasterIndex, Inside}
 use Rattle.block.specs.Block.{cellSource, ditherSource}
@@ -13,9 +12,10 @@ use Rattle.block.proofs.Codes.{cell}
 use Rattle.pattern.specs.Form.{Shape}
 use Rattle.pattern.specs.Pattern.{Shaped, patternLength, patternSource}
 use Rattle.pattern.proofs.Bounds.{source-inside}
+use Rattle.pixel.proofs.Sources.{raster-below}
 use Rattle.stores.specs.Stores.{Plan, firstPixels}
 use Rattle.stores.proofs.Pixels.{first-none, first-more, first-length}
-use Rattle.paint.specs.Paint.{single, fixedValue, backValue}
+use Rattle.paint.specs.Paint.{fixedValue, backValue}
 use Rattle.paint.specs.Asked.{Square}
 
 -- ---- the loop
@@ -44,10 +44,8 @@ module _ (w x y long i : ℕ) (q : Square w x y long) (h : i < 64) where
   square-inside = record { width = q .width; across = q .across; down = q .down; pixel = omega arith }
 
   pub square-below : (r : ℕ) → r ≡ rasterIndex w x y i → r < long
-  unfolding rasterIndex
   square-below r e =
-      let a : y + i / 8 + 1 ≤ y + 8 = omega arith in
-      omega (arith, e, q .room, q .across, mul-le-mul-right w a, add-mul (y + i / 8) 1 w)
+      omega (arith, e, q .room, raster-below w (y + 8) x y i (q .across) (omega arith) h)
 
 -- ---- their values
 

@@ -1,19 +1,14 @@
-// The stores: one pixel, the place, and the first n pixels of a block of each family, in order.
-use block::cell_source;
-use block::dither_source;
+// The stores: one pixel, the place, and the first n pixels of a block, in order.
 use motion::raster_index;
-use pattern::pattern_source;
+use pixel::fetch;
+use pixel::source_of;
 ghost use mathlib.Core.Path.{_≡_};
-ghost use Prim.Native.Nat.{_*_, _/_, _≤_, _<_};
+ghost use Prim.Native.Nat.{_<_};
 ghost use lib.ListN.{length, set};
-ghost use Rattle.pattern.specs.Form.{numbers};
-ghost use Rattle.pattern.specs.Pattern.{Shaped, patternLength, patternSource};
-ghost use Rattle.motion.specs.Motion.{rasterIndex};
-ghost use Rattle.block.specs.Block.{cellSource, ditherSource};
-ghost use Rattle.block.specs.Asked.{Sided};
+ghost use Rattle.block.specs.Block.{kindOf};
 ghost use Rattle.stores.specs.Stores.{firstPixels};
-ghost use Rattle.paint.specs.Paint.{single, fixedValue, backValue};
-ghost use Rattle.paint.specs.Asked.{Square};
+ghost use Rattle.paint.specs.Value.{blockPlan};
+ghost use Rattle.paint.specs.Asked.{Canvas, Drawable};
 
 // The one store of a pixel.
 pub fn put(back: &mut [u8], at: usize, v: u8)
@@ -30,87 +25,25 @@ pub fn set_place(place: &mut usize, k: usize)
     *place = k;
 }
 
-// The first n pixels of the 8x8 at x, y, copied from the one at sx, sy of front.
-pub fn copy_front(
+// The first n pixels of the block at x, y, whose data is s, each read from its source as the stores before it left it: the block in which a call stops.
+pub fn paint_part(
+    code: u8,
+    s: &[u8],
     front: &[u8],
     back: &mut [u8],
     w: usize,
-    sx: usize,
-    sy: usize,
+    h: usize,
     x: usize,
     y: usize,
     n: usize,
 )
-    requires { ⌜ Square w sx sy (length (now front)) × Square w x y (length (now back)) × (n ≤ 64) ⌝ }
-    ensures { λ _. ⌜ now (back .exit) ≡ firstPixels (single (rasterIndex w x y) (fixedValue (rasterIndex w sx sy) (now (front .entry)))) 0 (now (back .entry)) n ⌝ }
+    requires { ⌜ Drawable code (now s) w h x y n × Canvas w h x y (length (now front)) (length (now back)) ⌝ }
+    ensures { λ _. ⌜ now (back .exit) ≡ firstPixels (blockPlan (kindOf code (now (s .entry))) (now (s .entry)) w x y (now (front .entry))) 0 (now (back .entry)) n ⌝ }
 {
     let mut i = 0;
     while i < n {
-        let v = front[raster_index(w, sx, sy, i)];
-        put(back, raster_index(w, x, y, i), v);
-        i += 1;
-    }
-}
-
-// The same, copied from back itself.
-pub fn copy_back(back: &mut [u8], w: usize, sx: usize, sy: usize, x: usize, y: usize, n: usize)
-    requires { ⌜ Square w sx sy (length (now back)) × Square w x y (length (now back)) × (n ≤ 64) ⌝ }
-    ensures { λ _. ⌜ now (back .exit) ≡ firstPixels (single (rasterIndex w x y) (backValue (rasterIndex w sx sy))) 0 (now (back .entry)) n ⌝ }
-{
-    let mut i = 0;
-    while i < n {
-        let v = back[raster_index(w, sx, sy, i)];
-        put(back, raster_index(w, x, y, i), v);
-        i += 1;
-    }
-}
-
-// Codes B to E: a byte of s for each cell, side pixels wide and high.
-pub fn paint_cells(side: usize, s: &[u8], back: &mut [u8], w: usize, x: usize, y: usize, n: usize)
-    requires { ⌜ Sided side × (8 / side * (8 / side) ≤ length (now s)) × Square w x y (length (now back)) × (n ≤ 64) ⌝ }
-    ensures { λ _. ⌜ now (back .exit) ≡ firstPixels (single (rasterIndex w x y) (fixedValue (cellSource side) (now (s .entry)))) 0 (now (back .entry)) n ⌝ }
-{
-    let mut i = 0;
-    while i < n {
-        let v = s[cell_source(side, i)];
-        put(back, raster_index(w, x, y, i), v);
-        i += 1;
-    }
-}
-
-// Code F: the two bytes of s in turn.
-pub fn paint_dither(s: &[u8], back: &mut [u8], w: usize, x: usize, y: usize, n: usize)
-    requires { ⌜ (2 ≤ length (now s)) × Square w x y (length (now back)) × (n ≤ 64) ⌝ }
-    ensures { λ _. ⌜ now (back .exit) ≡ firstPixels (single (rasterIndex w x y) (fixedValue ditherSource (now (s .entry)))) 0 (now (back .entry)) n ⌝ }
-{
-    let mut i = 0;
-    while i < n {
-        let v = s[dither_source(i)];
-        put(back, raster_index(w, x, y, i), v);
-        i += 1;
-    }
-}
-
-// Codes 7 to A: the colours that the fields of s choose.
-pub fn paint_pattern(
-    bits: usize,
-    across: usize,
-    down: usize,
-    wide: usize,
-    high: usize,
-    s: &[u8],
-    back: &mut [u8],
-    w: usize,
-    x: usize,
-    y: usize,
-    n: usize,
-)
-    requires { ⌜ Shaped (numbers bits across down wide high) × (patternLength (numbers bits across down wide high) ≤ length (now s)) × Square w x y (length (now back)) × (n ≤ 64) ⌝ }
-    ensures { λ _. ⌜ now (back .exit) ≡ firstPixels (single (rasterIndex w x y) (fixedValue (patternSource (numbers bits across down wide high) (now (s .entry))) (now (s .entry)))) 0 (now (back .entry)) n ⌝ }
-{
-    let mut i = 0;
-    while i < n {
-        let v = s[pattern_source(bits, across, down, wide, high, s, i)];
+        let from = source_of(code, s, w, h, x, y, i);
+        let v = fetch(from, s, front, back);
         put(back, raster_index(w, x, y, i), v);
         i += 1;
     }

@@ -2,22 +2,24 @@
 -- Assumes nothing.
 use mathlib.Core.Path.{_≡_, refl, sym, ap, _∙_, subst}
 use mathlib.Core.Logic.{⊎-elim}
-use mathlib.Core.Bool.{Bool, true}
+use mathlib.Core.Bool.{true, false}
 use mathlib.Core.List.{List}
-use Prim.Native.Nat.{ℕ, _≤_, _<_}
+use Prim.Native.Nat.{ℕ, _+_, _*_, _/_, _≤_, _<_}
 use native.Mathlib.Omega.{arith}
+use native.Mathlib.Nat.{mul-le-mul-right, add-mul}
 use lib.ListN.{length, getD}
 use Rattle.pattern.specs.declared.Form.{Form}
 use Rattle.pattern.specs.Form.{Shape, shape}
 use Rattle.pattern.specs.Pattern.{Shaped, patternLength, patternSource}
-use Rattle.pattern.proofs.Bounds.{numbers-shaped}
+use Rattle.pattern.proofs.Bounds.{numbers-shaped, source-inside}
 use Rattle.motion.specs.declared.Vector.{Vector}
 use Rattle.motion.specs.Motion.{aheadVector, negated, nearVector, farVector, pointsInside, rasterIndex, copiedIndex, Short, Inside}
+use Rattle.motion.proofs.Vectors.{inside-each}
 use Rattle.block.specs.declared.Source.{Source}
 use Rattle.block.specs.declared.Source.the-variants.{Data, Front, Back}
-use Rattle.block.specs.Block.{Side, pixels, Kind, same, kept, ahead, behind, near, far, patterned, celled, dithered, refused, kindOf, dataLength, copyInside, cellSource, ditherSource, source, fetched}
+use Rattle.block.specs.Block.{Side, pixels, Kind, same, kept, ahead, behind, near, far, patterned, celled, dithered, refused, kindOf, dataLength, isRefused, copyInside, cellSource, ditherSource, source, fetched}
 use Rattle.block.specs.Asked.{vectorOf, Readable, Among}
-use Rattle.block.proofs.Codes.{copy-judged, kind-back, kind-front}
+use Rattle.block.proofs.Codes.{code-known, copy-judged, kind-back, kind-front, cell}
 
 -- ---- a patterned block, its form's numbers written out
 
@@ -95,6 +97,39 @@ module _ (code : ℕ) (s : List ℕ) (w x y i : ℕ) where
   pub dither-source-is : (j : ℕ) → kindOf code s ≡ dithered → j ≡ ditherSource i → Data j ≡ source (kindOf code s) s w x y i
   unfolding source
   dither-source-is j k q = rw (k, q)
+
+-- ---- every source is there
+
+-- a pixel of an 8x8 that lies inside a picture is one of the picture's
+pub raster-below : (w h x y i : ℕ) → x + 8 ≤ w → y + 8 ≤ h → i < 64 → rasterIndex w x y i < h * w
+unfolding rasterIndex
+raster-below w h x y i across down l =
+    let a : y + i / 8 + 1 ≤ h = omega arith in
+    omega (arith, mul-le-mul-right w a, add-mul (y + i / 8) 1 w)
+
+module _ (s : List ℕ) (w h x y i front back : ℕ) (across : x + 8 ≤ w) (down : y + 8 ≤ h) (l : i < 64) (f : h * w ≤ front) (b : h * w ≤ back) where
+  copied-below : (v : Vector) → pointsInside v w h x y ≡ true → copiedIndex v w x y i < h * w
+  unfolding copiedIndex
+  copied-below v p =
+      let q = inside-each v w h x y p in
+      raster-below w h _ _ i (omega (arith, q .left, q .right)) (omega (arith, q .up, q .down)) l
+
+  kind-among : (κ : Kind) → isRefused κ ≡ false → dataLength κ ≤ length s → copyInside κ w h x y ≡ true → Among (source κ s w x y i) (length s) front back
+  unfolding source isRefused dataLength copyInside cellSource ditherSource
+  kind-among same r d c = omega (arith, raster-below w h x y i across down l)
+  kind-among kept r d c = omega (arith, raster-below w h x y i across down l)
+  kind-among (ahead a) r d c = omega (arith, copied-below (aheadVector a) c)
+  kind-among (behind a) r d c = omega (arith, copied-below (negated (aheadVector a)) c)
+  kind-among (near a) r d c = omega (arith, copied-below (nearVector a) c)
+  kind-among (far a e) r d c = omega (arith, copied-below (farVector a e) c)
+  kind-among (patterned g) r d c = omega (arith, source-inside (shape g) s i (g, refl) l)
+  kind-among (celled a) r d c = omega (arith, cell (pixels a) i (a, refl) l .inside)
+  kind-among dithered r d c = omega arith
+  kind-among refused r d c = absurd (let z : _≡_ {A = ℕ} 0 1 = cc in let y : ⊥ = omega arith in y)
+
+  -- the source of each pixel of a block of any code but 6
+  pub source-among : (code : ℕ) (u : Source) → Readable code s w h x y i → (code ≡ 6 → ⊥) → u ≡ source (kindOf code s) s w x y i → Among u (length s) front back
+  source-among code u r n e = rw e (kind-among (kindOf code s) (code-known s code (r .known) n) (r .there) (r .inside))
 
 -- ---- what stands at a source
 

@@ -20,7 +20,7 @@ ghost use Rattle.block.specs.Block.{kindOf, source, fetched};
 ghost use Rattle.block.specs.Asked.{Readable, Among};
 
 // The byte of a patterned block's data s that gives pixel i.
-pub fn form_source(form: Form, s: &[u8], i: usize) -> usize
+fn form_source(form: Form, s: &[u8], i: usize) -> usize
     requires { ⌜ (patternLength (shape form) ≤ length (now s)) × (i < 64) ⌝ }
     ensures { λ r. ⌜ r ≡ patternSource (shape form) (now (s .entry)) i ⌝ }
 {

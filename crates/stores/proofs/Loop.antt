@@ -7,12 +7,12 @@ use native.Mathlib.Nat.{zero-add}
 use native.Mathlib.Numerals.{add-one}
 use native.Mathlib.Omega.{arith}
 use borrow.Author.Tests.{eq-eqb, ne-eqb}
-use lib.ListN.{length, set, take, drop, length-append, length-drop, take-append-drop}
+use lib.ListN.{length, set, take, drop, length-append, length-drop}
 use lib.Seq.{take-all, take-at, drop-at, take-add, drop-drop, length-take-le}
 use Rattle.stores.specs.Stores.{Plan, Store, place, pixels, due, rest, Memory, memory, apply, run, firstPixels, after, count}
 use Rattle.stores.specs.Calls.{Call, refused, allowed, whole, unfinished, refusal, answered, leave, outcome}
 use Rattle.stores.specs.Loop.{Made, Called}
-use Rattle.stores.proofs.Steps.{run-append, run-length, run-pixels, pixels-length, due-end, due-rest, rest-pixels, rest-place}
+use Rattle.stores.proofs.Steps.{run-append, run-length, run-pixels, pixels-length, due-end, due-rest, rest-pixels, rest-place, after-part}
 
 -- before the first turn
 pub made-none : (d : Plan) (m₀ : Memory) (j : ℕ) → j ≡ 0 → Made d m₀ j (m₀ .place) 0 (m₀ .picture)
@@ -89,6 +89,11 @@ module _ (d : Plan) (m₀ : Memory) (j k i : ℕ) (b : List ℕ) (h : Made d m�
       let e′ : take j l ≡ l = take-all j l (omega arith) in
       rw (ep, eq) (record { leaves = h .now ∙ ap (run d m₀) (e′ ∙ sym e); counts = omega (arith, ap length e) })
 
+-- out of a loop over the pixels of block k alone: the first n are made
+pub made-first : (d : Plan) (b₀ : List ℕ) (k n : ℕ) (b : List ℕ) → Made d (memory b₀ k) n k n b → k < d .blocks → n ≤ d .size k → b ≡ firstPixels d k b₀ n
+unfolding after
+made-first d b₀ k n b h kb q = ap (λ (m : Memory). m .picture) (h .now ∙ after-part d b₀ k n kb q)
+
 -- ---- a turn that is one call, from the start of block k
 
 module _ (d : Plan) (m₀ : Memory) (j k : ℕ) (b : List ℕ) (h : Made d m₀ j k 0 b) (kb : k < d .blocks) where
@@ -108,14 +113,6 @@ module _ (d : Plan) (m₀ : Memory) (j k : ℕ) (b : List ℕ) (h : Made d m₀ 
   made-block u b′ eu e j′ k′ ej ek =
       let z : j′ ≡ (j + u) + 1 = omega arith in
       rw (z, ek) (made-place d m₀ (j + u) k u b′ (made-pixels u b′ (omega arith) e) kb (omega arith))
-
-  -- the call makes j′ stores and says so itself
-  pub made-then : (j′ k′ i′ : ℕ) (b′ : List ℕ) → Made d (memory b k) j′ k′ i′ b′ → Made d m₀ (j + j′) k′ i′ b′
-  made-then j′ k′ i′ b′ g =
-      let l = due d k in
-      let e : drop j (due d (m₀ .place)) ≡ take j′ l ++ drop j′ l = h .left kb ∙ sym (due-rest d k kb) ∙ sym (take-append-drop j′ l) in
-      let x = more d m₀ j k 0 b h j′ (take j′ l) (drop j′ l) (length-take-le j′ l (g .fits)) e in
-      record { now = g .now ∙ x .now; left = λ q. x .left ∙ g .left q; over = λ q. x .left ∙ g .over q; fits = x .fits }
 
 -- ---- what a function says of its call, in the words of specs/Calls
 

@@ -6,9 +6,9 @@ use Prim.Native.Nat.{ℕ, _<_}
 use Rattle.block.specs.Block.{kindOf}
 use Rattle.stores.specs.Stores.{Plan, firstPixels}
 use Rattle.stores.proofs.Pixels.{first-none}
-use Rattle.paint_block.specs.Value.{pixelCount}
-use Rattle.paint_block.specs.Asked.{Drawable}
-use Rattle.paint_block.proofs.Families.{count-0, count-64}
+use Rattle.paint.specs.Value.{pixelCount}
+use Rattle.paint.specs.Asked.{Drawable}
+use Rattle.paint.proofs.Counts.{count-0, count-64}
 
 module _ (code : ℕ) (s : List ℕ) where
   pub none-painted : code ≡ 1 → (d : Plan) (b : List ℕ) → b ≡ firstPixels d 0 b (pixelCount (kindOf code s))

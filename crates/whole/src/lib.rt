@@ -20,9 +20,9 @@ ghost use Rattle.motion.specs.Motion.{rasterIndex, copiedIndex};
 ghost use Rattle.block.specs.Block.{kindOf};
 ghost use Rattle.stores.specs.Stores.{firstPixels};
 ghost use Rattle.paint.specs.Paint.{single, fixedValue, backValue};
-ghost use Rattle.paint.specs.Asked.{Square};
-ghost use Rattle.paint_block.specs.Value.{pixelCount, blockPlan};
-ghost use Rattle.paint_block.specs.Asked.{Canvas, Pointed, Drawable};
+ghost use Rattle.paint.specs.Value.{pixelCount, blockPlan};
+ghost use Rattle.paint.specs.Asked.{Square, Canvas, Drawable};
+ghost use Rattle.whole.specs.Asked.{Pointed};
 
 // A copy of the 8x8 of front that v points at.
 fn front_by(v: Vector, front: &[u8], back: &mut [u8], w: usize, h: usize, x: usize, y: usize)

@@ -11,7 +11,7 @@ use Rattle.packet.specs.Packet.{startOf}
 use Rattle.packet.specs.Verdict.{andThen, blockVerdict, endVerdict, verdictFrom, blocksVerdict, mapFits, legal, legalSize}
 use Rattle.stores.specs.Stores.{pixels as pixelStores, stores, following, apply, run, after, count}
 use Rattle.stores.specs.Calls.{answered, leave, outcome}
-use Rattle.paint_block.specs.Value.{pixelCount, pixelValue}
+use Rattle.paint.specs.Value.{pixelCount, pixelValue}
 use Rattle.draw.specs.Drawing.{sizeAt, targetAt, valueAt}
 use Rattle.draw.specs.Call.{callVerdict, comes}
 use Rattle.palette.specs.Store.{applied, each, byte}

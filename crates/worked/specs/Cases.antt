@@ -6,7 +6,7 @@ use lib.ListN.{take, getD, replicate}
 use Rattle.motion.specs.declared.Vector.{Vector}
 use Rattle.motion.specs.Motion.{aheadVector, nearVector}
 use Rattle.block.specs.Block.{codeAt, kindOf}
-use Rattle.paint_block.specs.Value.{pixelValue}
+use Rattle.paint.specs.Value.{pixelValue}
 use Rattle.stores.specs.Stores.{Memory, memory}
 use Rattle.stores.specs.Calls.{Answer, whole, unfinished, refusal, Outcome, reply}
 use Rattle.draw.specs.Call.{Request, request, Reason, calling, leaves}

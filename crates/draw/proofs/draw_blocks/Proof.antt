@@ -2,7 +2,7 @@ use mathlib.Core.Path.{_∙_}
 use Prim.Native.Nat.{_*_, _-_}
 use native.Mathlib.Omega.{arith}
 use Rattle.block.specs.Block.{kindOf}
-use Rattle.paint_block.proofs.Families.{count-few}
+use Rattle.paint.proofs.Counts.{count-few}
 use Rattle.packet.specs.Packet.{packet}
 use Rattle.packet.proofs.Walk.{blocks-few, mapped}
 use Rattle.draw.proofs.Going.{Going, small, going-start, going-end, going-length, canvas, drawable, at-small, right, below, going-stop, going-block}
@@ -15,8 +15,8 @@ use Rattle.block.proofs.code_at.Reads as code-at-reads
 use Rattle.block.proofs.data_length.Reads as data-length-reads
 use Rattle.draw.proofs.pixel_count.Reads as pixel-count-reads
 use Rattle.packet.proofs.data_position.Reads as data-position-reads
+use Rattle.paint.proofs.paint_part.Reads as paint-part-reads
 use Rattle.paint.proofs.set_place.Reads as set-place-reads
-use Rattle.paint_block.proofs.paint_block.Reads as paint-block-reads
 use Rattle.whole.proofs.paint_whole.Reads as paint-whole-reads
 use Rattle.words.proofs.part_from.Reads as part-from-reads
 
@@ -64,14 +64,14 @@ part-from-requires c κs = search needs
 pixel-count-requires : tie.Need-pixel-count-requires Inv-loop μ-loop
 pixel-count-requires c κs = c .before .code-at .ensures .1
 
-paint-block-requires : tie.Need-paint-block-requires Inv-loop μ-loop
-paint-block-requires c κs = (drawable _ _ _ _ _ _ _ _ _ _ _ _ (c .before .before .before .before .before .before .loop .inv) (c .before .before .before .before .before .before .before .before .before .before .before .before .before .pre) (c .before .before .before .before .before .loop-test .taken) _ _ (c .before .before .before .before .code-at .ensures .0) (c .before .before .before .part-from .ensures) _ (omega (arith, c .before .if1 .taken, c .before .before .pixel-count .ensures)), canvas _ _ _ _ _ _ _ _ _ _ _ _ (c .before .before .before .before .before .before .loop .inv) (c .before .before .before .before .before .before .before .before .before .before .before .before .before .pre) (c .before .before .before .before .before .loop-test .taken) _ _ (c .before .before .before .before .code-at .ensures .0) (c .before .before .before .part-from .ensures))
+paint-part-requires : tie.Need-paint-part-requires Inv-loop μ-loop
+paint-part-requires c κs = (drawable _ _ _ _ _ _ _ _ _ _ _ _ (c .before .before .before .before .before .before .loop .inv) (c .before .before .before .before .before .before .before .before .before .before .before .before .before .pre) (c .before .before .before .before .before .loop-test .taken) _ _ (c .before .before .before .before .code-at .ensures .0) (c .before .before .before .part-from .ensures) _ (omega (arith, c .before .if1 .taken, c .before .before .pixel-count .ensures)), canvas _ _ _ _ _ _ _ _ _ _ _ _ (c .before .before .before .before .before .before .loop .inv) (c .before .before .before .before .before .before .before .before .before .before .before .before .before .pre) (c .before .before .before .before .before .loop-test .taken) _ _ (c .before .before .before .before .code-at .ensures .0) (c .before .before .before .part-from .ensures))
 
 same-length : tie.Need-same-length Inv-loop μ-loop
-same-length c = c .before .before .paint-block .kept .1 .1 .1 .0 ∙ going-length _ _ _ _ _ _ _ _ _ _ _ _ (c .before .before .before .before .before .before .before .before .before .loop .inv)
+same-length c = c .before .before .paint-part .kept .1 .1 .1 .0 ∙ going-length _ _ _ _ _ _ _ _ _ _ _ _ (c .before .before .before .before .before .before .before .before .before .loop .inv)
 
 returns : tie.Need-returns Inv-loop μ-loop
-returns c = going-stop _ _ _ _ _ _ _ _ _ _ _ _ (c .before .before .before .before .before .before .before .before .before .loop .inv) (c .before .before .before .before .before .before .before .before .before .before .before .before .before .before .before .before .pre) (c .before .before .before .before .before .before .before .before .loop-test .taken) _ _ (c .before .before .before .before .before .before .before .code-at .ensures .0) (c .before .before .before .before .before .before .part-from .ensures) _ _ (c .before .before .before .before .before .pixel-count .ensures) (c .before .before .before .before .if1 .taken) (c .before .before .paint-block .ensures)
+returns c = going-stop _ _ _ _ _ _ _ _ _ _ _ _ (c .before .before .before .before .before .before .before .before .before .loop .inv) (c .before .before .before .before .before .before .before .before .before .before .before .before .before .before .before .before .pre) (c .before .before .before .before .before .before .before .before .loop-test .taken) _ _ (c .before .before .before .before .before .before .before .code-at .ensures .0) (c .before .before .before .before .before .before .part-from .ensures) _ _ (c .before .before .before .before .before .pixel-count .ensures) (c .before .before .before .before .if1 .taken) (c .before .before .paint-part .ensures)
 
 paint-whole-requires : tie.Need-paint-whole-requires Inv-loop μ-loop
 paint-whole-requires c κs = (drawable _ _ _ _ _ _ _ _ _ _ _ _ (c .before .before .before .before .before .before .loop .inv) (c .before .before .before .before .before .before .before .before .before .before .before .before .before .pre) (c .before .before .before .before .before .loop-test .taken) _ _ (c .before .before .before .before .code-at .ensures .0) (c .before .before .before .part-from .ensures) _ (omega arith), canvas _ _ _ _ _ _ _ _ _ _ _ _ (c .before .before .before .before .before .before .loop .inv) (c .before .before .before .before .before .before .before .before .before .before .before .before .before .pre) (c .before .before .before .before .before .loop-test .taken) _ _ (c .before .before .before .before .code-at .ensures .0) (c .before .before .before .part-from .ensures))
@@ -142,7 +142,7 @@ draw-blocks-spec =
     code-at-requires
     part-from-requires
     pixel-count-requires
-    paint-block-requires
+    paint-part-requires
     same-length
     returns
     paint-whole-requires

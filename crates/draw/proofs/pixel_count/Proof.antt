@@ -1,5 +1,4 @@
-use Rattle.paint_block.proofs.Families.{count-0, count-64}
-use borrow.Author.Needs.{needs}
+use Rattle.paint.proofs.Counts.{count-0, count-64}
 use Rattle.draw.proofs.pixel_count.Statement.{statement}
 use Rattle.draw.proofs.pixel_count.Tie as tie
 use Rattle.draw.proofs.pixel_count.Reads as reads

@@ -1,4 +1,4 @@
-use Rattle.paint_block.proofs.Families.{starts, pointed-front, back-square, back-copied}
+use Rattle.whole.proofs.Families.{starts, pointed-front, back-square, back-copied}
 use borrow.Author.Needs.{needs}
 use Rattle.whole.proofs.back_by.Statement.{statement}
 use Rattle.whole.proofs.back_by.Tie as tie

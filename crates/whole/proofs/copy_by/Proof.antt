@@ -1,5 +1,5 @@
 use native.Mathlib.Omega.{arith}
-use Rattle.paint_block.proofs.Families.{copy-pointed, back-canvas, paints-back, paints-front}
+use Rattle.whole.proofs.Families.{copy-pointed, back-canvas, paints-back, paints-front}
 use borrow.Author.Needs.{needs}
 use Rattle.whole.proofs.copy_by.Statement.{statement}
 use Rattle.whole.proofs.copy_by.Tie as tie

@@ -1,4 +1,4 @@
-use Rattle.paint_block.proofs.Families.{starts, pointed-front, back-square, front-copied}
+use Rattle.whole.proofs.Families.{starts, pointed-front, back-square, front-copied}
 use borrow.Author.Needs.{needs}
 use Rattle.whole.proofs.front_by.Statement.{statement}
 use Rattle.whole.proofs.front_by.Tie as tie

@@ -3,7 +3,7 @@ use native.Mathlib.Omega.{arith}
 use Rattle.block.specs.Block.{one, two, four, eight, celled, dithered, dataLength}
 use Rattle.words.proofs.Tests.{beyond}
 use Rattle.block.proofs.Codes.{kind-7, kind-8, kind-9, kind-A, kind-B, kind-C, kind-D, kind-E, kind-F}
-use Rattle.paint_block.proofs.Families.{front-square, back-square, there, same-kind, paints-same, paints-form, paints-cells, paints-dither}
+use Rattle.whole.proofs.Families.{front-square, back-square, there, same-kind, paints-same, paints-form, paints-cells, paints-dither}
 use borrow.Author.Needs.{needs}
 use Rattle.whole.proofs.paint_all.Statement.{statement}
 use Rattle.whole.proofs.paint_all.Tie as tie

@@ -1,6 +1,6 @@
 use mathlib.Core.Path.{refl}
 use Rattle.pattern.proofs.Bounds.{numbers-shaped}
-use Rattle.paint_block.proofs.Families.{form-painted}
+use Rattle.whole.proofs.Families.{form-painted}
 use borrow.Author.Needs.{needs}
 use Rattle.whole.proofs.whole_form.Statement.{statement}
 use Rattle.whole.proofs.whole_form.Tie as tie

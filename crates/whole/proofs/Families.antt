@@ -2,27 +2,26 @@
 -- Assumes nothing.
 use mathlib.Core.Path.{_≡_, refl, sym, ap, _∙_, subst}
 use mathlib.Core.Logic.{_⊎_, inl, inr, ⊎-elim}
-use mathlib.Core.Bool.{Bool, true}
 use mathlib.Core.List.{List}
-use Prim.Native.Nat.{ℕ, zero, suc, _+_, _-_, _*_, _/_, _≤_, _<_}
+use Prim.Native.Nat.{ℕ, zero, suc, _+_, _-_, _*_, _≤_, _<_}
 use native.Mathlib.Omega.{arith}
 use native.Mathlib.Nat.{mul-le-mul-right}
 use lib.ListN.{length, getD}
 use Rattle.pattern.specs.declared.Form.{Form}
 use Rattle.pattern.specs.Form.{Shape, shape}
-use Rattle.pattern.specs.Pattern.{patternLength, patternSource}
+use Rattle.pattern.specs.Pattern.{patternSource}
 use Rattle.motion.specs.declared.Vector.{Vector}
-use Rattle.motion.specs.Motion.{aheadVector, negated, nearVector, farVector, pointsInside, rasterIndex, copiedIndex, Short}
+use Rattle.motion.specs.Motion.{aheadVector, negated, nearVector, farVector, rasterIndex, copiedIndex, Short}
 use Rattle.motion.proofs.Vectors.{inside-each}
-use Rattle.block.specs.Block.{Side, pixels, Kind, same, kept, ahead, behind, near, far, patterned, celled, dithered, refused, kinds, kindOf, dataLength, copyInside, cellSource, ditherSource, source, fetched}
+use Rattle.block.specs.Block.{Side, pixels, Kind, same, ahead, behind, near, far, patterned, celled, dithered, kindOf, dataLength, cellSource, ditherSource, source, fetched}
 use Rattle.block.specs.Asked.{vectorOf}
-use Rattle.block.proofs.Codes.{each-code, kind-0, kind-1, kind-back, kind-front, copy-judged}
-use Rattle.stores.specs.Stores.{Plan, firstPixels}
-use Rattle.stores.proofs.Pixels.{first-none, first-agree}
+use Rattle.block.proofs.Codes.{kind-0, kind-1, kind-back, kind-front, copy-judged}
+use Rattle.stores.specs.Stores.{firstPixels}
+use Rattle.stores.proofs.Pixels.{first-agree}
 use Rattle.paint.specs.Paint.{single, fixedValue, backValue}
-use Rattle.paint.specs.Asked.{Square}
-use Rattle.paint_block.specs.Value.{pixelCount, pixelValue, blockPlan}
-use Rattle.paint_block.specs.Asked.{Canvas, Pointed, Drawable}
+use Rattle.paint.specs.Value.{pixelCount, pixelValue, blockPlan}
+use Rattle.paint.specs.Asked.{Square, Canvas, Drawable}
+use Rattle.whole.specs.Asked.{Pointed}
 
 -- ---- the picture
 
@@ -65,7 +64,7 @@ pointed-front w h x y front back c v p = front-square _ _ _ _ _ _ (pointed-canva
 -- ---- the same pixels by another account of their values
 
 module _ (target : ℕ → ℕ) (b b′ : List ℕ) (n : ℕ) where
-  pub same-pixels : (u v : ℕ → List ℕ → ℕ) → ((i : ℕ) (a : List ℕ) → u i a ≡ v i a)
+  same-pixels : (u v : ℕ → List ℕ → ℕ) → ((i : ℕ) (a : List ℕ) → u i a ≡ v i a)
       → b′ ≡ firstPixels (single target u) 0 b n → b′ ≡ firstPixels (single target v) 0 b n
   same-pixels u v h e = e ∙ first-agree (single target u) (single target v) 0 0 b n (λ i l. refl) (λ i l a g. h i a)
 
@@ -87,40 +86,9 @@ pub form-painted : (f g : Form) (q : Shape) (target : ℕ → ℕ) (s b b′ : L
 form-painted f g q target s b b′ n e k h =
     subst (λ (x : Shape). b′ ≡ firstPixels (single target (fixedValue (patternSource x s) s)) 0 b n) (sym (ap shape e ∙ k)) h
 
--- ---- how many pixels a code stores
-
-Counted : List ℕ → ℕ → Type 0
-Counted s c = (c ≡ 1 → ⊥) → 64 ≡ pixelCount (kindOf c s)
-
-pub count-64 : (s : List ℕ) (c : ℕ) → c < 16 → (c ≡ 1 → ⊥) → 64 ≡ pixelCount (kindOf c s)
-unfolding Counted kindOf kinds pixelCount
-count-64 s =
-    each-code (Counted s) (λ n. refl) (λ n. absurd (n refl)) (λ n. refl) (λ n. refl) (λ n. refl) (λ n. refl) (λ n. refl) (λ n. refl)
-    (λ n. refl) (λ n. refl) (λ n. refl) (λ n. refl) (λ n. refl) (λ n. refl) (λ n. refl) (λ n. refl)
-
-pub count-0 : (s : List ℕ) (c : ℕ) → c ≡ 1 → 0 ≡ pixelCount (kindOf c s)
-unfolding kindOf kinds pixelCount
-count-0 s c e = rw e
-
-pub count-few : (κ : Kind) → pixelCount κ ≤ 64
-unfolding pixelCount
-count-few same = omega arith
-count-few kept = omega arith
-count-few (ahead b) = omega arith
-count-few (behind b) = omega arith
-count-few (near b) = omega arith
-count-few (far a b) = omega arith
-count-few (patterned f) = omega arith
-count-few (celled c) = omega arith
-count-few dithered = omega arith
-count-few refused = omega arith
-
 -- ---- what each kind asks
 
 module _ (code : ℕ) (s : List ℕ) (w h x y n : ℕ) (d : Drawable code s w h x y n) where
-  pub few : n ≤ 64
-  few = omega (arith, d .count, count-few (kindOf code s))
-
   -- the vector of code 2 to 5 points inside
   pub copy-pointed : (v : Vector) → 1 < code → code < 6 → v ≡ vectorOf (kindOf code s) → Short v → Pointed v w h x y
   copy-pointed v g l e t = record { short = t; inside = copy-judged s code w h x y v _ g l e refl ∙ d .inside }
@@ -146,7 +114,7 @@ module _ (code : ℕ) (s : List ℕ) (w x y n : ℕ) (front b b′ : List ℕ) w
       → b′ ≡ firstPixels (single (rasterIndex w x y) u) 0 b n → b′ ≡ firstPixels (blockPlan (kindOf code s) s w x y front) 0 b n
   by-kind κ k u h e =
       subst (λ (z : Kind). b′ ≡ firstPixels (blockPlan z s w x y front) 0 b n) (sym k)
-      (same-pixels (rasterIndex w x y) b b′ n u (pixelValue κ s w x y front) h e)
+      (e ∙ first-agree (single (rasterIndex w x y) u) (blockPlan κ s w x y front) 0 0 b n (λ i l. refl) (λ i l a g. h i a))
 
   pub paints-same : kindOf code s ≡ same → b′ ≡ firstPixels (single (rasterIndex w x y) (fixedValue (rasterIndex w x y) front)) 0 b n
       → b′ ≡ firstPixels (blockPlan (kindOf code s) s w x y front) 0 b n
@@ -207,13 +175,3 @@ module _ (code : ℕ) (s : List ℕ) (w x y n : ℕ) (front b b′ : List ℕ) w
       → b′ ≡ firstPixels (blockPlan (kindOf code s) s w x y front) 0 b n
   unfolding fixedValue pixelValue source fetched
   paints-dither k = by-kind dithered k _ (λ i a. refl)
-
--- code 1 stores nothing, so where the code is below 2, what is stored is of code 0
-module _ (code : ℕ) (s : List ℕ) (w h x y n : ℕ) (d : Drawable code s w h x y n) (l : code < 2) (front b b′ : List ℕ) where
-  pub paints-low : b′ ≡ firstPixels (single (rasterIndex w x y) (fixedValue (rasterIndex w x y) front)) 0 b n
-      → b′ ≡ firstPixels (blockPlan (kindOf code s) s w x y front) 0 b n
-  paints-low e = by-count n refl
-    where
-      by-count : (m : ℕ) → n ≡ m → b′ ≡ firstPixels (blockPlan (kindOf code s) s w x y front) 0 b n
-      by-count zero z = e ∙ ap (firstPixels _ 0 b) z ∙ first-none _ _ _ ∙ sym (first-none _ _ _) ∙ ap (firstPixels _ 0 b) (sym z)
-      by-count (suc m) z = paints-same code s w x y n front b b′ (same-kind code s w h x y n d l (omega (arith, z))) e

@@ -5,7 +5,6 @@ use Prim.Native.Nat.{ℕ}
 use Rattle.motion.specs.Motion.{rasterIndex}
 use Rattle.block.specs.Block.{Kind, same, kept, ahead, behind, near, far, patterned, celled, dithered, refused, source, fetched}
 use Rattle.stores.specs.Stores.{Plan}
-use Rattle.paint.specs.Paint.{single}
 
 -- document 01: 64 for each block but code 1
 unfoldable pub pixelCount : Kind → ℕ
@@ -26,4 +25,5 @@ pixelValue κ s w x y front i back = fetched (source κ s w x y i) s front back
 
 -- the block as a plan of its own
 abbrev pub blockPlan : Kind → List ℕ → ℕ → ℕ → ℕ → List ℕ → Plan
-blockPlan κ s w x y front = single (rasterIndex w x y) (pixelValue κ s w x y front)
+blockPlan κ s w x y front =
+    record { blocks = 1; size = λ k. pixelCount κ; target = λ k i. rasterIndex w x y i; value = λ k i b. pixelValue κ s w x y front i b }
