@@ -6,9 +6,7 @@ use mathlib.Core.Bool.{Bool, true, false, cond}
 use mathlib.Core.List.{List}
 use Prim.Native.Nat.{ℕ, _+_, _-_, _*_, _≤_, _<_, min}
 use native.Mathlib.Omega.{arith}
-use native.Mathlib.Decide.{decLt}
-use borrow.Author.Tests.{lt-ltb, le-ltb}
-use lib.Dec.{eqb, ltb}
+use lib.Dec.{eqb}
 use lib.ListN.{length, getD, take, length-take}
 use Rattle.refusal.specs.Number.{Verdict, accept, refuse}
 use Rattle.motion.specs.declared.Vector.{Vector}
@@ -20,7 +18,7 @@ use Rattle.packet.proofs.Sizes.{size-is}
 use Rattle.stores.specs.Stores.{Plan, Memory, memory, Off, after, count}
 use Rattle.stores.specs.Calls.{Call, allowed, Outcome, answered, Event, returns, cut, callOf, leave, leaveCut, outcome, happens, reply, step}
 use Rattle.stores.proofs.Recover.{after-off}
-use Rattle.stores.proofs.Within.{AgreeTo, agree-take, take-agree, Both, after-within, cut-least}
+use Rattle.stores.proofs.Within.{AgreeTo, agree-take, take-agree, take-short, Both, after-within, cut-least}
 use Rattle.paint.specs.Value.{pixelValue}
 use Rattle.draw.specs.Drawing.{sizeAt, targetAt, valueAt, plan}
 use Rattle.draw.specs.Call.{Request, packetOf, callVerdict, drawVerdict, Reason, comes, calling}
@@ -100,24 +98,10 @@ beyond-unwritten m (cut c j) t h = by (drawVerdict c m) refl
 
 -- ---- none is read
 
--- whether a list is shorter than n shows in its leading n
-same-short : (n : ℕ) (a b : List ℕ) → take n a ≡ take n b → ltb (length a) n ≡ ltb (length b) n
-same-short n a b e = by (decLt (length a) n)
-  where
-    least : min n (length a) ≡ min n (length b)
-    least = omega (arith, length-take n a, length-take n b, ap length e)
-
-    by : Dec (length a < n) → ltb (length a) n ≡ ltb (length b) n
-    by (yes h) = let z : length b < n = omega (arith, least) in lt-ltb (length a) n h ∙ sym (lt-ltb (length b) n z)
-    by (no h) =
-        let y : n ≤ length a = omega arith in
-        let z : n ≤ length b = omega (arith, least) in
-        le-ltb (length a) n y ∙ sym (le-ltb (length b) n z)
-
 module _ (c : Request) (front : List ℕ) (m m′ : Memory) (f : take (area c) (c .front) ≡ take (area c) front) (s : SameTo (area c) m m′) where
   same-verdict : drawVerdict c m ≡ drawVerdict (showing c front) m′
   unfolding callVerdict
-  same-verdict = rw (same-short (area c) (c .front) front f, same-short (area c) (m .picture) (m′ .picture) (s .picture), s .place) refl
+  same-verdict = rw (take-short (area c) (c .front) front f, take-short (area c) (m .picture) (m′ .picture) (s .picture), s .place) refl
 
   agree : (a b : List ℕ) → area c ≤ length a → take (area c) a ≡ take (area c) b → AgreeTo (area c) a b
   agree a b l e = take-agree (area c) a b l (omega (arith, length-take (area c) a, length-take (area c) b, ap length e)) e

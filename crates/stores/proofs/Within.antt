@@ -5,6 +5,8 @@ use mathlib.Core.List.{List}
 use Prim.Native.Nat.{ℕ, zero, suc, _-_, _≤_, _<_, min}
 use native.Mathlib.Decide.{ℕ-discrete, decLt}
 use native.Mathlib.Omega.{arith}
+use borrow.Author.Tests.{lt-ltb, le-ltb}
+use lib.Dec.{ltb}
 use lib.ListN.{length, getD, set, take, length-set, length-take}
 use lib.Seq.{getD-set-same, getD-set-other, getD-take, ext-getD, take-all, take-take}
 use Rattle.stores.specs.Stores.{Plan, due, Memory, memory, run, firstPixels, after}
@@ -33,6 +35,20 @@ take-agree n a b la lb e =
       right-long = lb;
       same = λ t h. sym (getD-take n a t 0 h) ∙ ap (λ (l : List ℕ). getD l t 0) e ∙ getD-take n b t 0 h;
     }
+
+-- whether a list is shorter than n shows in its leading part
+pub take-short : (n : ℕ) (a b : List ℕ) → take n a ≡ take n b → ltb (length a) n ≡ ltb (length b) n
+take-short n a b e = by (decLt (length a) n)
+  where
+    least : min n (length a) ≡ min n (length b)
+    least = omega (arith, length-take n a, length-take n b, ap length e)
+
+    by : Dec (length a < n) → ltb (length a) n ≡ ltb (length b) n
+    by (yes h) = let z : length b < n = omega (arith, least) in lt-ltb (length a) n h ∙ sym (lt-ltb (length b) n z)
+    by (no h) =
+        let y : n ≤ length a = omega arith in
+        let z : n ≤ length b = omega (arith, least) in
+        le-ltb (length a) n y ∙ sym (le-ltb (length b) n z)
 
 -- one store on both
 agree-set : (n : ℕ) (a b : List ℕ) (t v : ℕ) → AgreeTo n a b → AgreeTo n (set a t v) (set b t v)
