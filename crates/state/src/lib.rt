@@ -67,11 +67,19 @@ impl Cursor {
 }
 
 impl State {
-    fn at(mut self, cursor: Cursor) -> State
+    // With another cursor, and all else as it was.
+    fn at(self, cursor: Cursor) -> State
         ensures { λ r. ⌜ r ≡ at self cursor ⌝ }
     {
-        self.cursor = cursor;
-        self
+        let map = self.map;
+        State {
+            cursor,
+            width: self.width,
+            height: self.height,
+            front: self.front,
+            map,
+            unsent: self.unsent,
+        }
     }
 
     // Behind an opcode that changes nothing else.
@@ -98,25 +106,38 @@ impl State {
     }
 
     // 05: with a size.
-    pub fn sized(mut self, p: usize, w: usize, h: usize) -> State
+    pub fn sized(self, p: usize, w: usize, h: usize) -> State
         ensures { λ r. ⌜ r ≡ sized self p w h ⌝ }
     {
         let c = self.cursor;
-        self.cursor = c.behind(p);
-        self.width = w;
-        self.height = h;
-        self
+        let cursor = c.behind(p);
+        let map = self.map;
+        State {
+            cursor,
+            width: w,
+            height: h,
+            front: self.front,
+            map,
+            unsent: self.unsent,
+        }
     }
 
     // 07: with the picture that is shown next, and nothing unsent.
-    pub fn sent(mut self, p: usize) -> State
+    pub fn sent(self, p: usize) -> State
         ensures { λ r. ⌜ r ≡ sent self p ⌝ }
     {
         let c = self.cursor;
-        self.cursor = c.behind(p);
-        self.front = shown_next(self.unsent, self.front);
-        self.unsent = false;
-        self
+        let cursor = c.behind(p);
+        let front = shown_next(self.unsent, self.front);
+        let map = self.map;
+        State {
+            cursor,
+            width: self.width,
+            height: self.height,
+            front,
+            map,
+            unsent: false,
+        }
     }
 
     // 0F: with another pending map.
