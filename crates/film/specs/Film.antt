@@ -1,12 +1,11 @@
 -- One step over a film (document 01, "Film, chunks, opcodes"): the answer, and everything lent afterwards, for every film, state and lent memory.
 -- Assumes nothing.
-use mathlib.Core.Path.{_≡_}
 use mathlib.Core.Bool.{Bool, true, false, cond}
 use mathlib.Core.List.{List}
-use Prim.Native.Nat.{ℕ, _+_, _-_, _≤_}
+use Prim.Native.Nat.{ℕ, _+_, _-_}
 use lib.Dec.{eqb}
 use lib.ListN.{length, take, drop}
-use Rattle.stores.specs.Stores.{memory}
+use Rattle.stores.specs.Stores.{Memory, memory}
 use Rattle.stores.specs.Calls.{step, reply}
 use Rattle.draw.specs.Call.{Request, request, calling}
 use Rattle.palette.specs.Update.{Update, verdictOn, paletteAfter}
@@ -16,72 +15,99 @@ use Rattle.palette.specs.Mask.{setPaletteCompressed}
 use Rattle.state.specs.declared.Map.{Map}
 use Rattle.state.specs.declared.Map.the-variants.{Missing, Part}
 use Rattle.state.specs.declared.State.{State}
+use Rattle.state.specs.Moves.{into, mapped}
 use Rattle.heads.specs.declared.Opcode.{Opcode}
 use Rattle.next.specs.Next.{Standing, nextOf}
-use Rattle.next.specs.Next.{refused, ended, chunk, opcode}
-use Rattle.opcodes.specs.Opcodes.{Step, at, mapped, quietStep, paletteStep, drawnStep}
-use Rattle.opcodes.specs.Opcodes as said
+use Rattle.next.specs.Next as found
+use Rattle.opcodes.specs.Opcodes.{Step, taken, ended, refused, quiet, quietAnswer, paletteAnswer, drawnStep}
 
--- an answer, and then the palette, the two lent pictures and the place
-pub data Outcome : Type 0 where
-  after : Step → List ℕ → List ℕ → List ℕ → ℕ → Outcome
+-- ---- what is lent
+
+-- all that is lent to a step for writing: the palette, the two pictures, and the place, which is the number of the next block to draw
+pub record Lent : Type 0 where
+  pub palette : List ℕ
+  pub first : List ℕ
+  pub second : List ℕ
+  pub place : ℕ
+
+abbrev pub lent : List ℕ → List ℕ → List ℕ → ℕ → Lent
+lent palette a b place = record { palette = palette; first = a; second = b; place = place }
+
+-- with another palette, or with other pictures and place; all else as it was
+abbrev pub withPalette : Lent → List ℕ → Lent
+withPalette l palette = record { palette = palette; first = l .first; second = l .second; place = l .place }
+
+abbrev pub withPictures : Lent → List ℕ → List ℕ → ℕ → Lent
+withPictures l a b place = record { palette = l .palette; first = a; second = b; place = place }
+
+-- the pictures the other way round
+abbrev pub swap : Lent → Lent
+swap l = withPictures l (l .second) (l .first) (l .place)
+
+-- a step's answer, and what is lent afterwards
+pub record Outcome : Type 0 where
+  pub step : Step
+  pub lent : Lent
+
+abbrev pub after : Step → Lent → Outcome
+after x l = record { step = x; lent = l }
+
+-- ---- 11
+
+-- a drawing call on the second picture: its answer, and that picture and the place as it leaves them
+unfoldable pub called : State → ℕ → Request → Lent → Outcome
+called st p q l =
+    after (drawnStep st p (reply calling (memory (l .second) (l .place)) q))
+    (withPictures l (l .first) (step calling (memory (l .second) (l .place)) q .picture) (step calling (memory (l .second) (l .place)) q .place))
+
+-- where the first picture is front, which is shown and read, and the second is back, which is drawn on
+abbrev pub drawSecond : State → ℕ → List ℕ → List ℕ → ℕ → Lent → Outcome
+drawSecond st p map packet allowed l = called st p (request (st .width) (st .height) map packet (l .first) allowed) l
+
+-- where the first picture is front, or the second
+unfoldable pub drawOn : State → ℕ → List ℕ → List ℕ → ℕ → Lent → Outcome
+drawOn st p map packet allowed l =
+    cond (eqb (st .front) 0) (drawSecond st p map packet allowed l)
+    (after (drawSecond st p map packet allowed (swap l) .step) (swap (drawSecond st p map packet allowed (swap l) .lent)))
 
 -- the part of a film from s to e
 abbrev pub part : List ℕ → ℕ → ℕ → List ℕ
 part film s e = take (e - s) (drop s film)
 
--- ---- 11
-
--- an answer, and then the two lent pictures and the place
-pub data Drawing : Type 0 where
-  drew : Step → List ℕ → List ℕ → ℕ → Drawing
-
--- the drawing call: the packet behind the 14 bytes of the body that begins at s and ends at p, and the map from ms to me, on the picture that is not front
-unfoldable pub drawOn : List ℕ → State → ℕ → ℕ → ℕ → ℕ → ℕ → List ℕ → List ℕ → ℕ → Drawing
-drawOn film st s p ms me allowed a b place =
-    cond (eqb (st .front) 0)
-    (drew (drawnStep st p (reply calling (memory b place) (request (st .width) (st .height) (part film ms me) (part film (s + 14) p) a allowed)))
-    a
-    (step calling (memory b place) (request (st .width) (st .height) (part film ms me) (part film (s + 14) p) a allowed) .picture)
-    (step calling (memory b place) (request (st .width) (st .height) (part film ms me) (part film (s + 14) p) a allowed) .place))
-    (drew (drawnStep st p (reply calling (memory a place) (request (st .width) (st .height) (part film ms me) (part film (s + 14) p) b allowed)))
-    (step calling (memory a place) (request (st .width) (st .height) (part film ms me) (part film (s + 14) p) b allowed) .picture)
-    b
-    (step calling (memory a place) (request (st .width) (st .height) (part film ms me) (part film (s + 14) p) b allowed) .place))
-
--- 9 without a size or a pending map
-unfoldable pub drawBy : Map → List ℕ → State → ℕ → ℕ → ℕ → List ℕ → List ℕ → ℕ → Drawing
-drawBy Missing film st s p allowed a b place = drew (said.refused 9 0) a b place
-drawBy (Part ms ml) film st s p allowed a b place =
-    cond (eqb (st .width) 0) (drew (said.refused 9 0) a b place) (drawOn film st s p ms (ms + ml) allowed a b place)
-
-unfoldable pub withPalette : List ℕ → Drawing → Outcome
-withPalette palette (drew x a b place) = after x palette a b place
+-- by the pending map, and the body that ends at p: the packet is what remains behind its 14 bytes in front. 9 without a map or a size
+unfoldable pub drawBy : Map → List ℕ → State → List ℕ → ℕ → ℕ → Lent → Outcome
+drawBy Missing film st body p allowed l = after (quiet (refused 9 0)) l
+drawBy (Part start long) film st body p allowed l =
+    cond (eqb (st .width) 0) (after (quiet (refused 9 0)) l) (drawOn st p (part film start (start + long)) (part body 14 (length body)) allowed l)
 
 -- ---- an opcode that is taken
 
-abbrev pub update : State → ℕ → Update → List ℕ → List ℕ → List ℕ → ℕ → Outcome
-update st p u palette a b place = after (paletteStep st p (verdictOn u palette)) (paletteAfter u palette) a b place
+-- 0B, 0C, 0D
+abbrev pub update : State → ℕ → Update → Lent → Outcome
+update st p u l = after (quiet (paletteAnswer st p (verdictOn u (l .palette)))) (withPalette l (paletteAfter u (l .palette)))
 
--- type, version, and the body from s to p
-unfoldable pub act : List ℕ → State → ℕ → ℕ → ℕ → ℕ → ℕ → List ℕ → List ℕ → List ℕ → ℕ → Outcome
-act film st kind version s p allowed palette a b place =
-    cond (eqb kind 15) (after (said.taken (mapped st p (Part s (p - s)) (st .unsent))) palette a b 0)
-    (cond (eqb kind 17) (withPalette palette (drawBy (st .map) film st s p allowed a b place))
-    (cond (eqb kind 11) (update st p (createGradient (part film s p)) palette a b place)
-    (cond (eqb kind 12) (update st p (setPalette (part film s p)) palette a b place)
-    (cond (eqb kind 13) (update st p (setPaletteCompressed (part film s p)) palette a b place)
-    (after (quietStep film st kind version s p) palette a b place)))))
+-- type and version, and the body from s on, which ends at p. 0F: the body becomes the pending map and the place becomes 0
+unfoldable pub act : List ℕ → State → ℕ → ℕ → ℕ → List ℕ → ℕ → ℕ → Lent → Outcome
+act film st kind version s body p allowed l =
+    cond (eqb kind 15) (after (quiet (taken (mapped st p (Part s (p - s))))) (withPictures l (l .first) (l .second) 0))
+    (cond (eqb kind 17) (drawBy (st .map) film st body p allowed l)
+    (cond (eqb kind 11) (update st p (createGradient body) l)
+    (cond (eqb kind 12) (update st p (setPalette body) l)
+    (cond (eqb kind 13) (update st p (setPaletteCompressed body) l)
+    (after (quiet (quietAnswer (length film) st kind version body p)) l)))))
+
+abbrev pub actOn : List ℕ → State → Opcode → ℕ → Lent → Outcome
+actOn film st o allowed l =
+    act film st (o .kind) (o .version) (o .start) (part film (o .start) (o .start + o .long)) (o .start + o .long) allowed l
 
 -- ---- a step
 
 -- by what stands where the state is
-unfoldable pub standing : Standing → List ℕ → State → ℕ → List ℕ → List ℕ → List ℕ → ℕ → Outcome
-standing (refused n k) film st allowed palette a b place = after (said.refused n k) palette a b place
-standing ended film st allowed palette a b place = after (said.ended st) palette a b place
-standing (chunk c) film st allowed palette a b place = after (said.taken (at st (c .position) (c .«chunk_end»))) palette a b place
-standing (opcode o) film st allowed palette a b place = act film st (o .kind) (o .version) (o .start) (o .start + o .long) allowed palette a b place
+unfoldable pub standing : Standing → List ℕ → State → ℕ → Lent → Outcome
+standing (found.refused n k) film st allowed l = after (quiet (refused n k)) l
+standing found.ended film st allowed l = after (quiet (ended st)) l
+standing (found.chunk c) film st allowed l = after (quiet (taken (into st c))) l
+standing (found.opcode o) film st allowed l = actOn film st o allowed l
 
-unfoldable pub stepOf : List ℕ → State → ℕ → List ℕ → List ℕ → List ℕ → ℕ → Outcome
-stepOf film st allowed palette a b place =
-    standing (nextOf film st (length palette) (length a) (length b)) film st allowed palette a b place
+unfoldable pub stepOf : List ℕ → State → ℕ → Lent → Outcome
+stepOf film st allowed l = standing (nextOf film st (length (l .palette)) (length (l .first)) (length (l .second))) film st allowed l

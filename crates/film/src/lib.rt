@@ -6,9 +6,6 @@ use next::find;
 use opcodes::Stepped;
 use opcodes::drawn_step;
 use opcodes::quiet_step;
-use opcodes::state_at;
-use opcodes::state_behind;
-use opcodes::state_mapped;
 use paint::set_place;
 use palette::Updated;
 use palette::create_gradient;
@@ -19,36 +16,27 @@ use state::Map;
 use state::State;
 ghost use mathlib.Core.Path.{_≡_};
 ghost use mathlib.Core.Bool.{true};
-ghost use Prim.Native.Nat.{_+_, _≤_};
+ghost use Prim.Native.Nat.{_≤_};
 ghost use lib.ListN.{length};
-ghost use Rattle.palette.specs.Update.{told, verdictOn, paletteAfter};
-ghost use Rattle.palette.specs.Gradient.{createGradient};
-ghost use Rattle.palette.specs.Entries.{setPalette};
-ghost use Rattle.palette.specs.Mask.{setPaletteCompressed};
+ghost use Rattle.palette.specs.Update.{told};
 ghost use Rattle.state.specs.State.{mapInside};
 ghost use Rattle.next.specs.Next.{Ready};
-ghost use Rattle.opcodes.specs.Opcodes.{steppedAs, paletteStep};
-ghost use Rattle.film.specs.Film.{after, drew, part, drawOn, drawBy, withPalette, act, stepOf};
+ghost use Rattle.opcodes.specs.Opcodes.{quiet, steppedAs, paletteAnswer};
+ghost use Rattle.film.specs.Film.{Lent, lent, withPictures, after, drawOn, drawBy, actOn, stepOf};
 
-// 11 on the picture that is not front: the packet is the part of the film behind the 14 bytes, the map the part from ms to me.
+// 11 on back, the picture that is not front. Whatever else is lent stays as it is.
 fn draw_on(
-    film: &[u8],
     st: State,
-    s: usize,
     p: usize,
-    ms: usize,
-    me: usize,
+    map: &[u8],
+    packet: &[u8],
     a: &mut [u8],
     b: &mut [u8],
     place: &mut usize,
     allowed: usize,
 ) -> Stepped
-    requires { ⌜ (s + 14 ≤ p) × (p ≤ length (now film)) ⌝ }
-    requires { ⌜ (ms ≤ me) × (me ≤ length (now film)) ⌝ }
-    ensures { λ r. ⌜ drew (steppedAs r) (now (a .exit)) (now (b .exit)) (now (place .exit)) ≡ drawOn (now (film .entry)) st s p ms me allowed (now (a .entry)) (now (b .entry)) (now (place .entry)) ⌝ }
+    ensures { λ r. ⌜ ((l : Lent) → after (steppedAs r) (withPictures l (now (a .exit)) (now (b .exit)) (now (place .exit))) ≡ drawOn st p (now (map .entry)) (now (packet .entry)) allowed (withPictures l (now (a .entry)) (now (b .entry)) (now (place .entry)))) ⌝ }
 {
-    let packet = &film[s + 14..p];
-    let map = &film[ms..me];
     if st.front == 0 {
         let d = draw(
             st.width,
@@ -75,43 +63,46 @@ fn draw_on(
     drawn_step(st, p, d)
 }
 
-// 11: 9 without a size or a pending map.
+// 11, its body ending at p: the packet is the part of the film behind the body's 14 bytes. 9 without a size or a pending map.
 fn draw_by(
     film: &[u8],
     st: State,
-    s: usize,
+    body: &[u8],
     p: usize,
     a: &mut [u8],
     b: &mut [u8],
     place: &mut usize,
     allowed: usize,
 ) -> Stepped
-    requires { ⌜ (s + 14 ≤ p) × (p ≤ length (now film)) ⌝ }
+    requires { ⌜ 14 ≤ length (now body) ⌝ }
     requires { ⌜ mapInside (st .map) (length (now film)) ≡ true ⌝ }
-    ensures { λ r. ⌜ drew (steppedAs r) (now (a .exit)) (now (b .exit)) (now (place .exit)) ≡ drawBy (st .map) (now (film .entry)) st s p allowed (now (a .entry)) (now (b .entry)) (now (place .entry)) ⌝ }
+    ensures { λ r. ⌜ ((l : Lent) → after (steppedAs r) (withPictures l (now (a .exit)) (now (b .exit)) (now (place .exit))) ≡ drawBy (st .map) (now (film .entry)) st (now (body .entry)) p allowed (withPictures l (now (a .entry)) (now (b .entry)) (now (place .entry)))) ⌝ }
 {
     let m = st.map;
     match m {
         Map::Missing => Stepped::Refused(Refusal::NoMap),
-        Map::Part(ms, ml) => {
+        Map::Part(start, long) => {
             if st.width == 0 {
                 return Stepped::Refused(Refusal::NoMap);
             }
-            draw_on(film, st, s, p, ms, ms + ml, a, b, place, allowed)
+            let map = &film[start..start + long];
+            let packet = &body[14..];
+            draw_on(st, p, map, packet, a, b, place, allowed)
         }
     }
 }
 
+// 0B, 0C, 0D, after the palette's update.
 fn palette_step(st: State, p: usize, u: Updated) -> Stepped
-    ensures { λ r. ⌜ steppedAs r ≡ paletteStep st p (told u) ⌝ }
+    ensures { λ r. ⌜ steppedAs r ≡ quiet (paletteAnswer st p (told u)) ⌝ }
 {
     match u {
-        Updated::Taken => Stepped::Taken(state_behind(st, p)),
+        Updated::Taken => Stepped::Taken(st.behind(p)),
         Updated::Refused(r) => Stepped::Refused(r),
     }
 }
 
-// An opcode that is taken: its type and version, and its body from s to p.
+// An opcode that is taken.
 fn act_on(
     film: &[u8],
     st: State,
@@ -124,21 +115,22 @@ fn act_on(
 ) -> Stepped
     requires { ⌜ Ready (length (now film)) (st .cursor) o ⌝ }
     requires { ⌜ mapInside (st .map) (length (now film)) ≡ true ⌝ }
-    ensures { λ r. ⌜ after (steppedAs r) (now (palette .exit)) (now (a .exit)) (now (b .exit)) (now (place .exit)) ≡ act (now (film .entry)) st (o .kind) (o .version) (o .start) (o .start + o .long) allowed (now (palette .entry)) (now (a .entry)) (now (b .entry)) (now (place .entry)) ⌝ }
+    ensures { λ r. ⌜ after (steppedAs r) (lent (now (palette .exit)) (now (a .exit)) (now (b .exit)) (now (place .exit))) ≡ actOn (now (film .entry)) st o allowed (lent (now (palette .entry)) (now (a .entry)) (now (b .entry)) (now (place .entry))) ⌝ }
 {
     let s = o.start;
     let p = s + o.long;
     let kind = o.kind;
+    let body = &film[s..p];
     match kind {
-        11 => palette_step(st, p, create_gradient(&film[s..p], palette)),
-        12 => palette_step(st, p, set_palette(&film[s..p], palette)),
-        13 => palette_step(st, p, set_palette_compressed(&film[s..p], palette)),
+        11 => palette_step(st, p, create_gradient(body, palette)),
+        12 => palette_step(st, p, set_palette(body, palette)),
+        13 => palette_step(st, p, set_palette_compressed(body, palette)),
         15 => {
             set_place(place, 0);
-            Stepped::Taken(state_mapped(st, p, Map::Part(s, p - s), st.unsent))
+            Stepped::Taken(st.mapped(p, Map::Part(s, p - s)))
         }
-        17 => draw_by(film, st, s, p, a, b, place, allowed),
-        _ => quiet_step(film, st, kind, o.version, s, p),
+        17 => draw_by(film, st, body, p, a, b, place, allowed),
+        _ => quiet_step(film.len(), st, kind, o.version, body, p),
     }
 }
 
@@ -152,12 +144,12 @@ pub fn step(
     place: &mut usize,
     allowed: usize,
 ) -> Stepped
-    ensures { λ r. ⌜ after (steppedAs r) (now (palette .exit)) (now (a .exit)) (now (b .exit)) (now (place .exit)) ≡ stepOf (now (film .entry)) st allowed (now (palette .entry)) (now (a .entry)) (now (b .entry)) (now (place .entry)) ⌝ }
+    ensures { λ r. ⌜ after (steppedAs r) (lent (now (palette .exit)) (now (a .exit)) (now (b .exit)) (now (place .exit))) ≡ stepOf (now (film .entry)) st allowed (lent (now (palette .entry)) (now (a .entry)) (now (b .entry)) (now (place .entry))) ⌝ }
 {
     match find(film, st, palette.len(), a.len(), b.len()) {
         Next::Refused(r) => Stepped::Refused(r),
         Next::Ended => Stepped::Ended(st),
-        Next::Chunk(c) => Stepped::Taken(state_at(st, c.position, c.chunk_end)),
+        Next::Chunk(c) => Stepped::Taken(st.into_chunk(c)),
         Next::Opcode(o) => act_on(film, st, o, palette, a, b, place, allowed),
     }
 }

@@ -8,18 +8,24 @@ use borrow.Author.Tests.{lt-ltb, le-ltb, ne-eqb}
 use lib.ListN.{length, getD}
 use Rattle.words.specs.Word.{wordAt}
 use Rattle.refusal.specs.Number.{Verdict, accept, refuse}
-use Rattle.heads.specs.declared.ChunkHead.{ChunkHead}
-use Rattle.heads.specs.declared.OpcodeHead.{OpcodeHead}
-use Rattle.heads.specs.Heads.{chunkOf, chunkAt, opcodeOf, opcodeAt, exactly, passedOver, shapeVerdict}
+use Rattle.state.specs.declared.Cursor.{Cursor}
+use Rattle.state.specs.Moves.{cursorInto}
+use Rattle.heads.specs.declared.Opcode.{Opcode}
+use Rattle.heads.specs.Heads.{Head, gives, chunkOf, chunkAt, opcodeOf, opcodeAt, exactly, passedOver, shapeVerdict}
 
-pub chunk-read : (film : List ℕ) (e long : ℕ) (r : ChunkHead) → long ≡ wordAt film e → r ≡ chunkOf (length film) e long → r ≡ chunkAt film e
+pub chunk-inside : (film : ℕ) (c : Cursor) (long : ℕ) (x : Cursor) → c .«chunk_end» + 4 ≤ film → c .«chunk_end» + 4 + long ≤ film → x ≡ cursorInto c long
+    → gives x ≡ chunkOf film c long
+unfolding chunkOf
+chunk-inside film c long x h g e = rw (le-ltb _ _ h, le-ltb _ _ g, e)
+
+pub chunk-read : (film : List ℕ) (c : Cursor) (long : ℕ) (r : Head Cursor) → long ≡ wordAt film (c .«chunk_end») → r ≡ chunkOf (length film) c long → r ≡ chunkAt film c
 unfolding chunkAt
-chunk-read film e long r q h = rw (← q) h
+chunk-read film c long r q h = rw (← q) h
 
-pub opcode-read : (film : List ℕ) (p e long k v b c : ℕ) (r : OpcodeHead) → long ≡ wordAt film p → k ≡ b → b ≡ getD film (p + 2) 0 → v ≡ c → c ≡ getD film (p + 3) 0
-    → r ≡ opcodeOf p e long k v → r ≡ opcodeAt film p e
+pub opcode-read : (film : List ℕ) (c : Cursor) (long k v b d : ℕ) (r : Head Opcode) → long ≡ wordAt film (c .position) → k ≡ b → b ≡ getD film (c .position + 2) 0 → v ≡ d
+    → d ≡ getD film (c .position + 3) 0 → r ≡ opcodeOf (c .position) (c .«chunk_end») long k v → r ≡ opcodeAt film c
 unfolding opcodeAt
-opcode-read film p e long k v b c r q f g i j h = rw (← q, ← g, ← j, ← f, ← i) h
+opcode-read film c long k v b d r q f g i j h = rw (← q, ← g, ← j, ← f, ← i) h
 
 module _ (kind version n : ℕ) (v : Verdict) where
   pub shape-end : kind < 2 → v ≡ exactly 0 0 version n → v ≡ shapeVerdict kind version n

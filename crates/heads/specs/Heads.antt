@@ -7,27 +7,38 @@ use Prim.Native.Nat.{ℕ, _+_, _*_}
 use lib.Dec.{eqb, leb, ltb}
 use lib.ListN.{length, getD}
 use Rattle.words.specs.Word.{wordAt}
-use Rattle.refusal.specs.declared.Refusal.the-variants.{FilmEnd, ChunkEnd}
-use Rattle.refusal.specs.Number.{Verdict, accept, refuse}
+use Rattle.refusal.specs.Number.{Verdict, accept, refuse, number, block}
 use Rattle.state.specs.declared.Cursor.{Cursor}
+use Rattle.state.specs.Moves.{cursorInto}
 use Rattle.heads.specs.declared.Opcode.{Opcode}
 use Rattle.heads.specs.declared.ChunkHead.{ChunkHead}
 use Rattle.heads.specs.declared.ChunkHead.the-variants.{Chunk, BadChunk}
 use Rattle.heads.specs.declared.OpcodeHead.{OpcodeHead}
 use Rattle.heads.specs.declared.OpcodeHead.the-variants.{Op, BadOp}
 
+-- what a head gives: the cursor in a chunk, or an opcode; or a refusal's number and block
+pub data Head (A : Type 0) : Type 0 where
+  gives : A → Head A
+  refused : ℕ → ℕ → Head A
+
+-- document 01's values of each answer
+abbrev pub chunkAs : ChunkHead → Head Cursor
+chunkAs (Chunk c) = gives c
+chunkAs (BadChunk r) = refused (number r) (block r)
+
+abbrev pub opcodeAs : OpcodeHead → Head Opcode
+opcodeAs (Op o) = gives o
+opcodeAs (BadOp r) = refused (number r) (block r)
+
 -- ---- 2
 
-abbrev pub cursor : ℕ → ℕ → Cursor
-cursor position end = record { position = position; «chunk_end» = end }
+-- the chunk whose head stands at a cursor's chunk end and says this length, in a film this long
+unfoldable pub chunkOf : ℕ → Cursor → ℕ → Head Cursor
+chunkOf film c long =
+    cond (ltb film (c .«chunk_end» + 4)) (refused 2 0) (cond (ltb film (c .«chunk_end» + 4 + long)) (refused 2 0) (gives (cursorInto c long)))
 
--- the chunk whose head is at e and says this length, in a film this long
-unfoldable pub chunkOf : ℕ → ℕ → ℕ → ChunkHead
-chunkOf film e long =
-    cond (ltb film (e + 4)) (BadChunk FilmEnd) (cond (ltb film (e + 4 + long)) (BadChunk FilmEnd) (Chunk (cursor (e + 4) (e + 4 + long))))
-
-unfoldable pub chunkAt : List ℕ → ℕ → ChunkHead
-chunkAt film e = chunkOf (length film) e (wordAt film e)
+unfoldable pub chunkAt : List ℕ → Cursor → Head Cursor
+chunkAt film c = chunkOf (length film) c (wordAt film (c .«chunk_end»))
 
 -- ---- 3
 
@@ -35,15 +46,17 @@ abbrev pub opcode : ℕ → ℕ → ℕ → ℕ → Opcode
 opcode kind version start long = record { kind = kind; version = version; start = start; long = long }
 
 -- the opcode whose head is at p and says this length, type and version, in a chunk that ends at e; 00 and 01 must be last in their chunk
-unfoldable pub opcodeOf : ℕ → ℕ → ℕ → ℕ → ℕ → OpcodeHead
+unfoldable pub opcodeOf : ℕ → ℕ → ℕ → ℕ → ℕ → Head Opcode
 opcodeOf p e long kind version =
-    cond (ltb e (p + 4)) (BadOp ChunkEnd)
-    (cond (ltb e (p + 4 + long)) (BadOp ChunkEnd)
-    (cond (ltb 1 kind) (Op (opcode kind version (p + 4) long))
-    (cond (eqb (p + 4 + long) e) (Op (opcode kind version (p + 4) long)) (BadOp ChunkEnd))))
+    cond (ltb e (p + 4)) (refused 3 0)
+    (cond (ltb e (p + 4 + long)) (refused 3 0)
+    (cond (ltb 1 kind) (gives (opcode kind version (p + 4) long))
+    (cond (eqb (p + 4 + long) e) (gives (opcode kind version (p + 4) long)) (refused 3 0))))
 
-unfoldable pub opcodeAt : List ℕ → ℕ → ℕ → OpcodeHead
-opcodeAt film p e = opcodeOf p e (wordAt film p) (getD film (p + 2) 0) (getD film (p + 3) 0)
+-- the opcode whose head stands at a cursor's position
+unfoldable pub opcodeAt : List ℕ → Cursor → Head Opcode
+opcodeAt film c =
+    opcodeOf (c .position) (c .«chunk_end») (wordAt film (c .position)) (getD film (c .position + 2) 0) (getD film (c .position + 3) 0)
 
 -- ---- 4 and 5
 

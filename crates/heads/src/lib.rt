@@ -11,7 +11,7 @@ ghost use lib.ListN.{length};
 ghost use mathlib.Core.Bool.{cond};
 ghost use Rattle.refusal.specs.Number.{accept, refuse};
 ghost use Rattle.packet.specs.Verdict.{told};
-ghost use Rattle.heads.specs.Heads.{chunkOf, chunkAt, opcodeOf, opcodeAt, exactly, byVersion, atLeast, passedOver, shapeVerdict};
+ghost use Rattle.heads.specs.Heads.{chunkAs, opcodeAs, chunkOf, chunkAt, opcodeOf, opcodeAt, exactly, byVersion, atLeast, passedOver, shapeVerdict};
 
 // An opcode: its type and version, and the part of the film that is its body.
 pub struct Opcode {
@@ -21,7 +21,7 @@ pub struct Opcode {
     pub long: usize,
 }
 
-// A chunk: its body from the cursor's position to its chunk end.
+// The cursor in a chunk: its body from the position to the chunk end.
 pub enum ChunkHead {
     Chunk(Cursor),
     BadChunk(Refusal),
@@ -32,34 +32,31 @@ pub enum OpcodeHead {
     BadOp(Refusal),
 }
 
-fn chunk_of(film: usize, e: usize, long: usize) -> ChunkHead
-    requires { ⌜ (e < 2 ^ 63) × (long < 65536) ⌝ }
-    ensures { λ r. ⌜ r ≡ chunkOf film e long ⌝ }
+fn chunk_of(film: usize, c: Cursor, long: usize) -> ChunkHead
+    requires { ⌜ (c .«chunk_end» < 2 ^ 63) × (long < 65536) ⌝ }
+    ensures { λ r. ⌜ chunkAs r ≡ chunkOf film c long ⌝ }
 {
-    if film < e + 4 {
+    if film < c.chunk_end + 4 {
         return ChunkHead::BadChunk(Refusal::FilmEnd);
     }
-    if film < e + 4 + long {
+    if film < c.chunk_end + 4 + long {
         return ChunkHead::BadChunk(Refusal::FilmEnd);
     }
-    ChunkHead::Chunk(Cursor {
-        position: e + 4,
-        chunk_end: e + 4 + long,
-    })
+    ChunkHead::Chunk(c.into_chunk(long))
 }
 
-// The chunk whose head stands at e.
-pub fn chunk_head(film: &[u8], e: usize) -> ChunkHead
-    requires { ⌜ e ≤ length (now film) ⌝ }
-    ensures { λ r. ⌜ r ≡ chunkAt (now (film .entry)) e ⌝ }
+// The chunk whose head stands at the cursor's chunk end.
+pub fn chunk_head(film: &[u8], c: Cursor) -> ChunkHead
+    requires { ⌜ c .«chunk_end» ≤ length (now film) ⌝ }
+    ensures { λ r. ⌜ chunkAs r ≡ chunkAt (now (film .entry)) c ⌝ }
 {
-    let long = word_at(film, e);
-    chunk_of(film.len(), e, long)
+    let long = word_at(film, c.chunk_end);
+    chunk_of(film.len(), c, long)
 }
 
 fn opcode_of(p: usize, e: usize, long: usize, kind: usize, version: usize) -> OpcodeHead
     requires { ⌜ (p < 2 ^ 63) × (long < 65536) ⌝ }
-    ensures { λ r. ⌜ r ≡ opcodeOf p e long kind version ⌝ }
+    ensures { λ r. ⌜ opcodeAs r ≡ opcodeOf p e long kind version ⌝ }
 {
     if e < p + 4 {
         return OpcodeHead::BadOp(Refusal::ChunkEnd);
@@ -86,15 +83,16 @@ fn opcode_of(p: usize, e: usize, long: usize, kind: usize, version: usize) -> Op
     OpcodeHead::BadOp(Refusal::ChunkEnd)
 }
 
-// The opcode whose head stands at p, in a chunk that ends at e.
-pub fn opcode_head(film: &[u8], p: usize, e: usize) -> OpcodeHead
-    requires { ⌜ p ≤ length (now film) ⌝ }
-    ensures { λ r. ⌜ r ≡ opcodeAt (now (film .entry)) p e ⌝ }
+// The opcode whose head stands at the cursor's position.
+pub fn opcode_head(film: &[u8], c: Cursor) -> OpcodeHead
+    requires { ⌜ c .position ≤ length (now film) ⌝ }
+    ensures { λ r. ⌜ opcodeAs r ≡ opcodeAt (now (film .entry)) c ⌝ }
 {
+    let p = c.position;
     let long = word_at(film, p);
     let kind = wide(byte_at(film, p + 2));
     let version = wide(byte_at(film, p + 3));
-    opcode_of(p, e, long, kind, version)
+    opcode_of(p, c.chunk_end, long, kind, version)
 }
 
 fn judge_exactly(most: usize, long: usize, version: usize, n: usize) -> Checked

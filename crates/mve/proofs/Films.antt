@@ -19,10 +19,10 @@ use Rattle.opening.specs.Opening.{Opening, openedAs}
 use Rattle.opcodes.specs.declared.Stepped.{Stepped}
 use Rattle.opcodes.specs.declared.Stepped.the-variants as step
 use Rattle.opcodes.specs.Opcodes.{Step, steppedAs}
-use Rattle.film.specs.Film.{after, stepOf}
+use Rattle.film.specs.Film.{Lent, after, stepOf}
 use Rattle.mve.specs.declared.MveState.{MveState}
 use Rattle.mve.specs.declared.MveStep.{MveStep}
-use Rattle.mve.specs.Film.{mapOf, stateOf, numbers, withMap, ofState, stepped, ofStep, ofOpening, exported, ofOutcome}
+use Rattle.mve.specs.Film.{mapOf, stateOf, numbers, withMap, ofState, stepped, ofAnswer, ofStep, ofOpening, exported, ofOutcome}
 
 pub no-map : (has start long : ℕ) → has ≡ 0 → Missing ≡ mapOf has start long
 unfolding mapOf
@@ -61,23 +61,23 @@ refused-step r n m k s e f g = rw (f, e, g)
 
 module _ (m : MveState) (x : Stepped) (a : MveStep) where
   pub taken-as : (st : State) → x ≡ step.Taken st → a ≡ stepped 0 0 0 0 (ofState st) → a ≡ ofStep m (steppedAs x)
-  unfolding ofStep
+  unfolding ofAnswer
   taken-as st e q = rw e q
 
   pub whole-as : (st : State) (n : ℕ) → x ≡ step.Whole st n → a ≡ stepped 1 0 0 n (ofState st) → a ≡ ofStep m (steppedAs x)
-  unfolding ofStep
+  unfolding ofAnswer
   whole-as st n e q = rw e q
 
   pub unfinished-as : (st : State) (n : ℕ) → x ≡ step.Unfinished st n → a ≡ stepped 2 0 0 n m → a ≡ ofStep m (steppedAs x)
-  unfolding ofStep
+  unfolding ofAnswer
   unfinished-as st n e q = rw e q
 
   pub ended-as : (st : State) → x ≡ step.Ended st → a ≡ stepped 3 0 0 0 m → a ≡ ofStep m (steppedAs x)
-  unfolding ofStep
+  unfolding ofAnswer
   ended-as st e q = rw e q
 
   pub step-refused-as : (r : Refusal) → x ≡ step.Refused r → a ≡ stepped 4 (number r) (block r) 0 m → a ≡ ofStep m (steppedAs x)
-  unfolding ofStep
+  unfolding ofAnswer
   step-refused-as r e q = rw e q
 
 module _ (o : Opening) (x : Opened) (e : openedAs x ≡ o) (a : MveStep) where
@@ -90,11 +90,9 @@ module _ (o : Opening) (x : Opened) (e : openedAs x ≡ o) (a : MveStep) where
   not-opened-as r k q = rw (← e, k) q
 
 -- a step, by what the film's step left
-pub step-exported : (m : MveState) (st : State) (film : List ℕ) (allowed : ℕ) (palette a b : List ℕ) (place : ℕ) (x : Step) (r : MveStep) (palette′ a′ b′ : List ℕ) (k : ℕ)
-    → st ≡ stateOf m → after x palette′ a′ b′ k ≡ stepOf film st allowed palette a b place → r ≡ ofStep m x
-    → exported r palette′ a′ b′ k ≡ ofOutcome m (stepOf film (stateOf m) allowed palette a b place)
-unfolding ofOutcome
-step-exported m st film allowed palette a b place x r palette′ a′ b′ k e h f = rw (← e, ← h, f)
+pub step-exported : (m : MveState) (st : State) (film : List ℕ) (allowed : ℕ) (l : Lent) (x : Step) (r : MveStep) (l′ : Lent)
+    → st ≡ stateOf m → after x l′ ≡ stepOf film st allowed l → r ≡ ofStep m x → exported r l′ ≡ ofOutcome m (stepOf film (stateOf m) allowed l)
+step-exported m st film allowed l x r l′ e h f = rw (← e, ← h, f)
 
 pub shown-length : (m : MveState) (st : State) (a b s : List ℕ) → st ≡ stateOf m → s ≡ shownOf st a b → length s ≡ length (shownOf (stateOf m) a b)
 shown-length m st a b s e q = rw (q, e)

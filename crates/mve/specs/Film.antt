@@ -8,8 +8,8 @@ use Rattle.state.specs.declared.Map.{Map}
 use Rattle.state.specs.declared.Map.the-variants.{Missing, Part}
 use Rattle.state.specs.declared.State.{State}
 use Rattle.opening.specs.Opening.{Opening, started, refuses}
-use Rattle.opcodes.specs.Opcodes.{Step, taken, drawnWhole, drawnPart, ended, refused}
-use Rattle.film.specs.Film.{Outcome, after}
+use Rattle.opcodes.specs.Opcodes.{Answer, Step, taken, whole, unfinished, ended, refused}
+use Rattle.film.specs.Film.{Lent, Outcome}
 use Rattle.mve.specs.declared.MveState.{MveState}
 use Rattle.mve.specs.declared.MveStep.{MveStep}
 
@@ -47,21 +47,28 @@ abbrev pub stepped : ℕ → ℕ → ℕ → ℕ → MveState → MveStep
 stepped kind number block stores state = record { kind = kind; number = number; block = block; stores = stores; state = state }
 
 -- kinds: 0 taken, 1 whole, 2 unfinished, 3 ended, 4 refused. Where the state stays, m comes back number by number
-unfoldable pub ofStep : MveState → Step → MveStep
-ofStep m (taken st) = stepped 0 0 0 0 (ofState st)
-ofStep m (drawnWhole st n) = stepped 1 0 0 n (ofState st)
-ofStep m (drawnPart st n) = stepped 2 0 0 n m
-ofStep m (ended st) = stepped 3 0 0 0 m
-ofStep m (refused number block) = stepped 4 number block 0 m
+unfoldable pub ofAnswer : MveState → Answer → ℕ → MveStep
+ofAnswer m (taken st) n = stepped 0 0 0 n (ofState st)
+ofAnswer m (whole st) n = stepped 1 0 0 n (ofState st)
+ofAnswer m (unfinished st) n = stepped 2 0 0 n m
+ofAnswer m (ended st) n = stepped 3 0 0 n m
+ofAnswer m (refused number block) n = stepped 4 number block n m
+
+abbrev pub ofStep : MveState → Step → MveStep
+ofStep m x = ofAnswer m (x .answer) (x .stores)
 
 -- kinds: 0 opened, 4 refused, with a state of zeros
 unfoldable pub ofOpening : Opening → MveStep
 ofOpening (started st) = stepped 0 0 0 0 (ofState st)
 ofOpening (refuses number block) = stepped 4 number block 0 (numbers 0 0 0 0 0 0 0 0 0)
 
--- an answer, and then the palette, the two lent pictures and the place
-pub data Exported : Type 0 where
-  exported : MveStep → List ℕ → List ℕ → List ℕ → ℕ → Exported
+-- an answer, and what is lent afterwards
+pub record Exported : Type 0 where
+  pub answer : MveStep
+  pub lent : Lent
 
-unfoldable pub ofOutcome : MveState → Outcome → Exported
-ofOutcome m (after x palette a b place) = exported (ofStep m x) palette a b place
+abbrev pub exported : MveStep → Lent → Exported
+exported x l = record { answer = x; lent = l }
+
+abbrev pub ofOutcome : MveState → Outcome → Exported
+ofOutcome m o = exported (ofStep m (o .step)) (o .lent)

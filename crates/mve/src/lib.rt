@@ -18,7 +18,7 @@ ghost use Rattle.refusal.specs.Number.{refusal, block, number as refusalNumber}
 ghost use Rattle.state.specs.State.{shownOf};
 ghost use Rattle.opening.specs.Opening.{openingOf};
 ghost use Rattle.opcodes.specs.Opcodes.{steppedAs};
-ghost use Rattle.film.specs.Film.{stepOf};
+ghost use Rattle.film.specs.Film.{lent, stepOf};
 ghost use Rattle.packet.specs.Verdict.{verdict};
 ghost use Rattle.stores.specs.Stores.{memory};
 ghost use Rattle.stores.specs.Calls.{step, reply};
@@ -276,7 +276,7 @@ pub extern "C" fn mve_step(
     place: &mut usize,
     allowed: usize,
 ) -> MveStep
-    ensures { λ r. ⌜ exported r (now (palette .exit)) (now (a .exit)) (now (b .exit)) (now (place .exit)) ≡ ofFilm state (stepOf (now (film .entry)) (stateOf state) allowed (now (palette .entry)) (now (a .entry)) (now (b .entry)) (now (place .entry))) ⌝ }
+    ensures { λ r. ⌜ exported r (lent (now (palette .exit)) (now (a .exit)) (now (b .exit)) (now (place .exit))) ≡ ofFilm state (stepOf (now (film .entry)) (stateOf state) allowed (lent (now (palette .entry)) (now (a .entry)) (now (b .entry)) (now (place .entry)))) ⌝ }
 {
     let st = state_of(state);
     let x = film::step(film, st, palette, a, b, place, allowed);

@@ -11,21 +11,22 @@ use lib.ListN.{length, getD}
 use Rattle.words.specs.Word.{wordAt}
 use Rattle.words.proofs.Tests.{not-first, first}
 use Rattle.refusal.specs.declared.Refusal.{Refusal}
-use Rattle.refusal.specs.declared.Refusal.the-variants.{ChunkEnd, FilmEnd}
 use Rattle.refusal.specs.Number.{Verdict, accept, refuse, number, block, refusal}
 use Rattle.packet.specs.declared.Checked.{Checked}
 use Rattle.packet.specs.declared.Checked.the-variants.{Accepted, Refused}
 use Rattle.packet.specs.Verdict.{told}
 use Rattle.state.specs.declared.Cursor.{Cursor}
 use Rattle.state.specs.declared.State.{State}
+use Rattle.state.specs.Moves.{cursorInto}
 use Rattle.state.specs.State.{stateVerdict, boundsVerdict, mapInside, possibleSize, area, roomVerdict}
 use Rattle.heads.specs.declared.Opcode.{Opcode}
 use Rattle.heads.specs.declared.ChunkHead.{ChunkHead}
 use Rattle.heads.specs.declared.ChunkHead.the-variants.{Chunk, BadChunk}
 use Rattle.heads.specs.declared.OpcodeHead.{OpcodeHead}
 use Rattle.heads.specs.declared.OpcodeHead.the-variants.{Op, BadOp}
-use Rattle.heads.specs.Heads.{cursor, opcode as head, chunkOf, chunkAt, opcodeOf, opcodeAt, atLeast, shapeVerdict}
-use Rattle.next.specs.Next.{Standing, refused, ended, chunk, opcode, on, chunkStanding, opcodeStanding, standingAt, nextOf, Possible, Ready}
+use Rattle.heads.specs.Heads.{Head, chunkAs, opcodeAs, opcode as head, chunkOf, chunkAt, opcodeOf, opcodeAt, atLeast, shapeVerdict}
+use Rattle.heads.specs.Heads as heads
+use Rattle.next.specs.Next.{Standing, refused, ended, chunk, opcode, on, chunkStanding, opcodeStanding, chunkEnd, standingAt, nextOf, Possible, Ready}
 
 -- ---- a verdict, and on
 
@@ -40,30 +41,30 @@ module _ (v : Verdict) (s : Standing) (c : Checked) (e : told c ≡ v) where
 
 -- ---- heads
 
-module _ (film : List ℕ) (e : ℕ) where
-  pub ends-here : e ≡ length film → ended ≡ standingAt film e e
+module _ (film : List ℕ) (c : Cursor) where
+  pub ends-here : c .«chunk_end» ≡ length film → ended ≡ chunkEnd film c
+  unfolding chunkEnd
+  ends-here q = rw (eq-eqb _ _ q)
+
+  module _ (n : c .«chunk_end» ≡ length film → ⊥) (h : ChunkHead) (q : chunkAs h ≡ chunkAt film c) where
+    pub chunk-here : (x : Cursor) → h ≡ Chunk x → chunk x ≡ chunkEnd film c
+    unfolding chunkEnd chunkStanding
+    chunk-here x k = rw (ne-eqb _ _ n, ← q, k)
+
+    pub no-chunk : (r : Refusal) → h ≡ BadChunk r → refused (number r) (block r) ≡ chunkEnd film c
+    unfolding chunkEnd chunkStanding
+    no-chunk r k = rw (ne-eqb _ _ n, ← q, k)
+
+  pub at-end : (s : Standing) → c .position ≡ c .«chunk_end» → s ≡ chunkEnd film c → s ≡ standingAt film c
   unfolding standingAt
-  ends-here q = rw (eq-eqb e e refl, eq-eqb _ _ q)
+  at-end s q h = rw (eq-eqb _ _ q) h
 
-  module _ (n : e ≡ length film → ⊥) (h : ChunkHead) (q : h ≡ chunkAt film e) where
-    pub chunk-here : (c : Cursor) → h ≡ Chunk c → chunk c ≡ standingAt film e e
-    unfolding standingAt chunkStanding
-    chunk-here c k = rw (eq-eqb e e refl, ne-eqb _ _ n, ← q, k)
-
-    pub no-chunk : (r : Refusal) → h ≡ BadChunk r → refused (number r) (block r) ≡ standingAt film e e
-    unfolding standingAt chunkStanding
-    no-chunk r k = rw (eq-eqb e e refl, ne-eqb _ _ n, ← q, k)
-
-module _ (film : List ℕ) (p e : ℕ) where
-  pub at-end : (s : Standing) → p ≡ e → s ≡ standingAt film e e → s ≡ standingAt film p e
-  at-end s q h = rw q h
-
-  module _ (n : p ≡ e → ⊥) (h : OpcodeHead) (q : h ≡ opcodeAt film p e) where
-    pub opcode-here : (o : Opcode) (s : Standing) → h ≡ Op o → s ≡ on (shapeVerdict (o .kind) (o .version) (o .long)) (opcode o) → s ≡ standingAt film p e
+  module _ (n : c .position ≡ c .«chunk_end» → ⊥) (h : OpcodeHead) (q : opcodeAs h ≡ opcodeAt film c) where
+    pub opcode-here : (o : Opcode) (s : Standing) → h ≡ Op o → s ≡ on (shapeVerdict (o .kind) (o .version) (o .long)) (opcode o) → s ≡ standingAt film c
     unfolding standingAt opcodeStanding
     opcode-here o s k f = rw (ne-eqb _ _ n, ← q, k) f
 
-    pub no-opcode : (r : Refusal) → h ≡ BadOp r → refused (number r) (block r) ≡ standingAt film p e
+    pub no-opcode : (r : Refusal) → h ≡ BadOp r → refused (number r) (block r) ≡ standingAt film c
     unfolding standingAt opcodeStanding
     no-opcode r k = rw (ne-eqb _ _ n, ← q, k)
 
@@ -79,7 +80,7 @@ no-room w h palette a b bytes s c r e q k = rw (← e) (stops (roomVerdict bytes
 
 module _ (film : List ℕ) (st : State) (palette a b : ℕ) (c : Checked) (e : told c ≡ stateVerdict st (length film)) where
   pub found-here : (t : Standing) → c ≡ Accepted
-      → t ≡ on (roomVerdict (area (st .width) (st .height)) palette a b) (standingAt film (st .cursor .position) (st .cursor .«chunk_end»))
+      → t ≡ on (roomVerdict (area (st .width) (st .height)) palette a b) (standingAt film (st .cursor))
       → t ≡ nextOf film st palette a b
   unfolding nextOf
   found-here t k h = goes-on (stateVerdict st (length film)) _ c e t k h
@@ -110,15 +111,15 @@ unfolding on
 on-opcode accept s o e = (refl, e)
 on-opcode (refuse n k) s o e = absurd (refused-opcode n k o e)
 
-bad-op : (o : Opcode) → BadOp ChunkEnd ≡ Op o → ⊥
-bad-op o e = let z : _≡_ {A = ℕ} 0 1 = cc in omega arith
+no-head : {A : Type 0} (n k : ℕ) (x : A) → heads.refused n k ≡ heads.gives x → ⊥
+no-head n k x e = let z : _≡_ {A = ℕ} 0 1 = cc in omega arith
 
 -- an opcode's head lies in its chunk
-head-inside : (p e long k v : ℕ) (o : Opcode) → opcodeOf p e long k v ≡ Op o → (o .start ≡ p + 4) × (o .start + o .long ≤ e)
+head-inside : (p e long k v : ℕ) (o : Opcode) → opcodeOf p e long k v ≡ heads.gives o → (o .start ≡ p + 4) × (o .start + o .long ≤ e)
 unfolding opcodeOf
 head-inside p e long k v o h =
-    let a = not-first (ltb e (p + 4)) _ _ _ (bad-op o) h in
-    let b = not-first (ltb e (p + 4 + long)) _ _ _ (bad-op o) (a .1) in
+    let a = not-first (ltb e (p + 4)) _ _ _ (no-head 3 0 o) h in
+    let b = not-first (ltb e (p + 4 + long)) _ _ _ (no-head 3 0 o) (a .1) in
     let l : p + 4 + long ≤ e = ltb-false _ _ (b .0) in
     by (ltb 1 k) (eqb (p + 4 + long) e) l (b .1)
   where
@@ -126,10 +127,11 @@ head-inside p e long k v o h =
     same l z = subst (λ (x : Opcode). (x .start ≡ p + 4) × (x .start + x .long ≤ e)) z (refl, l)
 
     by : (t u : Bool) → p + 4 + long ≤ e
-        → cond t (Op (head k v (p + 4) long)) (cond u (Op (head k v (p + 4) long)) (BadOp ChunkEnd)) ≡ Op o → (o .start ≡ p + 4) × (o .start + o .long ≤ e)
+        → cond t (heads.gives (head k v (p + 4) long)) (cond u (heads.gives (head k v (p + 4) long)) (heads.refused 3 0)) ≡ heads.gives o
+        → (o .start ≡ p + 4) × (o .start + o .long ≤ e)
     by true u l q = same l (cc)
     by false true l q = same l (cc)
-    by false false l q = absurd (bad-op o q)
+    by false false l q = absurd (no-head 3 0 o q)
 
 -- 11 has at least its 14 bytes
 packet-long : (k v n : ℕ) → shapeVerdict k v n ≡ accept → k ≡ 17 → 14 ≤ n
@@ -140,14 +142,15 @@ packet-long k v n h q =
     let b = not-first (ltb n 14) (refuse 5 0) accept accept (refuses 5 0) (a .1) in
     ltb-false _ _ (b .0)
 
-opcode-ready : (film : List ℕ) (p e : ℕ) (h : OpcodeHead) (o : Opcode) → e ≤ length film → opcodeAt film p e ≡ h → opcodeStanding h ≡ opcode o → Ready (length film) (cursor p e) o
+opcode-ready : (film : List ℕ) (c : Cursor) (h : Head Opcode) (o : Opcode) → c .«chunk_end» ≤ length film → opcodeAt film c ≡ h → opcodeStanding h ≡ opcode o
+    → Ready (length film) c o
 unfolding opcodeStanding opcodeAt
-opcode-ready film p e (BadOp r) o l q h = absurd (refused-opcode _ _ o h)
-opcode-ready film p e (Op x) o l q h =
+opcode-ready film c (heads.refused n k) o l q h = absurd (refused-opcode n k o h)
+opcode-ready film c (heads.gives x) o l q h =
     let s = on-opcode _ _ o h in
     let z : x ≡ o = let w = s .1 in cc in
-    let i = head-inside p e (wordAt film p) (getD film (p + 2) 0) (getD film (p + 3) 0) x q in
-    subst (Ready (length film) (cursor p e)) z
+    let i = head-inside (c .position) (c .«chunk_end») (wordAt film (c .position)) (getD film (c .position + 2) 0) (getD film (c .position + 3) 0) x q in
+    subst (Ready (length film) c) z
     (record {
       behind = omega (arith, i .0);
       within = i .1;
@@ -155,18 +158,18 @@ opcode-ready film p e (Op x) o l q h =
       packet = packet-long (x .kind) (x .version) (x .long) (s .0);
     })
 
-standing-ready : (film : List ℕ) (p e : ℕ) (o : Opcode) → e ≤ length film → standingAt film p e ≡ opcode o → Ready (length film) (cursor p e) o
-unfolding standingAt chunkStanding
-standing-ready film p e o l h = by (eqb p e) (eqb e (length film)) (chunkAt film e) h
+standing-ready : (film : List ℕ) (c : Cursor) (o : Opcode) → c .«chunk_end» ≤ length film → standingAt film c ≡ opcode o → Ready (length film) c o
+unfolding standingAt chunkEnd chunkStanding
+standing-ready film c o l h = by (eqb (c .position) (c .«chunk_end»)) (eqb (c .«chunk_end») (length film)) (chunkAt film c) h
   where
-    none : (c : ChunkHead) → chunkStanding c ≡ opcode o → ⊥
-    none (Chunk c) q = let z : _≡_ {A = ℕ} 0 1 = cc in omega arith
-    none (BadChunk r) q = refused-opcode _ _ o q
+    none : (x : Head Cursor) → chunkStanding x ≡ opcode o → ⊥
+    none (heads.gives d) q = let z : _≡_ {A = ℕ} 0 1 = cc in omega arith
+    none (heads.refused n k) q = refused-opcode n k o q
 
-    by : (t u : Bool) (c : ChunkHead) → cond t (cond u ended (chunkStanding c)) (opcodeStanding (opcodeAt film p e)) ≡ opcode o → Ready (length film) (cursor p e) o
-    by true true c q = absurd (let z : _≡_ {A = ℕ} 0 1 = cc in let y : ⊥ = omega arith in y)
-    by true false c q = absurd (none c q)
-    by false u c q = opcode-ready film p e (opcodeAt film p e) o l refl q
+    by : (t u : Bool) (x : Head Cursor) → cond t (cond u ended (chunkStanding x)) (opcodeStanding (opcodeAt film c)) ≡ opcode o → Ready (length film) c o
+    by true true x q = absurd (let z : _≡_ {A = ℕ} 0 1 = cc in let y : ⊥ = omega arith in y)
+    by true false x q = absurd (none x q)
+    by false u x q = opcode-ready film c (opcodeAt film c) o l refl q
 
 pub found-ready : (film : List ℕ) (st : State) (palette a b : ℕ) (o : Opcode) → nextOf film st palette a b ≡ opcode o → Possible st (length film) × Ready (length film) (st .cursor) o
 unfolding nextOf
@@ -174,56 +177,53 @@ found-ready film st palette a b o h =
     let s = on-opcode _ _ o h in
     let t = on-opcode _ _ o (s .1) in
     let p = possible st (length film) (s .0) in
-    (p, standing-ready film (st .cursor .position) (st .cursor .«chunk_end») o (p .inside) (t .1))
+    (p, standing-ready film (st .cursor) o (p .inside) (t .1))
 
--- a chunk's head lies in the film
-bad-chunk : (c : Cursor) → BadChunk FilmEnd ≡ Chunk c → ⊥
-bad-chunk c e = let z : _≡_ {A = ℕ} 0 1 = cc in omega arith
-
--- a chunk that begins at e
+-- a chunk's head lies in the film: the cursor in the chunk whose head stands at e
 pub record Opens (film e : ℕ) (c : Cursor) : Type 0 where
   pub behind : c .position ≡ e + 4
   pub ordered : c .position ≤ c .«chunk_end»
   pub inside : c .«chunk_end» ≤ film
 
-chunk-opens : (film e long : ℕ) (c : Cursor) → chunkOf film e long ≡ Chunk c → Opens film e c
-unfolding chunkOf
-chunk-opens film e long c h =
-    let a = not-first (ltb film (e + 4)) _ _ _ (bad-chunk c) h in
-    let b = not-first (ltb film (e + 4 + long)) _ _ _ (bad-chunk c) (a .1) in
-    let l : e + 4 + long ≤ film = ltb-false _ _ (b .0) in
+chunk-opens : (film : ℕ) (c : Cursor) (long : ℕ) (x : Cursor) → chunkOf film c long ≡ heads.gives x → Opens film (c .«chunk_end») x
+unfolding chunkOf cursorInto
+chunk-opens film c long x h =
+    let a = not-first (ltb film (c .«chunk_end» + 4)) _ _ _ (no-head 2 0 x) h in
+    let b = not-first (ltb film (c .«chunk_end» + 4 + long)) _ _ _ (no-head 2 0 x) (a .1) in
+    let l : c .«chunk_end» + 4 + long ≤ film = ltb-false _ _ (b .0) in
     let w = b .1 in
-    let z : cursor (e + 4) (e + 4 + long) ≡ c = cc in
-    subst (Opens film e) z (record { behind = refl; ordered = omega arith; inside = l })
+    let z : cursorInto c long ≡ x = cc in
+    subst (Opens film (c .«chunk_end»)) z (record { behind = refl; ordered = omega arith; inside = l })
 
 on-chunk : (v : Verdict) (s : Standing) (c : Cursor) → on v s ≡ chunk c → (v ≡ accept) × (s ≡ chunk c)
 unfolding on
 on-chunk accept s c e = (refl, e)
 on-chunk (refuse n k) s c e = absurd (let z : _≡_ {A = ℕ} 0 1 = cc in let y : ⊥ = omega arith in y)
 
-standing-opens : (film : List ℕ) (p e : ℕ) (c : Cursor) → standingAt film p e ≡ chunk c → (p ≡ e) × Opens (length film) e c
-unfolding standingAt chunkStanding opcodeStanding chunkAt on
-standing-opens film p e c h = by (eqb p e) (eqb e (length film)) (chunkAt film e) (opcodeAt film p e) refl refl h
+standing-opens : (film : List ℕ) (c x : Cursor) → standingAt film c ≡ chunk x → (c .position ≡ c .«chunk_end») × Opens (length film) (c .«chunk_end») x
+unfolding standingAt chunkEnd chunkStanding opcodeStanding chunkAt on
+standing-opens film c x h = by (eqb (c .position) (c .«chunk_end»)) (eqb (c .«chunk_end») (length film)) (chunkAt film c) (opcodeAt film c) refl refl h
   where
-    no : (n k : ℕ) → refused n k ≡ chunk c → ⊥
+    no : (n k : ℕ) → refused n k ≡ chunk x → ⊥
     no n k q = let z : _≡_ {A = ℕ} 0 1 = cc in omega arith
 
-    none : (o : OpcodeHead) → opcodeStanding o ≡ chunk c → ⊥
-    none (Op o) q = shaped (shapeVerdict (o .kind) (o .version) (o .long)) q
+    none : (o : Head Opcode) → opcodeStanding o ≡ chunk x → ⊥
+    none (heads.gives o) q = shaped (shapeVerdict (o .kind) (o .version) (o .long)) q
       where
-        shaped : (v : Verdict) → on v (opcode o) ≡ chunk c → ⊥
+        shaped : (v : Verdict) → on v (opcode o) ≡ chunk x → ⊥
         shaped accept r = let z : _≡_ {A = ℕ} 0 1 = cc in omega arith
         shaped (refuse n k) r = no n k r
-    none (BadOp r) q = no _ _ q
+    none (heads.refused n k) q = no n k q
 
-    opens : (h : ChunkHead) → chunkAt film e ≡ h → chunkStanding h ≡ chunk c → Opens (length film) e c
-    opens (Chunk x) q r = let z : x ≡ c = cc in subst (Opens (length film) e) z (chunk-opens (length film) e (wordAt film e) x q)
-    opens (BadChunk x) q r = absurd (no _ _ r)
+    opens : (h : Head Cursor) → chunkAt film c ≡ h → chunkStanding h ≡ chunk x → Opens (length film) (c .«chunk_end») x
+    opens (heads.gives y) q r =
+        let z : y ≡ x = cc in subst (Opens (length film) (c .«chunk_end»)) z (chunk-opens (length film) c (wordAt film (c .«chunk_end»)) y q)
+    opens (heads.refused n k) q r = absurd (no n k r)
 
-    by : (t u : Bool) (h : ChunkHead) (o : OpcodeHead) → eqb p e ≡ t → chunkAt film e ≡ h → cond t (cond u ended (chunkStanding h)) (opcodeStanding o) ≡ chunk c
-        → (p ≡ e) × Opens (length film) e c
+    by : (t u : Bool) (h : Head Cursor) (o : Head Opcode) → eqb (c .position) (c .«chunk_end») ≡ t → chunkAt film c ≡ h
+        → cond t (cond u ended (chunkStanding h)) (opcodeStanding o) ≡ chunk x → (c .position ≡ c .«chunk_end») × Opens (length film) (c .«chunk_end») x
     by true true h o t q r = absurd (let z : _≡_ {A = ℕ} 0 1 = cc in let y : ⊥ = omega arith in y)
-    by true false h o t q r = (eqb-true p e t, opens h q r)
+    by true false h o t q r = (eqb-true _ _ t, opens h q r)
     by false u h o t q r = absurd (none o r)
 
 pub found-chunk : (film : List ℕ) (st : State) (palette a b : ℕ) (c : Cursor) → nextOf film st palette a b ≡ chunk c
@@ -232,7 +232,7 @@ unfolding nextOf
 found-chunk film st palette a b c h =
     let s = on-chunk _ _ c h in
     let t = on-chunk _ _ c (s .1) in
-    let o = standing-opens film (st .cursor .position) (st .cursor .«chunk_end») c (t .1) in
+    let o = standing-opens film (st .cursor) c (t .1) in
     (possible st (length film) (s .0), o .0, o .1)
 
 pub is-possible : (st : State) (film : ℕ) (c : Checked) → told c ≡ stateVerdict st film → c ≡ Accepted → Possible st film

@@ -12,11 +12,8 @@ use Rattle.state.specs.declared.Cursor.{Cursor}
 use Rattle.state.specs.declared.State.{State}
 use Rattle.state.specs.State.{stateVerdict, area, roomVerdict, mapInside}
 use Rattle.heads.specs.declared.Opcode.{Opcode}
-use Rattle.heads.specs.declared.ChunkHead.{ChunkHead}
-use Rattle.heads.specs.declared.ChunkHead.the-variants.{Chunk, BadChunk}
-use Rattle.heads.specs.declared.OpcodeHead.{OpcodeHead}
-use Rattle.heads.specs.declared.OpcodeHead.the-variants.{Op, BadOp}
-use Rattle.heads.specs.Heads.{chunkAt, opcodeAt, shapeVerdict}
+use Rattle.heads.specs.Heads.{Head, chunkAt, opcodeAt, shapeVerdict}
+use Rattle.heads.specs.Heads as heads
 use Rattle.next.specs.declared.Next.{Next}
 use Rattle.next.specs.declared.Next.the-variants as found
 
@@ -39,24 +36,26 @@ unfoldable pub on : Verdict → Standing → Standing
 on accept s = s
 on (refuse n k) s = refused n k
 
-unfoldable pub chunkStanding : ChunkHead → Standing
-chunkStanding (Chunk c) = chunk c
-chunkStanding (BadChunk r) = refused (number r) (block r)
+unfoldable pub chunkStanding : Head Cursor → Standing
+chunkStanding (heads.gives c) = chunk c
+chunkStanding (heads.refused n k) = refused n k
 
-unfoldable pub opcodeStanding : OpcodeHead → Standing
-opcodeStanding (Op o) = on (shapeVerdict (o .kind) (o .version) (o .long)) (opcode o)
-opcodeStanding (BadOp r) = refused (number r) (block r)
+unfoldable pub opcodeStanding : Head Opcode → Standing
+opcodeStanding (heads.gives o) = on (shapeVerdict (o .kind) (o .version) (o .long)) (opcode o)
+opcodeStanding (heads.refused n k) = refused n k
 
--- at a position p in a chunk that ends at e
-unfoldable pub standingAt : List ℕ → ℕ → ℕ → Standing
-standingAt film p e =
-    cond (eqb p e) (cond (eqb e (length film)) ended (chunkStanding (chunkAt film e))) (opcodeStanding (opcodeAt film p e))
+-- at a chunk's end: the film's end, or a chunk's head
+unfoldable pub chunkEnd : List ℕ → Cursor → Standing
+chunkEnd film c = cond (eqb (c .«chunk_end») (length film)) ended (chunkStanding (chunkAt film c))
+
+-- where a cursor is
+unfoldable pub standingAt : List ℕ → Cursor → Standing
+standingAt film c = cond (eqb (c .position) (c .«chunk_end»)) (chunkEnd film c) (opcodeStanding (opcodeAt film c))
 
 -- where a state is, with a palette and two pictures this long
 unfoldable pub nextOf : List ℕ → State → ℕ → ℕ → ℕ → Standing
 nextOf film st palette a b =
-    on (stateVerdict st (length film))
-    (on (roomVerdict (area (st .width) (st .height)) palette a b) (standingAt film (st .cursor .position) (st .cursor .«chunk_end»)))
+    on (stateVerdict st (length film)) (on (roomVerdict (area (st .width) (st .height)) palette a b) (standingAt film (st .cursor)))
 
 -- what is known of a state that 16 does not refuse
 pub record Possible (st : State) (film : ℕ) : Type 0 where

@@ -16,7 +16,7 @@ ghost use Prim.Native.Nat.{_≤_};
 ghost use lib.ListN.{length};
 ghost use Rattle.state.specs.State.{area, roomVerdict};
 ghost use Rattle.heads.specs.Heads.{shapeVerdict};
-ghost use Rattle.next.specs.Next.{nextAs, on, opcode, chunkStanding, standingAt, nextOf, Possible};
+ghost use Rattle.next.specs.Next.{nextAs, on, opcode, chunkEnd, standingAt, nextOf, Possible};
 
 pub enum Next {
     Refused(Refusal),
@@ -34,27 +34,27 @@ fn shaped(o: heads::Opcode) -> Next
     }
 }
 
-fn chunk_at(film: &[u8], e: usize) -> Next
-    requires { ⌜ e ≤ length (now film) ⌝ }
-    ensures { λ r. ⌜ nextAs r ≡ standingAt (now (film .entry)) e e ⌝ }
+fn chunk_end(film: &[u8], c: Cursor) -> Next
+    requires { ⌜ c .«chunk_end» ≤ length (now film) ⌝ }
+    ensures { λ r. ⌜ nextAs r ≡ chunkEnd (now (film .entry)) c ⌝ }
 {
-    if e == film.len() {
+    if c.chunk_end == film.len() {
         return Next::Ended;
     }
-    match chunk_head(film, e) {
-        ChunkHead::Chunk(c) => Next::Chunk(c),
+    match chunk_head(film, c) {
+        ChunkHead::Chunk(chunk) => Next::Chunk(chunk),
         ChunkHead::BadChunk(r) => Next::Refused(r),
     }
 }
 
-fn standing_at(film: &[u8], p: usize, e: usize) -> Next
-    requires { ⌜ (p ≤ e) × (e ≤ length (now film)) ⌝ }
-    ensures { λ r. ⌜ nextAs r ≡ standingAt (now (film .entry)) p e ⌝ }
+fn standing_at(film: &[u8], c: Cursor) -> Next
+    requires { ⌜ (c .position ≤ c .«chunk_end») × (c .«chunk_end» ≤ length (now film)) ⌝ }
+    ensures { λ r. ⌜ nextAs r ≡ standingAt (now (film .entry)) c ⌝ }
 {
-    if p == e {
-        return chunk_at(film, e);
+    if c.position == c.chunk_end {
+        return chunk_end(film, c);
     }
-    match opcode_head(film, p, e) {
+    match opcode_head(film, c) {
         OpcodeHead::Op(o) => shaped(o),
         OpcodeHead::BadOp(r) => Next::Refused(r),
     }
@@ -62,13 +62,13 @@ fn standing_at(film: &[u8], p: usize, e: usize) -> Next
 
 fn next_in_room(film: &[u8], st: State, palette: usize, a: usize, b: usize) -> Next
     requires { ⌜ Possible st (length (now film)) ⌝ }
-    ensures { λ r. ⌜ nextAs r ≡ on (roomVerdict (area (st .width) (st .height)) palette a b) (standingAt (now (film .entry)) (st .cursor .position) (st .cursor .«chunk_end»)) ⌝ }
+    ensures { λ r. ⌜ nextAs r ≡ on (roomVerdict (area (st .width) (st .height)) palette a b) (standingAt (now (film .entry)) (st .cursor)) ⌝ }
 {
     let bytes = area_of(st.width, st.height);
     match judge_room(bytes, palette, a, b) {
         Checked::Accepted => {
             let c = st.cursor;
-            standing_at(film, c.position, c.chunk_end)
+            standing_at(film, c)
         }
         Checked::Refused(r) => Next::Refused(r),
     }

@@ -3,9 +3,10 @@ use packet::Checked;
 use packet::is_legal_size;
 use refusal::Refusal;
 ghost use mathlib.Core.Path.{_≡_};
-ghost use Prim.Native.Nat.{_+_};
+ghost use Prim.Native.Nat.{_+_, _<_, _^_};
 ghost use lib.Dec.{leb};
 ghost use Rattle.packet.specs.Verdict.{told};
+ghost use Rattle.state.specs.Moves.{cursorBehind, cursorInto, cursorAtEnd, at, behind, into, atEnd, sized, shownNext, sent, mapped, finished};
 ghost use Rattle.state.specs.State.{possibleSize, mapInside, boundsVerdict, stateVerdict, area, roomVerdict, leading, chosen, shownOf};
 
 // Where the next head stands, and where the chunk around it ends.
@@ -30,16 +31,159 @@ pub struct State {
     pub unsent: bool,
 }
 
+// Every move over a film is one of these methods: the value goes in, the moved one comes back.
 impl Cursor {
-    // Behind a head or a body, in the same chunk.
-    pub fn moved(self, position: usize) -> Cursor
-        ensures { λ r. ⌜ (r .position ≡ position) × (r .«chunk_end» ≡ self .«chunk_end») ⌝ }
+    // Behind an opcode whose body ends at p, in the same chunk.
+    pub fn behind(self, p: usize) -> Cursor
+        ensures { λ r. ⌜ r ≡ cursorBehind self p ⌝ }
     {
         Cursor {
-            position,
+            position: p,
             chunk_end: self.chunk_end,
         }
     }
+
+    // Into a chunk: its head stands at the chunk's end, its body of this length behind the head.
+    pub fn into_chunk(self, long: usize) -> Cursor
+        requires { ⌜ self .«chunk_end» + 4 + long < 2 ^ 64 ⌝ }
+        ensures { λ r. ⌜ r ≡ cursorInto self long ⌝ }
+    {
+        let body = self.chunk_end + 4;
+        Cursor {
+            position: body,
+            chunk_end: body + long,
+        }
+    }
+
+    // At the end of a film of this length.
+    pub fn at_end(self, film: usize) -> Cursor
+        ensures { λ r. ⌜ r ≡ cursorAtEnd self film ⌝ }
+    {
+        Cursor {
+            position: film,
+            chunk_end: film,
+        }
+    }
+}
+
+impl State {
+    // With another cursor, and all else as it was.
+    fn at(self, cursor: Cursor) -> State
+        ensures { λ r. ⌜ r ≡ at self cursor ⌝ }
+    {
+        let map = self.map;
+        State {
+            cursor,
+            width: self.width,
+            height: self.height,
+            front: self.front,
+            map,
+            unsent: self.unsent,
+        }
+    }
+
+    // Behind an opcode that changes nothing else.
+    pub fn behind(self, p: usize) -> State
+        ensures { λ r. ⌜ r ≡ behind self p ⌝ }
+    {
+        let c = self.cursor;
+        self.at(c.behind(p))
+    }
+
+    // Into the chunk whose head gave this cursor.
+    pub fn into_chunk(self, chunk: Cursor) -> State
+        ensures { λ r. ⌜ r ≡ into self chunk ⌝ }
+    {
+        self.at(chunk)
+    }
+
+    // 00: at the end of a film of this length.
+    pub fn at_end(self, film: usize) -> State
+        ensures { λ r. ⌜ r ≡ atEnd self film ⌝ }
+    {
+        let c = self.cursor;
+        self.at(c.at_end(film))
+    }
+
+    // 05: with a size.
+    pub fn sized(self, p: usize, w: usize, h: usize) -> State
+        ensures { λ r. ⌜ r ≡ sized self p w h ⌝ }
+    {
+        let c = self.cursor;
+        let cursor = c.behind(p);
+        let map = self.map;
+        State {
+            cursor,
+            width: w,
+            height: h,
+            front: self.front,
+            map,
+            unsent: self.unsent,
+        }
+    }
+
+    // 07: with the picture that is shown next, and nothing unsent.
+    pub fn sent(self, p: usize) -> State
+        ensures { λ r. ⌜ r ≡ sent self p ⌝ }
+    {
+        let c = self.cursor;
+        let cursor = c.behind(p);
+        let front = shown_next(self.unsent, self.front);
+        let map = self.map;
+        State {
+            cursor,
+            width: self.width,
+            height: self.height,
+            front,
+            map,
+            unsent: false,
+        }
+    }
+
+    // 0F: with another pending map.
+    pub fn mapped(self, p: usize, map: Map) -> State
+        ensures { λ r. ⌜ r ≡ mapped self p map ⌝ }
+    {
+        let c = self.cursor;
+        let cursor = c.behind(p);
+        State {
+            cursor,
+            width: self.width,
+            height: self.height,
+            front: self.front,
+            map,
+            unsent: self.unsent,
+        }
+    }
+
+    // 11, drawn whole: the map is used up, and a frame is finished and unsent.
+    pub fn finished(self, p: usize) -> State
+        ensures { λ r. ⌜ r ≡ finished self p ⌝ }
+    {
+        let c = self.cursor;
+        let cursor = c.behind(p);
+        State {
+            cursor,
+            width: self.width,
+            height: self.height,
+            front: self.front,
+            map: Map::Missing,
+            unsent: true,
+        }
+    }
+}
+
+// The picture that is shown after a 07.
+fn shown_next(unsent: bool, front: usize) -> usize
+    ensures { λ r. ⌜ r ≡ shownNext unsent front ⌝ }
+{
+    if unsent {
+        if front == 0 {
+            return 1;
+        }
+        return 0;
+    }
+    front
 }
 
 fn is_possible_size(w: usize, h: usize) -> bool

@@ -6,8 +6,8 @@ use mathlib.Core.List.{List}
 use Prim.Native.Nat.{ℕ, zero, suc, _+_, _*_, _≤_}
 use lib.ListN.{length}
 use Rattle.state.specs.declared.State.{State}
-use Rattle.opcodes.specs.Opcodes.{Step, taken, drawnWhole, drawnPart, ended, refused}
-use Rattle.film.specs.Film.{Outcome, after, stepOf}
+use Rattle.opcodes.specs.Opcodes.{Answer, taken, whole, unfinished, ended, refused}
+use Rattle.film.specs.Film.{Lent, Outcome, stepOf}
 
 -- from a state to one further on, in a film this long
 pub record Forward (film : ℕ) (st next : State) : Type 0 where
@@ -16,42 +16,35 @@ pub record Forward (film : ℕ) (st next : State) : Type 0 where
   pub inside : next .cursor .«chunk_end» ≤ film
 
 -- the state that an answer gives: further on, or the one that came in; a refusal gives none
-unfoldable pub Moves : ℕ → State → Step → Type 0
+unfoldable pub Moves : ℕ → State → Answer → Type 0
 Moves film st (taken s) = Forward film st s
-Moves film st (drawnWhole s n) = Forward film st s
-Moves film st (drawnPart s n) = s ≡ st
+Moves film st (whole s) = Forward film st s
+Moves film st (unfinished s) = s ≡ st
 Moves film st (ended s) = s ≡ st
 Moves film st (refused n k) = Unit
 
--- what is lent is as it was
-pub record Same (p a b : List ℕ) (k : ℕ) (p′ a′ b′ : List ℕ) (k′ : ℕ) : Type 0 where
-  pub palette : p′ ≡ p
-  pub first : a′ ≡ a
-  pub second : b′ ≡ b
-  pub place : k′ ≡ k
+-- what is lent, before and after a step with this answer: the same where it was refused or at the end
+unfoldable pub Same : Answer → Lent → Lent → Type 0
+Same (taken s) l m = Unit
+Same (whole s) l m = Unit
+Same (unfinished s) l m = Unit
+Same (ended s) l m = m ≡ l
+Same (refused n k) l m = m ≡ l
 
-unfoldable pub Keeps : List ℕ → List ℕ → List ℕ → ℕ → Outcome → Type 0
-Keeps palette a b place (after (taken s) p x y k) = Unit
-Keeps palette a b place (after (drawnWhole s n) p x y k) = Unit
-Keeps palette a b place (after (drawnPart s n) p x y k) = Unit
-Keeps palette a b place (after (ended s) p x y k) = Same palette a b place p x y k
-Keeps palette a b place (after (refused n i) p x y k) = Same palette a b place p x y k
-
-abbrev pub answer : Outcome → Step
-answer (after x palette a b place) = x
+abbrev pub Keeps : Lent → Outcome → Type 0
+Keeps l o = Same (o .step .answer) l (o .lent)
 
 -- ---- walks
 
 -- an answer that goes on with a state
-unfoldable pub GoesTo : Step → State → Type 0
+unfoldable pub GoesTo : Answer → State → Type 0
 GoesTo (taken s) t = s ≡ t
-GoesTo (drawnWhole s n) t = s ≡ t
-GoesTo (drawnPart s n) t = ⊥
+GoesTo (whole s) t = s ≡ t
+GoesTo (unfinished s) t = ⊥
 GoesTo (ended s) t = ⊥
 GoesTo (refused n k) t = ⊥
 
 -- n steps that were taken or whole, each with any allowance and whatever was lent; unfinished steps between them give the state back and do not count
 pub data Walked (film : List ℕ) : ℕ → State → State → Type 0 where
   none : {st : State} → Walked film zero st st
-  more : {n : ℕ} {st s t : State} → Walked film n st s → (allowed : ℕ) (palette a b : List ℕ) (place : ℕ)
-      → GoesTo (answer (stepOf film s allowed palette a b place)) t → Walked film (suc n) st t
+  more : {n : ℕ} {st s t : State} → Walked film n st s → (allowed : ℕ) (l : Lent) → GoesTo (stepOf film s allowed l .step .answer) t → Walked film (suc n) st t

@@ -1,6 +1,5 @@
 use native.Mathlib.Omega.{arith}
 use Rattle.film.proofs.Steps.{act-gradient, act-entries, act-masks, act-map, act-draw, act-quiet}
-use Rattle.film.specs.Film.{act}
 use borrow.Author.Needs.{needs}
 use Rattle.film.proofs.act_on.Statement.{statement}
 use Rattle.film.proofs.act_on.Tie as tie
@@ -9,23 +8,23 @@ use Rattle.film.proofs.act_on.Lts as lts
 use Rattle.film.proofs.draw_by.Reads as draw-by-reads
 use Rattle.film.proofs.palette_step.Reads as palette-step-reads
 use Rattle.opcodes.proofs.quiet_step.Reads as quiet-step-reads
-use Rattle.opcodes.proofs.state_mapped.Reads as state-mapped-reads
 use Rattle.paint.proofs.set_place.Reads as set-place-reads
 use Rattle.palette.proofs.create_gradient.Reads as create-gradient-reads
 use Rattle.palette.proofs.set_palette.Reads as set-palette-reads
 use Rattle.palette.proofs.set_palette_compressed.Reads as set-palette-compressed-reads
+use Rattle.state.proofs.State.mapped.Reads as mapped-reads
 
 add-p : tie.Need-add-p
 add-p c = search needs
 
-sub-create-gradient : tie.Need-sub-create-gradient
-sub-create-gradient c = search needs
+sub-body : tie.Need-sub-body
+sub-body c = search needs
 
-part-create-gradient-start : tie.Need-part-create-gradient-start
-part-create-gradient-start c = search needs
+part-body-start : tie.Need-part-body-start
+part-body-start c = search needs
 
-part-create-gradient-end : tie.Need-part-create-gradient-end
-part-create-gradient-end c = search needs
+part-body-end : tie.Need-part-body-end
+part-body-end c = search needs
 
 create-gradient-requires : tie.Need-create-gradient-requires
 create-gradient-requires c κs = search needs
@@ -33,29 +32,11 @@ create-gradient-requires c κs = search needs
 palette-step-requires : tie.Need-palette-step-requires
 palette-step-requires c κs = search needs
 
-sub-set-palette : tie.Need-sub-set-palette
-sub-set-palette c = search needs
-
-part-set-palette-start : tie.Need-part-set-palette-start
-part-set-palette-start c = search needs
-
-part-set-palette-end : tie.Need-part-set-palette-end
-part-set-palette-end c = search needs
-
 set-palette-requires : tie.Need-set-palette-requires
 set-palette-requires c κs = search needs
 
 palette-step-requires-2 : tie.Need-palette-step-requires-2
 palette-step-requires-2 c κs = search needs
-
-sub-set-palette-compressed : tie.Need-sub-set-palette-compressed
-sub-set-palette-compressed c = search needs
-
-part-set-palette-compressed-start : tie.Need-part-set-palette-compressed-start
-part-set-palette-compressed-start c = search needs
-
-part-set-palette-compressed-end : tie.Need-part-set-palette-compressed-end
-part-set-palette-compressed-end c = search needs
 
 set-palette-compressed-requires : tie.Need-set-palette-compressed-requires
 set-palette-compressed-requires c κs = search needs
@@ -66,14 +47,14 @@ palette-step-requires-3 c κs = search needs
 set-place-requires : tie.Need-set-place-requires
 set-place-requires c κs = search needs
 
-sub-t37 : tie.Need-sub-t37
-sub-t37 c = search needs
+sub-t29 : tie.Need-sub-t29
+sub-t29 c = search needs
 
-state-mapped-requires : tie.Need-state-mapped-requires
-state-mapped-requires c κs = search needs
+mapped-requires : tie.Need-mapped-requires
+mapped-requires c κs = search needs
 
 draw-by-requires : tie.Need-draw-by-requires
-draw-by-requires c κs = let q = c .before .before .before .before .before .before .before .before .before .pre .0 in ((omega (arith, q .packet (c .before .before .before .match .keys5)), q .inside), c .before .before .before .before .before .before .before .before .before .pre .1)
+draw-by-requires c κs = let q = c .before .before .before .before .before .before .before .before .before .before .pre .0 in (let h = q .packet (c .before .before .before .match .keys5) in let g = c .before .before .before .before .body .given in omega (arith, h, g), c .before .before .before .before .before .before .before .before .before .before .pre .1)
 
 quiet-step-requires : tie.Need-quiet-step-requires
 quiet-step-requires c κs = search needs
@@ -82,22 +63,22 @@ same-length : tie.Need-same-length
 same-length c = search needs
 
 returns : tie.Need-returns
-returns c = act-gradient _ _ _ _ _ _ _ _ _ _ _ _ _ _ (c .palette-step .ensures) (c .before .before .before .before .before .before .match .keys1) (c .before .before .before .create-gradient .ensures .0) (c .before .before .before .create-gradient .ensures .1)
+returns c = act-gradient _ _ _ _ _ _ _ _ _ _ _ _ (c .palette-step .ensures) (c .before .before .before .before .before .match .keys1) (c .before .before .before .create-gradient .ensures .0) (c .before .before .before .create-gradient .ensures .1)
 
 same-length-2 : tie.Need-same-length-2
 same-length-2 c = search needs
 
 returns-2 : tie.Need-returns-2
-returns-2 c = act-entries _ _ _ _ _ _ _ _ _ _ _ _ _ _ (c .palette-step2 .ensures) (c .before .before .before .before .before .before .match .keys2) (c .before .before .before .set-palette .ensures .0) (c .before .before .before .set-palette .ensures .1)
+returns-2 c = act-entries _ _ _ _ _ _ _ _ _ _ _ _ (c .palette-step2 .ensures) (c .before .before .before .before .before .match .keys2) (c .before .before .before .set-palette .ensures .0) (c .before .before .before .set-palette .ensures .1)
 
 same-length-3 : tie.Need-same-length-3
 same-length-3 c = search needs
 
 returns-3 : tie.Need-returns-3
-returns-3 c = act-masks _ _ _ _ _ _ _ _ _ _ _ _ _ _ (c .palette-step3 .ensures) (c .before .before .before .before .before .before .match .keys3) (c .before .before .before .set-palette-compressed .ensures .0) (c .before .before .before .set-palette-compressed .ensures .1)
+returns-3 c = act-masks _ _ _ _ _ _ _ _ _ _ _ _ (c .palette-step3 .ensures) (c .before .before .before .before .before .match .keys3) (c .before .before .before .set-palette-compressed .ensures .0) (c .before .before .before .set-palette-compressed .ensures .1)
 
 returns-4 : tie.Need-returns-4
-returns-4 c = act-map _ _ _ _ _ _ _ _ _ _ _ _ _ (c .before .before .before .match .keys4) (c .state-mapped .ensures) (c .before .set-place .ensures)
+returns-4 c = act-map _ _ _ _ _ _ _ _ _ _ _ (c .before .before .before .match .keys4) (c .mapped .ensures) (c .before .set-place .ensures)
 
 same-length-4 : tie.Need-same-length-4
 same-length-4 c = search needs
@@ -106,34 +87,28 @@ same-length-5 : tie.Need-same-length-5
 same-length-5 c = search needs
 
 returns-5 : tie.Need-returns-5
-returns-5 c = act-draw _ _ _ _ _ _ _ _ _ _ _ _ _ _ _ (c .before .before .before .before .before .before .before .before .match .keys5) (c .before .before .before .before .draw-by .ensures)
+returns-5 c = act-draw _ _ _ _ _ _ _ _ _ _ _ _ _ (c .before .before .before .before .before .before .before .before .match .keys5) (c .before .before .before .before .draw-by .ensures)
 
 returns-6 : tie.Need-returns-6
-returns-6 c = act-quiet _ _ _ _ _ _ _ _ _ _ _ _ (c .before .match .rest .0 .0 .0 .0 .1) (c .before .match .rest .0 .0 .0 .1) (c .before .match .rest .0 .0 .1) (c .before .match .rest .0 .1) (c .before .match .rest .1) (c .quiet-step .ensures)
+returns-6 c = act-quiet _ _ _ _ _ _ _ _ _ _ (c .before .match .rest .0 .0 .0 .0 .1) (c .before .match .rest .0 .0 .0 .1) (c .before .match .rest .0 .0 .1) (c .before .match .rest .0 .1) (c .before .match .rest .1) (c .quiet-step .ensures)
 
 pub act-on-spec : {M : Type 1} → statement M
 act-on-spec =
     tie.close
     (tie.spec
     add-p
-    sub-create-gradient
-    part-create-gradient-start
-    part-create-gradient-end
+    sub-body
+    part-body-start
+    part-body-end
     create-gradient-requires
     palette-step-requires
-    sub-set-palette
-    part-set-palette-start
-    part-set-palette-end
     set-palette-requires
     palette-step-requires-2
-    sub-set-palette-compressed
-    part-set-palette-compressed-start
-    part-set-palette-compressed-end
     set-palette-compressed-requires
     palette-step-requires-3
     set-place-requires
-    sub-t37
-    state-mapped-requires
+    sub-t29
+    mapped-requires
     draw-by-requires
     quiet-step-requires
     same-length

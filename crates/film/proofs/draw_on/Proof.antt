@@ -1,5 +1,4 @@
 use Rattle.film.proofs.Steps.{drew-second, drew-first}
-use Rattle.film.specs.Film.{drawOn}
 use borrow.Author.Needs.{needs}
 use Rattle.film.proofs.draw_on.Statement.{statement}
 use Rattle.film.proofs.draw_on.Tie as tie
@@ -7,27 +6,6 @@ use Rattle.film.proofs.draw_on.Reads as reads
 use Rattle.film.proofs.draw_on.Lts as lts
 use Rattle.draw.proofs.draw.Reads as draw-reads
 use Rattle.opcodes.proofs.drawn_step.Reads as drawn-step-reads
-
-add-packet : tie.Need-add-packet
-add-packet c = search needs
-
-sub-packet : tie.Need-sub-packet
-sub-packet c = search needs
-
-part-packet-start : tie.Need-part-packet-start
-part-packet-start c = search needs
-
-part-packet-end : tie.Need-part-packet-end
-part-packet-end c = search needs
-
-sub-map : tie.Need-sub-map
-sub-map c = search needs
-
-part-map-start : tie.Need-part-map-start
-part-map-start c = search needs
-
-part-map-end : tie.Need-part-map-end
-part-map-end c = search needs
 
 draw-requires : tie.Need-draw-requires
 draw-requires c κs = search needs
@@ -42,7 +20,7 @@ same-length-2 : tie.Need-same-length-2
 same-length-2 c = search needs
 
 returns : tie.Need-returns
-returns c = drew-second _ _ _ _ _ _ _ _ _ _ _ _ _ _ (c .drawn-step .ensures) (c .before .before .before .before .before .before .before .if1 .taken) (c .before .before .before .draw .ensures .1) (c .before .before .before .draw .ensures .0)
+returns c = λ l. drew-second _ _ _ _ _ _ _ _ _ _ _ _ (c .drawn-step .ensures) l (c .before .before .before .before .before .before .before .if1 .taken) (c .before .before .before .draw .ensures .1) (c .before .before .before .draw .ensures .0)
 
 draw-requires-2 : tie.Need-draw-requires-2
 draw-requires-2 c κs = search needs
@@ -57,19 +35,12 @@ same-length-4 : tie.Need-same-length-4
 same-length-4 c = search needs
 
 returns-2 : tie.Need-returns-2
-returns-2 c = drew-first _ _ _ _ _ _ _ _ _ _ _ _ _ _ (c .drawn-step2 .ensures) (c .before .before .before .before .before .before .before .if1 .left) (c .before .before .before .draw2 .ensures .1) (c .before .before .before .draw2 .ensures .0)
+returns-2 c = λ l. drew-first _ _ _ _ _ _ _ _ _ _ _ _ (c .drawn-step2 .ensures) l (c .before .before .before .before .before .before .before .if1 .left) (c .before .before .before .draw2 .ensures .1) (c .before .before .before .draw2 .ensures .0)
 
 pub draw-on-spec : {M : Type 1} → statement M
 draw-on-spec =
     tie.close
     (tie.spec
-    add-packet
-    sub-packet
-    part-packet-start
-    part-packet-end
-    sub-map
-    part-map-start
-    part-map-end
     draw-requires
     drawn-step-requires
     same-length

@@ -1,5 +1,4 @@
 use Rattle.film.proofs.Steps.{step-refused, step-ended, step-chunk, step-opcode, step-ready}
-use Rattle.film.specs.Film.{stepOf}
 use borrow.Author.Needs.{needs}
 use Rattle.film.proofs.step.Statement.{statement}
 use Rattle.film.proofs.step.Tie as tie
@@ -7,7 +6,7 @@ use Rattle.film.proofs.step.Reads as reads
 use Rattle.film.proofs.step.Lts as lts
 use Rattle.film.proofs.act_on.Reads as act-on-reads
 use Rattle.next.proofs.find.Reads as find-reads
-use Rattle.opcodes.proofs.state_at.Reads as state-at-reads
+use Rattle.state.proofs.State.into_chunk.Reads as into-chunk-reads
 
 find-requires : tie.Need-find-requires
 find-requires c κs = search needs
@@ -21,8 +20,8 @@ enum-told c = search needs
 enum-known-c : tie.Need-enum-known-c
 enum-known-c c = search needs
 
-state-at-requires : tie.Need-state-at-requires
-state-at-requires c κs = search needs
+into-chunk-requires : tie.Need-into-chunk-requires
+into-chunk-requires c κs = search needs
 
 enum-known-o : tie.Need-enum-known-o
 enum-known-o c = search needs
@@ -31,13 +30,13 @@ act-on-requires : tie.Need-act-on-requires
 act-on-requires c κs = let q = step-ready (c .before .before .before .before .before .before .before .before .before .before .before .before .args .film .now) (c .before .before .before .before .before .before .before .before .before .before .before .before .args .st) _ _ _ _ _ (c .before .before .before .before .before .before .before .find .ensures) (c .before .before .before .before .before .o .given .1) in (q .1, q .0 .mapped)
 
 returns : tie.Need-returns
-returns c = step-refused _ _ _ _ _ _ _ _ (c .before .before .before .find .ensures) _ (c .before .r .given .1)
+returns c = step-refused _ _ _ _ _ (c .before .before .before .find .ensures) _ (c .before .r .given .1)
 
 returns-2 : tie.Need-returns-2
-returns-2 c = step-ended _ _ _ _ _ _ _ _ (c .before .before .find .ensures) (c .enum-told .given .1)
+returns-2 c = step-ended _ _ _ _ _ (c .before .before .find .ensures) (c .enum-told .given .1)
 
 returns-3 : tie.Need-returns-3
-returns-3 c = step-chunk _ _ _ _ _ _ _ _ (c .before .before .before .before .find .ensures) _ _ (c .before .before .c .given .1) (c .state-at .ensures)
+returns-3 c = step-chunk _ _ _ _ _ (c .before .before .before .before .find .ensures) _ _ (c .before .before .c .given .1) (c .into-chunk .ensures)
 
 same-length : tie.Need-same-length
 same-length c = search needs
@@ -49,7 +48,7 @@ same-length-3 : tie.Need-same-length-3
 same-length-3 c = search needs
 
 returns-4 : tie.Need-returns-4
-returns-4 c = step-opcode _ _ _ _ _ _ _ _ (c .before .before .before .before .before .before .before .before .before .before .before .before .before .before .find .ensures) _ _ (c .before .before .before .before .before .before .before .before .before .before .before .before .o .given .1) (c .before .before .before .before .before .before .act-on .ensures)
+returns-4 c = step-opcode _ _ _ _ _ (c .before .before .before .before .before .before .before .before .before .before .before .before .before .before .find .ensures) _ _ (c .before .before .before .before .before .before .before .before .before .before .before .before .o .given .1) (c .before .before .before .before .before .before .act-on .ensures)
 
 pub step-spec : {M : Type 1} → statement M
 step-spec =
@@ -59,7 +58,7 @@ step-spec =
     enum-known-r
     enum-told
     enum-known-c
-    state-at-requires
+    into-chunk-requires
     enum-known-o
     act-on-requires
     returns

@@ -1,6 +1,4 @@
 use Rattle.heads.proofs.Heads.{chunk-read}
-use Rattle.words.proofs.Tests.{decide}
-use Rattle.heads.specs.Heads.{chunkAt}
 use borrow.Author.Needs.{needs}
 use Rattle.heads.proofs.chunk_head.Statement.{statement}
 use Rattle.heads.proofs.chunk_head.Tie as tie

@@ -1,10 +1,12 @@
 use Rattle.words.proofs.Tests.{decide}
+use Rattle.heads.proofs.Heads.{chunk-inside}
 use Rattle.heads.specs.Heads.{chunkOf}
 use borrow.Author.Needs.{needs}
 use Rattle.heads.proofs.chunk_of.Statement.{statement}
 use Rattle.heads.proofs.chunk_of.Tie as tie
 use Rattle.heads.proofs.chunk_of.Reads as reads
 use Rattle.heads.proofs.chunk_of.Lts as lts
+use Rattle.state.proofs.Cursor.into_chunk.Reads as into-chunk-reads
 
 add-if1 : tie.Need-add-if1
 add-if1 c = search needs
@@ -23,19 +25,12 @@ returns-2 : tie.Need-returns-2
 unfolding chunkOf
 returns-2 c = search decide
 
-add-t4 : tie.Need-add-t4
-add-t4 c = search needs
-
-add-t7 : tie.Need-add-t7
-add-t7 c = search needs
-
-add-t9 : tie.Need-add-t9
-add-t9 c = search needs
+into-chunk-requires : tie.Need-into-chunk-requires
+into-chunk-requires c κs = search needs
 
 returns-3 : tie.Need-returns-3
-unfolding chunkOf
-returns-3 c = search decide
+returns-3 c = chunk-inside _ _ _ _ (c .before .before .before .if1 .left) (c .before .if2 .left) (c .into-chunk .ensures)
 
 pub chunk-of-spec : {M : Type 1} → statement M
 chunk-of-spec =
-    tie.close (tie.spec add-if1 returns add-if2 add-if2-2 returns-2 add-t4 add-t7 add-t9 returns-3)
+    tie.close (tie.spec add-if1 returns add-if2 add-if2-2 returns-2 into-chunk-requires returns-3)

@@ -1,6 +1,4 @@
 use Rattle.heads.proofs.Heads.{opcode-read}
-use Rattle.words.proofs.Tests.{decide}
-use Rattle.heads.specs.Heads.{opcodeAt}
 use borrow.Author.Needs.{needs}
 use Rattle.heads.proofs.opcode_head.Statement.{statement}
 use Rattle.heads.proofs.opcode_head.Tie as tie
@@ -36,7 +34,7 @@ opcode-of-requires : tie.Need-opcode-of-requires
 opcode-of-requires c κs = search needs
 
 returns : tie.Need-returns
-returns c = opcode-read _ _ _ _ _ _ _ _ _ (c .before .before .before .before .before .word-at .ensures .0) (c .before .before .before .wide .ensures .0) (c .before .before .before .before .byte-at .ensures) (c .before .wide2 .ensures .0) (c .before .before .byte-at2 .ensures) (c .opcode-of .ensures)
+returns c = opcode-read _ _ _ _ _ _ _ _ (c .before .before .before .before .before .word-at .ensures .0) (c .before .before .before .wide .ensures .0) (c .before .before .before .before .byte-at .ensures) (c .before .wide2 .ensures .0) (c .before .before .byte-at2 .ensures) (c .opcode-of .ensures)
 
 pub opcode-head-spec : {M : Type 1} → statement M
 opcode-head-spec =

@@ -28,7 +28,7 @@ same-length-3 : tie.Need-same-length-3
 same-length-3 c = search needs
 
 returns : tie.Need-returns
-returns c = step-exported _ _ _ _ _ _ _ _ _ _ _ _ _ _ (c .before .before .before .before .before .before .before .before .before .before .before .before .state-of .ensures) (c .before .before .before .before .before .before .before .step .ensures) (c .of-step .ensures)
+returns c = step-exported _ _ _ _ _ _ _ _ (c .before .before .before .before .before .before .before .before .before .before .before .before .state-of .ensures) (c .before .before .before .before .before .before .before .step .ensures) (c .of-step .ensures)
 
 pub mve-step-spec : {M : Type 1} → statement M
 mve-step-spec =

@@ -1,5 +1,4 @@
 use Rattle.mve.proofs.Films.{taken-as, whole-as, unfinished-as, ended-as, step-refused-as}
-use Rattle.mve.specs.Film.{ofStep}
 use borrow.Author.Needs.{needs}
 use Rattle.mve.proofs.of_step.Statement.{statement}
 use Rattle.mve.proofs.of_step.Tie as tie

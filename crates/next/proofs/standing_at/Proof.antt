@@ -1,19 +1,18 @@
 use Rattle.next.proofs.Standing.{at-end, opcode-here, no-opcode}
-use Rattle.next.specs.Next.{standingAt}
 use borrow.Author.Needs.{needs}
 use Rattle.next.proofs.standing_at.Statement.{statement}
 use Rattle.next.proofs.standing_at.Tie as tie
 use Rattle.next.proofs.standing_at.Reads as reads
 use Rattle.next.proofs.standing_at.Lts as lts
 use Rattle.heads.proofs.opcode_head.Reads as opcode-head-reads
-use Rattle.next.proofs.chunk_at.Reads as chunk-at-reads
+use Rattle.next.proofs.chunk_end.Reads as chunk-end-reads
 use Rattle.next.proofs.shaped.Reads as shaped-reads
 
-chunk-at-requires : tie.Need-chunk-at-requires
-chunk-at-requires c κs = search needs
+chunk-end-requires : tie.Need-chunk-end-requires
+chunk-end-requires c κs = search needs
 
 returns : tie.Need-returns
-returns c = at-end _ _ _ _ (c .before .if1 .taken) (c .chunk-at .ensures)
+returns c = at-end _ _ _ (c .before .if1 .taken) (c .chunk-end .ensures)
 
 opcode-head-requires : tie.Need-opcode-head-requires
 opcode-head-requires c κs = search needs
@@ -28,16 +27,16 @@ enum-known-r : tie.Need-enum-known-r
 enum-known-r c = search needs
 
 returns-2 : tie.Need-returns-2
-returns-2 c = opcode-here _ _ _ (c .before .before .before .before .before .if1 .left) _ (c .before .before .before .before .opcode-head .ensures) _ _ (c .before .before .o .given .1) (c .shaped .ensures)
+returns-2 c = opcode-here _ _ (c .before .before .before .before .before .if1 .left) _ (c .before .before .before .before .opcode-head .ensures) _ _ (c .before .before .o .given .1) (c .shaped .ensures)
 
 returns-3 : tie.Need-returns-3
-returns-3 c = no-opcode _ _ _ (c .before .before .before .before .if1 .left) _ (c .before .before .before .opcode-head .ensures) _ (c .before .r .given .1)
+returns-3 c = no-opcode _ _ (c .before .before .before .before .if1 .left) _ (c .before .before .before .opcode-head .ensures) _ (c .before .r .given .1)
 
 pub standing-at-spec : {M : Type 1} → statement M
 standing-at-spec =
     tie.close
     (tie.spec
-    chunk-at-requires
+    chunk-end-requires
     returns
     opcode-head-requires
     enum-known-o

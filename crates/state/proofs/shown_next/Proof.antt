@@ -1,10 +1,10 @@
-use Rattle.opcodes.proofs.Steps.{turned-0, turned-1, not-turned}
+use Rattle.state.proofs.Moves.{turned-0, turned-1, not-turned}
 use borrow.Author.Needs.{needs}
-use Rattle.opcodes.specs.Opcodes.{shownNext}
-use Rattle.opcodes.proofs.shown_next.Statement.{statement}
-use Rattle.opcodes.proofs.shown_next.Tie as tie
-use Rattle.opcodes.proofs.shown_next.Reads as reads
-use Rattle.opcodes.proofs.shown_next.Lts as lts
+use Rattle.state.specs.Moves.{shownNext}
+use Rattle.state.proofs.shown_next.Statement.{statement}
+use Rattle.state.proofs.shown_next.Tie as tie
+use Rattle.state.proofs.shown_next.Reads as reads
+use Rattle.state.proofs.shown_next.Lts as lts
 
 returns : tie.Need-returns
 returns c = turned-0 _ _ (c .before .if1 .taken) (c .if2 .taken)

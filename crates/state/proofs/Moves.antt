@@ -1,0 +1,49 @@
+-- The moves of a state, by the cursor and the picture that code found.
+-- Assumes nothing.
+use mathlib.Core.Path.{_≡_, refl, ap, _∙_}
+use mathlib.Core.Bool.{Bool, true, false, cond}
+use Prim.Native.Nat.{ℕ}
+use borrow.Author.Tests.{eq-eqb, ne-eqb}
+use Rattle.state.specs.declared.Cursor.{Cursor}
+use Rattle.state.specs.declared.Map.{Map}
+use Rattle.state.specs.declared.Map.the-variants.{Missing}
+use Rattle.state.specs.declared.State.{State}
+use Rattle.state.specs.Moves.{cursorBehind, at, sized, shownNext, sent, mapped, finished}
+
+pub at-is : (st : State) (c d : Cursor) (r : State) → c ≡ d → r ≡ at st c → r ≡ at st d
+at-is st c d r e h = h ∙ ap (at st) e
+
+-- a state as code builds it
+abbrev pub state : Cursor → ℕ → ℕ → ℕ → Map → Bool → State
+state c w h front map unsent = record { cursor = c; width = w; height = h; front = front; map = map; unsent = unsent }
+
+module _ (st : State) (p : ℕ) (c : Cursor) (e : c ≡ cursorBehind (st .cursor) p) where
+  pub sized-is : (w h : ℕ) → state c w h (st .front) (st .map) (st .unsent) ≡ sized st p w h
+  unfolding sized
+  sized-is w h = ap (λ (x : Cursor). state x w h (st .front) (st .map) (st .unsent)) e
+
+  pub sent-is : (f : ℕ) → f ≡ shownNext (st .unsent) (st .front) → state c (st .width) (st .height) f (st .map) false ≡ sent st p
+  unfolding sent
+  sent-is f q =
+      ap (λ (x : Cursor). state x (st .width) (st .height) f (st .map) false) e
+      ∙ ap (λ (x : ℕ). state (cursorBehind (st .cursor) p) (st .width) (st .height) x (st .map) false) q
+
+  pub mapped-is : (map : Map) → state c (st .width) (st .height) (st .front) map (st .unsent) ≡ mapped st p map
+  unfolding mapped
+  mapped-is map = ap (λ (x : Cursor). state x (st .width) (st .height) (st .front) map (st .unsent)) e
+
+  pub finished-is : state c (st .width) (st .height) (st .front) Missing true ≡ finished st p
+  unfolding finished
+  finished-is = ap (λ (x : Cursor). state x (st .width) (st .height) (st .front) Missing true) e
+
+pub turned-0 : (u : Bool) (f : ℕ) → u ≡ true → f ≡ 0 → 1 ≡ shownNext u f
+unfolding shownNext
+turned-0 u f e q = rw (e, eq-eqb _ _ q)
+
+pub turned-1 : (u : Bool) (f : ℕ) → u ≡ true → (f ≡ 0 → ⊥) → 0 ≡ shownNext u f
+unfolding shownNext
+turned-1 u f e n = rw (e, ne-eqb _ _ n)
+
+pub not-turned : (u : Bool) (f : ℕ) → u ≡ false → f ≡ shownNext u f
+unfolding shownNext
+not-turned u f e = rw e
