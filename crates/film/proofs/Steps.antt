@@ -11,7 +11,7 @@ use Rattle.refusal.specs.declared.Refusal.{Refusal}
 use Rattle.refusal.specs.Number.{Verdict, number, block}
 use Rattle.stores.specs.Stores.{Memory, memory}
 use Rattle.stores.specs.Calls.{Outcome as Reply, step, reply}
-use Rattle.draw.specs.Call.{Request, request, Reason, calling}
+use Rattle.draw.specs.Call.{Request, request, Reason, calling, Pictures, pictures, leaves}
 use Rattle.palette.specs.declared.Updated.{Updated}
 use Rattle.palette.specs.declared.Updated.the-variants.{Taken, Refused}
 use Rattle.palette.specs.Update.{Update, told, verdictOn, paletteAfter}
@@ -45,19 +45,19 @@ called-is st p q l x o c k f g h =
 
 module _ (st : State) (p : ℕ) (map packet : List ℕ) (allowed : ℕ) (a b : List ℕ) (place : ℕ) (x : Step) (c : List ℕ) (k : ℕ) (o : Reply Reason) (f : x ≡ drawnStep st p o) (l : Lent) where
   pub drew-second : st .front ≡ 0 → o ≡ reply calling (memory b place) (request (st .width) (st .height) map packet a allowed)
-      → memory c k ≡ step calling (memory b place) (request (st .width) (st .height) map packet a allowed)
+      → pictures a (memory c k) ≡ leaves (request (st .width) (st .height) map packet a allowed) (memory b place)
       → after x (withPictures l a c k) ≡ drawOn st p map packet allowed (withPictures l a b place)
   unfolding drawOn
-  drew-second e g h = rw (eq-eqb _ _ e) (called-is st p (request (st .width) (st .height) map packet a allowed) (withPictures l a b place) x o c k f g h)
+  drew-second e g h = rw (eq-eqb _ _ e) (called-is st p (request (st .width) (st .height) map packet a allowed) (withPictures l a b place) x o c k f g (ap (λ (y : Pictures). y .drawn) h))
 
   pub drew-first : (st .front ≡ 0 → ⊥) → o ≡ reply calling (memory a place) (request (st .width) (st .height) map packet b allowed)
-      → memory c k ≡ step calling (memory a place) (request (st .width) (st .height) map packet b allowed)
+      → pictures b (memory c k) ≡ leaves (request (st .width) (st .height) map packet b allowed) (memory a place)
       → after x (withPictures l c b k) ≡ drawOn st p map packet allowed (withPictures l a b place)
   unfolding drawOn
   drew-first n g h =
       rw (ne-eqb _ _ n)
       (ap (λ (o : Outcome). after (o .step) (swap (o .lent)))
-      (called-is st p (request (st .width) (st .height) map packet b allowed) (withPictures l b a place) x o c k f g h))
+      (called-is st p (request (st .width) (st .height) map packet b allowed) (withPictures l b a place) x o c k f g (ap (λ (y : Pictures). y .drawn) h)))
 
 module _ (m : Map) (film : List ℕ) (st : State) (body : List ℕ) (p allowed : ℕ) (l : Lent) where
   pub no-map : m ≡ Missing → after (quiet (refused 9 0)) l ≡ drawBy m film st body p allowed l

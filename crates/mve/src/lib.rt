@@ -21,8 +21,8 @@ ghost use Rattle.opcodes.specs.Opcodes.{steppedAs};
 ghost use Rattle.film.specs.Film.{lent, stepOf};
 ghost use Rattle.packet.specs.Verdict.{verdict};
 ghost use Rattle.stores.specs.Stores.{memory};
-ghost use Rattle.stores.specs.Calls.{step, reply};
-ghost use Rattle.draw.specs.Call.{request, calling};
+ghost use Rattle.stores.specs.Calls.{reply};
+ghost use Rattle.draw.specs.Call.{request, calling, pictures, leaves};
 ghost use Rattle.mve.specs.Answer.{ofVerdict, ofOutcome};
 ghost use Rattle.mve.specs.Film.{mapOf, stateOf, numbers, ofState, stepped, ofStep, ofOpening, exported, ofOutcome as ofFilm};
 
@@ -74,7 +74,7 @@ pub extern "C" fn mve_draw(
     place: &mut usize,
     allowed: usize,
 ) -> MveAnswer
-    ensures { λ r. ⌜ memory (now (back .exit)) (now (place .exit)) ≡ step calling (memory (now (back .entry)) (now (place .entry))) (request width height (now (map .entry)) (now («data» .entry)) (now (front .entry)) allowed) ⌝ }
+    ensures { λ r. ⌜ pictures (now (front .exit)) (memory (now (back .exit)) (now (place .exit))) ≡ leaves (request width height (now (map .entry)) (now («data» .entry)) (now (front .entry)) allowed) (memory (now (back .entry)) (now (place .entry))) ⌝ }
     ensures { λ r. ⌜ r ≡ ofOutcome (reply calling (memory (now (back .entry)) (now (place .entry))) (request width height (now (map .entry)) (now («data» .entry)) (now (front .entry)) allowed)) ⌝ }
 {
     match draw::draw(width, height, map, data, front, back, place, allowed) {

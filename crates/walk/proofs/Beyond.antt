@@ -1,0 +1,193 @@
+-- Bytes of the lent pictures beyond the size: no step writes one (`step-unwritten`) or reads one (`step-unread`). A step that draws leaves what its
+-- drawing call leaves (`book`); every other step reads no pixel and stores none.
+-- Assumes nothing.
+use mathlib.Core.Path.{_≡_, refl, sym, ap, _∙_}
+use mathlib.Core.Bool.{Bool, true, false, cond}
+use mathlib.Core.List.{List}
+use Prim.Native.Nat.{ℕ, _+_, _*_, _≤_}
+use lib.Dec.{eqb}
+use lib.ListN.{length, getD, take}
+use Rattle.refusal.specs.Number.{Verdict, refuse}
+use Rattle.packet.specs.Verdict.{legalSize}
+use Rattle.stores.specs.Stores.{Memory, memory}
+use Rattle.stores.specs.Calls.{refusal, Outcome as Drawn, returns, callOf, leave, outcome, happens, step, reply}
+use Rattle.stores.proofs.Within.{take-short}
+use Rattle.draw.specs.Call.{Request, request, Reason, reason, comes, calling}
+use Rattle.draw.proofs.Judged.{judged-6}
+use Rattle.book.specs.Beyond.{showing, SameCalls}
+use Rattle.book.specs.Beyond.{SameTo as SameMemory}
+use Rattle.book.proofs.Beyond.{beyond-unwritten, beyond-unread}
+use Rattle.palette.specs.Update.{Update, verdictOn, paletteAfter}
+use Rattle.palette.specs.Gradient.{createGradient}
+use Rattle.palette.specs.Entries.{setPalette}
+use Rattle.palette.specs.Mask.{setPaletteCompressed}
+use Rattle.state.specs.declared.Map.{Map}
+use Rattle.state.specs.declared.Map.the-variants.{Missing, Part}
+use Rattle.state.specs.declared.State.{State}
+use Rattle.state.specs.State.{area, roomVerdict}
+use Rattle.heads.specs.declared.Opcode.{Opcode}
+use Rattle.next.specs.Next.{Standing, nextOf}
+use Rattle.next.specs.Next as found
+use Rattle.opcodes.specs.Opcodes.{quiet, paletteAnswer, drawnStep}
+use Rattle.film.specs.Film.{Lent, withPalette, swap, Outcome, after, called, drawSecond, drawOn, part, drawBy, update, act, actOn, standing, stepOf}
+use Rattle.walk.specs.Beyond.{bytes, KeptFrom, Unwritten, SameTo, SameSteps, Unread}
+
+-- ---- a drawing call of any size
+
+-- where the size is not a legal one the call is refused
+module _ (q : Request) (m : Memory) (e : legalSize (q .width) (q .height) ≡ false) where
+  refused-leaves : step calling m q ≡ m
+  unfolding leave comes
+  refused-leaves = rw (← judged-6 (q .width) (q .height) (q .map) (q .bytes) (length (q .front)) (length (m .picture)) (m .place) e) refl
+
+  refused-says : reply calling m q ≡ record { answer = refusal (reason 6 0); count = 0 }
+  unfolding outcome comes
+  refused-says = rw (← judged-6 (q .width) (q .height) (q .map) (q .bytes) (length (q .front)) (length (m .picture)) (m .place) e) refl
+
+draw-kept : (q : Request) (m : Memory) (t : ℕ) → area (q .width) (q .height) ≤ t → getD (step calling m q .picture) t 0 ≡ getD (m .picture) t 0
+unfolding area callOf happens
+draw-kept q m t h = by (legalSize (q .width) (q .height)) refl h
+  where
+    by : (b : Bool) → legalSize (q .width) (q .height) ≡ b → cond b (q .width * q .height) 0 ≤ t → getD (step calling m q .picture) t 0 ≡ getD (m .picture) t 0
+    by true e l = beyond-unwritten m (returns q) t l
+    by false e l = rw (refused-leaves q m e) refl
+
+draw-same : (q : Request) (front : List ℕ) (m m′ : Memory) → take (area (q .width) (q .height)) (q .front) ≡ take (area (q .width) (q .height)) front
+    → SameMemory (area (q .width) (q .height)) m m′ → SameCalls (area (q .width) (q .height)) q front m m′
+unfolding area
+draw-same q front m m′ f s = by (legalSize (q .width) (q .height)) refl f s
+  where
+    by : (b : Bool) → legalSize (q .width) (q .height) ≡ b → take (cond b (q .width * q .height) 0) (q .front) ≡ take (cond b (q .width * q .height) 0) front
+        → SameMemory (cond b (q .width * q .height) 0) m m′ → SameCalls (cond b (q .width * q .height) 0) q front m m′
+    by true e f s = beyond-unread q front m m′ f s
+    by false e f s =
+        record {
+          answers = refused-says q m e ∙ sym (refused-says (showing q front) m′ e);
+          leaves = rw (refused-leaves q m e, refused-leaves (showing q front) m′ e) s;
+        }
+
+-- ---- none is written
+
+-- a step that stores no pixel
+kept : (n : ℕ) (l : Lent) (o : Outcome) → o .lent .first ≡ l .first → o .lent .second ≡ l .second → KeptFrom n l o
+kept n l o e e′ = record { first = λ t h. ap (λ (a : List ℕ). getD a t 0) e; second = λ t h. ap (λ (a : List ℕ). getD a t 0) e′ }
+
+kept-by : (n : ℕ) (l : Lent) (b : Bool) (x y : Outcome) → KeptFrom n l x → KeptFrom n l y → KeptFrom n l (cond b x y)
+kept-by n l true x y p q = p
+kept-by n l false x y p q = q
+
+kept-swapped : (n : ℕ) (l : Lent) (o : Outcome) → KeptFrom n (swap l) o → KeptFrom n l (after (o .step) (swap (o .lent)))
+kept-swapped n l o k = record { first = k .second; second = k .first }
+
+module _ (film : List ℕ) (st : State) (allowed : ℕ) where
+  kept-drawn : (p : ℕ) (map packet : List ℕ) (l : Lent) → KeptFrom (bytes st) l (drawSecond st p map packet allowed l)
+  unfolding called
+  kept-drawn p map packet l =
+      record {
+        first = λ t h. refl;
+        second = draw-kept (request (st .width) (st .height) map packet (l .first) allowed) (memory (l .second) (l .place));
+      }
+
+  kept-on : (p : ℕ) (map packet : List ℕ) (l : Lent) → KeptFrom (bytes st) l (drawOn st p map packet allowed l)
+  unfolding drawOn
+  kept-on p map packet l =
+      kept-by (bytes st) l (eqb (st .front) 0) _ _ (kept-drawn p map packet l)
+      (kept-swapped (bytes st) l _ (kept-drawn p map packet (swap l)))
+
+  kept-map : (map : Map) (body : List ℕ) (p : ℕ) (l : Lent) → KeptFrom (bytes st) l (drawBy map film st body p allowed l)
+  unfolding drawBy
+  kept-map Missing body p l = kept (bytes st) l _ refl refl
+  kept-map (Part s long) body p l = kept-by (bytes st) l (eqb (st .width) 0) _ _ (kept (bytes st) l _ refl refl) (kept-on p (part film s (s + long)) (part body 14 (length body)) l)
+
+  kept-act : (kind version s : ℕ) (body : List ℕ) (p : ℕ) (l : Lent) → KeptFrom (bytes st) l (act film st kind version s body p allowed l)
+  unfolding act
+  kept-act kind version s body p l =
+      kept-by (bytes st) l (eqb kind 15) _ _ (kept (bytes st) l _ refl refl)
+      (kept-by (bytes st) l (eqb kind 17) _ _ (kept-map (st .map) body p l)
+      (kept-by (bytes st) l (eqb kind 11) _ _ (kept (bytes st) l _ refl refl)
+      (kept-by (bytes st) l (eqb kind 12) _ _ (kept (bytes st) l _ refl refl)
+      (kept-by (bytes st) l (eqb kind 13) _ _ (kept (bytes st) l _ refl refl) (kept (bytes st) l _ refl refl)))))
+
+  kept-standing : (s : Standing) (l : Lent) → KeptFrom (bytes st) l (standing s film st allowed l)
+  unfolding standing
+  kept-standing (found.refused n k) l = kept (bytes st) l _ refl refl
+  kept-standing found.ended l = kept (bytes st) l _ refl refl
+  kept-standing (found.chunk c) l = kept (bytes st) l _ refl refl
+  kept-standing (found.opcode o) l = kept-act (o .kind) (o .version) (o .start) (part film (o .start) (o .start + o .long)) (o .start + o .long) l
+
+  pub step-unwritten : (l : Lent) → Unwritten film st allowed l
+  unfolding stepOf
+  step-unwritten l = kept-standing (nextOf film st (length (l .palette)) (length (l .first)) (length (l .second))) l
+
+-- ---- none is read
+
+same-by : (n : ℕ) (b : Bool) (x x′ y y′ : Outcome) → SameSteps n x x′ → SameSteps n y y′ → SameSteps n (cond b x y) (cond b x′ y′)
+same-by n true x x′ y y′ p q = p
+same-by n false x x′ y y′ p q = q
+
+same-swapped : (n : ℕ) (l m : Lent) → SameTo n l m → SameTo n (swap l) (swap m)
+same-swapped n l m s = record { palette = s .palette; first = s .second; second = s .first; place = s .place }
+
+module _ (film : List ℕ) (st : State) (allowed : ℕ) where
+  same-drawn : (p : ℕ) (map packet : List ℕ) (l m : Lent) → SameTo (bytes st) l m
+      → SameSteps (bytes st) (drawSecond st p map packet allowed l) (drawSecond st p map packet allowed m)
+  unfolding called
+  same-drawn p map packet l m s =
+      let c =
+      draw-same (request (st .width) (st .height) map packet (l .first) allowed) (m .first) (memory (l .second) (l .place)) (memory (m .second) (m .place))
+      (s .first) (record { picture = s .second; place = s .place }) in
+      record {
+        step = ap (drawnStep st p) (c .answers);
+        lent = record { palette = s .palette; first = s .first; second = c .leaves .picture; place = c .leaves .place };
+      }
+
+  same-on : (p : ℕ) (map packet : List ℕ) (l m : Lent) → SameTo (bytes st) l m → SameSteps (bytes st) (drawOn st p map packet allowed l) (drawOn st p map packet allowed m)
+  unfolding drawOn
+  same-on p map packet l m s =
+      let x = same-drawn p map packet (swap l) (swap m) (same-swapped (bytes st) l m s) in
+      same-by (bytes st) (eqb (st .front) 0) _ _ _ _ (same-drawn p map packet l m s)
+      (record { step = x .step; lent = same-swapped (bytes st) _ _ (x .lent) })
+
+  same-map : (map : Map) (body : List ℕ) (p : ℕ) (l m : Lent) → SameTo (bytes st) l m
+      → SameSteps (bytes st) (drawBy map film st body p allowed l) (drawBy map film st body p allowed m)
+  unfolding drawBy
+  same-map Missing body p l m s = record { step = refl; lent = s }
+  same-map (Part a long) body p l m s =
+      same-by (bytes st) (eqb (st .width) 0) _ _ _ _ (record { step = refl; lent = s }) (same-on p (part film a (a + long)) (part body 14 (length body)) l m s)
+
+  same-update : (p : ℕ) (u : Update) (l m : Lent) → SameTo (bytes st) l m → SameSteps (bytes st) (update st p u l) (update st p u m)
+  same-update p u l m s =
+      record {
+        step = ap (λ (x : List ℕ). quiet (paletteAnswer st p (verdictOn u x))) (s .palette);
+        lent = record { palette = ap (paletteAfter u) (s .palette); first = s .first; second = s .second; place = s .place };
+      }
+
+  same-act : (kind version a : ℕ) (body : List ℕ) (p : ℕ) (l m : Lent) → SameTo (bytes st) l m
+      → SameSteps (bytes st) (act film st kind version a body p allowed l) (act film st kind version a body p allowed m)
+  unfolding act
+  same-act kind version a body p l m s =
+      same-by (bytes st) (eqb kind 15) _ _ _ _
+      (record { step = refl; lent = record { palette = s .palette; first = s .first; second = s .second; place = refl } })
+      (same-by (bytes st) (eqb kind 17) _ _ _ _ (same-map (st .map) body p l m s)
+      (same-by (bytes st) (eqb kind 11) _ _ _ _ (same-update p (createGradient body) l m s)
+      (same-by (bytes st) (eqb kind 12) _ _ _ _ (same-update p (setPalette body) l m s)
+      (same-by (bytes st) (eqb kind 13) _ _ _ _ (same-update p (setPaletteCompressed body) l m s)
+      (record { step = refl; lent = s })))))
+
+  same-standing : (x : Standing) (l m : Lent) → SameTo (bytes st) l m → SameSteps (bytes st) (standing x film st allowed l) (standing x film st allowed m)
+  unfolding standing
+  same-standing (found.refused n k) l m s = record { step = refl; lent = s }
+  same-standing found.ended l m s = record { step = refl; lent = s }
+  same-standing (found.chunk c) l m s = record { step = refl; lent = s }
+  same-standing (found.opcode o) l m s =
+      same-act (o .kind) (o .version) (o .start) (part film (o .start) (o .start + o .long)) (o .start + o .long) l m s
+
+  -- the tests see the palette's length, and whether a picture is shorter than the size
+  same-next : (l m : Lent) → SameTo (bytes st) l m
+      → nextOf film st (length (l .palette)) (length (l .first)) (length (l .second)) ≡ nextOf film st (length (m .palette)) (length (m .first)) (length (m .second))
+  unfolding nextOf roomVerdict
+  same-next l m s = rw (s .palette, take-short (bytes st) (l .first) (m .first) (s .first), take-short (bytes st) (l .second) (m .second) (s .second)) refl
+
+  pub step-unread : (l : Lent) → Unread film st allowed l
+  unfolding stepOf
+  step-unread l m s = rw (same-next l m s) (same-standing _ l m s)

@@ -1,0 +1,237 @@
+-- A step answers "whole" or "unfinished" exactly when `Draws` holds: `draws-exactly`.
+-- Assumes nothing.
+use mathlib.Core.Path.{_≡_, refl, sym, ap, _∙_, subst}
+use mathlib.Core.Bool.{Bool, true, false, cond}
+use mathlib.Core.List.{List}
+use Prim.Native.Nat.{ℕ, _+_, _-_, _*_, _≤_, _<_}
+use native.Mathlib.Omega.{arith}
+use borrow.Author.Tests.{ltb-false, ne-eqb, eqb-true}
+use lib.Dec.{eqb, ltb}
+use lib.ListN.{length}
+use Rattle.words.specs.Word.{wordAt}
+use Rattle.words.proofs.Tests.{not-first, first}
+use Rattle.refusal.specs.Number.{Verdict, accept, refuse}
+use Rattle.packet.specs.Verdict.{legalSize}
+use Rattle.packet.specs.Accepted.{Accepts}
+use Rattle.packet.proofs.Sizes.{is-size}
+use Rattle.stores.specs.Stores.{Memory, memory}
+use Rattle.stores.specs.Calls.{answered, outcome, reply}
+use Rattle.draw.specs.Call.{Request, request, drawVerdict, comes, calling}
+use Rattle.draw.specs.Taken.{DrawAccepts}
+use Rattle.draw.proofs.Exactly.{drawn-exactly}
+use Rattle.state.specs.declared.Map.{Map}
+use Rattle.state.specs.declared.Map.the-variants.{Missing, Part}
+use Rattle.state.specs.declared.State.{State}
+use Rattle.state.specs.State.{area, roomVerdict}
+use Rattle.state.specs.Moves.{behind, atEnd, sized, sent, mapped}
+use Rattle.heads.specs.declared.Opcode.{Opcode}
+use Rattle.next.specs.Next.{Standing, on, nextOf}
+use Rattle.next.specs.Next as found
+use Rattle.palette.specs.Gradient.{createGradient}
+use Rattle.palette.specs.Entries.{setPalette}
+use Rattle.palette.specs.Mask.{setPaletteCompressed}
+use Rattle.opcodes.specs.Opcodes.{Answer, taken, whole, unfinished, ended, refused, quiet, sizeAnswer, colourOf, quietAnswer, paletteAnswer, drawnAs, drawnStep}
+use Rattle.film.specs.Film.{Lent, withPictures, swap, Outcome, after, called, drawSecond, drawOn, part, drawBy, update, act, standing, stepOf}
+use Rattle.walk.specs.Draws.{bodyOf, packetOf, Draws, Drew}
+
+-- ---- a drawing call that is not refused
+
+drew-answered : (st : State) (p n : ℕ) (b : Bool) → Drew (drawnAs st p (answered b) n .answer)
+unfolding Drew drawnAs answered
+drew-answered st p n true = tt
+drew-answered st p n false = tt
+
+module _ (st : State) (p : ℕ) (q : Request) (m : Memory) where
+  drew-accepted : drawVerdict q m ≡ accept → Drew (drawnStep st p (reply calling m q) .answer)
+  unfolding outcome comes
+  drew-accepted e = rw e (drew-answered st p _ _)
+
+  accepted-drew : Drew (drawnStep st p (reply calling m q) .answer) → drawVerdict q m ≡ accept
+  unfolding outcome comes drawnAs Drew
+  accepted-drew = by (drawVerdict q m)
+    where
+      by : (v : Verdict) → Drew (drawnStep st p (outcome (calling .plan q) m (comes v (q .allowed))) .answer) → v ≡ accept
+      by accept d = refl
+      by (refuse n k) d = absurd d
+
+-- ---- the tests that come first
+
+on-opcode : (v : Verdict) (s : Standing) (o : Opcode) → on v s ≡ found.opcode o → (v ≡ accept) × (s ≡ found.opcode o)
+unfolding on
+on-opcode accept s o e = (refl, e)
+on-opcode (refuse n k) s o e = absurd (let z : _≡_ {A = ℕ} 0 1 = cc in let y : ⊥ = omega arith in y)
+
+refuses : (n k : ℕ) → refuse n k ≡ accept → ⊥
+refuses n k e = let z : _≡_ {A = ℕ} 0 1 = cc in omega arith
+
+-- both pictures are as long as the size asks
+room-is : (n p a b : ℕ) → roomVerdict n p a b ≡ accept → (n ≤ a) × (n ≤ b)
+unfolding roomVerdict
+room-is n p a b r =
+    let x = first (eqb p 768) _ _ _ (refuses 8 0) r in
+    let y = not-first (ltb a n) _ _ _ (refuses 8 0) (x .1) in
+    let z = not-first (ltb b n) _ accept _ (refuses 8 0) (y .1) in
+    (ltb-false a n (y .0), ltb-false b n (z .0))
+
+long-enough : (film : List ℕ) (st : State) (p a b : ℕ) (o : Opcode) → nextOf film st p a b ≡ found.opcode o
+    → (area (st .width) (st .height) ≤ a) × (area (st .width) (st .height) ≤ b)
+unfolding nextOf
+long-enough film st p a b o e = room-is (area (st .width) (st .height)) p a b (on-opcode _ _ o (on-opcode _ _ o e .1) .0)
+
+-- ---- answers that are none of a drawing
+
+not-taken : (s : State) → Drew (taken s) → ⊥
+unfolding Drew
+not-taken s d = d
+
+not-refused : (n k : ℕ) → Drew (refused n k) → ⊥
+unfolding Drew
+not-refused n k d = d
+
+not-ended : (s : State) → Drew (ended s) → ⊥
+unfolding Drew
+not-ended s d = d
+
+not-by : (b : Bool) (x y : Answer) → (Drew x → ⊥) → (Drew y → ⊥) → Drew (cond b x y) → ⊥
+not-by true x y f g d = f d
+not-by false x y f g d = g d
+
+not-palette : (st : State) (p : ℕ) (v : Verdict) → Drew (paletteAnswer st p v) → ⊥
+unfolding paletteAnswer
+not-palette st p accept = not-taken (behind st p)
+not-palette st p (refuse n k) = not-refused n k
+
+not-sized : (st : State) (p w h colour : ℕ) → Drew (sizeAnswer st p w h colour) → ⊥
+unfolding sizeAnswer
+not-sized st p w h colour =
+    let no = not-refused 6 0 in
+    not-by (eqb (st .width) 0) _ (refused 6 0)
+    (not-by (legalSize w h) _ (refused 6 0) (not-by (eqb colour 0) (taken (sized st p w h)) (refused 6 0) (not-taken (sized st p w h)) no) no) no
+
+not-quiet : (film : ℕ) (st : State) (kind version : ℕ) (body : List ℕ) (p : ℕ) → Drew (quietAnswer film st kind version body p) → ⊥
+unfolding quietAnswer
+not-quiet film st kind version body p =
+    not-by (eqb kind 0) (taken (atEnd st film)) _ (not-taken (atEnd st film))
+    (not-by (eqb kind 5) (sizeAnswer st p (wordAt body 0) (wordAt body 2) (colourOf body version)) _ (not-sized st p (wordAt body 0) (wordAt body 2) (colourOf body version))
+    (not-by (eqb kind 7) (taken (sent st p)) (taken (behind st p)) (not-taken (sent st p)) (not-taken (behind st p))))
+
+-- ---- opcode 11
+
+module _ (film : List ℕ) (st : State) (allowed : ℕ) where
+  -- the call's tests, by the packet, the map and the place
+  abbrev Accepted : List ℕ → List ℕ → Lent → Type 0
+  Accepted map packet l = DrawAccepts (st .width) (st .height) map packet (length (l .first)) (length (l .second)) (l .place)
+
+  drew-second : (p : ℕ) (map packet : List ℕ) (l : Lent) → Accepted map packet l → Drew (drawSecond st p map packet allowed l .step .answer)
+  unfolding called
+  drew-second p map packet l a =
+      drew-accepted st p (request (st .width) (st .height) map packet (l .first) allowed) (memory (l .second) (l .place))
+      (drawn-exactly (st .width) (st .height) map packet (length (l .first)) (length (l .second)) (l .place) .1 a)
+
+  second-drew : (p : ℕ) (map packet : List ℕ) (l : Lent) → Drew (drawSecond st p map packet allowed l .step .answer) → Accepted map packet l
+  unfolding called
+  second-drew p map packet l d =
+      drawn-exactly (st .width) (st .height) map packet (length (l .first)) (length (l .second)) (l .place) .0
+      (accepted-drew st p (request (st .width) (st .height) map packet (l .first) allowed) (memory (l .second) (l .place)) d)
+
+  -- whichever picture is front
+  other-way : (map packet : List ℕ) (l : Lent) → Accepted map packet l → Accepted map packet (swap l)
+  other-way map packet l a = record { accepted = a .accepted; front-long = a .back-long; back-long = a .front-long; within = a .within }
+
+  drew-on : (p : ℕ) (map packet : List ℕ) (l : Lent) → Accepted map packet l → Drew (drawOn st p map packet allowed l .step .answer)
+  unfolding drawOn
+  drew-on p map packet l a = by (eqb (st .front) 0)
+    where
+      by : (b : Bool) → Drew (cond b (drawSecond st p map packet allowed l) (after (drawSecond st p map packet allowed (swap l) .step) (swap (drawSecond st p map packet allowed (swap l) .lent))) .step .answer)
+      by true = drew-second p map packet l a
+      by false = drew-second p map packet (swap l) (other-way map packet l a)
+
+  on-drew : (p : ℕ) (map packet : List ℕ) (l : Lent) → Drew (drawOn st p map packet allowed l .step .answer) → Accepted map packet l
+  unfolding drawOn
+  on-drew p map packet l = by (eqb (st .front) 0)
+    where
+      by : (b : Bool) → Drew (cond b (drawSecond st p map packet allowed l) (after (drawSecond st p map packet allowed (swap l) .step) (swap (drawSecond st p map packet allowed (swap l) .lent))) .step .answer)
+          → Accepted map packet l
+      by true d = second-drew p map packet l d
+      by false d = other-way map packet (swap l) (second-drew p map packet (swap l) d)
+
+  drew-by : (map : Map) (start long : ℕ) → map ≡ Part start long → eqb (st .width) 0 ≡ false → (body : List ℕ) (p : ℕ) (l : Lent)
+      → Accepted (part film start (start + long)) (part body 14 (length body)) l → Drew (drawBy map film st body p allowed l .step .answer)
+  unfolding drawBy
+  drew-by map start long e n body p l a = rw (e, n) (drew-on p (part film start (start + long)) (part body 14 (length body)) l a)
+
+  drew-act : (kind version s : ℕ) (body : List ℕ) (p : ℕ) (l : Lent) → kind ≡ 17 → Drew (drawBy (st .map) film st body p allowed l .step .answer)
+      → Drew (act film st kind version s body p allowed l .step .answer)
+  unfolding act
+  drew-act kind version s body p l e d = rw e d
+
+  -- a pending map, with which the packet in a body is accepted
+  record Mapped (map : Map) (body : List ℕ) (l : Lent) : Type 0 where
+    start : ℕ
+    long : ℕ
+    is : map ≡ Part start long
+    taken : Accepted (part film start (start + long)) (part body 14 (length body)) l
+
+  by-drew : (map : Map) (body : List ℕ) (p : ℕ) (l : Lent) → Drew (drawBy map film st body p allowed l .step .answer) → Mapped map body l
+  unfolding drawBy
+  by-drew Missing body p l d = absurd (not-refused 9 0 d)
+  by-drew (Part start long) body p l d = by (eqb (st .width) 0) d
+    where
+      by : (b : Bool) → Drew (cond b (after (quiet (refused 9 0)) l) (drawOn st p (part film start (start + long)) (part body 14 (length body)) allowed l) .step .answer)
+          → Mapped (Part start long) body l
+      by true d = absurd (not-refused 9 0 d)
+      by false d = record { start = start; long = long; is = refl; taken = on-drew p (part film start (start + long)) (part body 14 (length body)) l d }
+
+  act-drew : (kind version s : ℕ) (body : List ℕ) (p : ℕ) (l : Lent) → Drew (act film st kind version s body p allowed l .step .answer)
+      → (kind ≡ 17) × Mapped (st .map) body l
+  unfolding act
+  act-drew kind version s body p l d = by (eqb kind 15) (eqb kind 17) refl (eqb kind 11) (eqb kind 12) (eqb kind 13) d
+    where
+      by : (b15 b17 : Bool) → eqb kind 17 ≡ b17 → (b11 b12 b13 : Bool)
+          → Drew (cond b15 (after (quiet (taken (mapped st p (Part s (p - s))))) (withPictures l (l .first) (l .second) 0))
+          (cond b17 (drawBy (st .map) film st body p allowed l)
+          (cond b11 (update st p (createGradient body) l)
+          (cond b12 (update st p (setPalette body) l)
+          (cond b13 (update st p (setPaletteCompressed body) l)
+          (after (quiet (quietAnswer (length film) st kind version body p)) l))))) .step .answer)
+          → (kind ≡ 17) × Mapped (st .map) body l
+      by true b17 e b11 b12 b13 d = absurd (not-taken _ d)
+      by false true e b11 b12 b13 d = (eqb-true kind 17 e, by-drew (st .map) body p l d)
+      by false false e true b12 b13 d = absurd (not-palette st p _ d)
+      by false false e false true b13 d = absurd (not-palette st p _ d)
+      by false false e false false true d = absurd (not-palette st p _ d)
+      by false false e false false false d = absurd (not-quiet (length film) st kind version body p d)
+
+  pub draws-exactly : (l : Lent) → (Draws film st l → Drew (stepOf film st allowed l .step .answer)) × (Drew (stepOf film st allowed l .step .answer) → Draws film st l)
+  unfolding stepOf standing area
+  draws-exactly l = (
+    λ d.
+        let o = d .found in
+        let a = d .accepted in
+        let e = is-size (st .width) (st .height) (a .wide) (a .high) in
+        let r = long-enough film st (length (l .palette)) (length (l .first)) (length (l .second)) o (d .stands) in
+        let n : eqb (st .width) 0 ≡ false = ne-eqb (st .width) 0 (λ z. let y : ⊥ = omega (arith, a .wide .least, z) in y) in
+        rw (d .stands)
+        (drew-act (o .kind) (o .version) (o .start) (bodyOf film o) (o .start + o .long) l (d .is-11)
+        (drew-by (st .map) (d .start) (d .long) (d .mapped) n (bodyOf film o) (o .start + o .long) l
+        (record { accepted = a; front-long = rw e at (r .0); back-long = rw e at (r .1); within = d .within }))),
+    λ x. by (nextOf film st (length (l .palette)) (length (l .first)) (length (l .second))) refl x,
+  )
+    where
+      by : (s : Standing) → nextOf film st (length (l .palette)) (length (l .first)) (length (l .second)) ≡ s → Drew (standing s film st allowed l .step .answer) → Draws film st l
+      by (found.refused n k) e d = absurd (not-refused n k d)
+      by found.ended e d = absurd (not-ended st d)
+      by (found.chunk c) e d = absurd (not-taken _ d)
+      by (found.opcode o) e d =
+          let x = act-drew (o .kind) (o .version) (o .start) (bodyOf film o) (o .start + o .long) l d in
+          let m = x .1 in
+          record {
+            found = o;
+            stands = e;
+            is-11 = x .0;
+            start = m .start;
+            long = m .long;
+            mapped = m .is;
+            accepted = m .taken .accepted;
+            within = m .taken .within;
+          }
