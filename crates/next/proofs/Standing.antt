@@ -18,7 +18,7 @@ use Rattle.packet.specs.Verdict.{told}
 use Rattle.state.specs.declared.Cursor.{Cursor}
 use Rattle.state.specs.declared.State.{State}
 use Rattle.state.specs.Moves.{cursorInto}
-use Rattle.state.specs.State.{stateVerdict, boundsVerdict, mapInside, possibleSize, area, roomVerdict}
+use Rattle.state.specs.State.{stateVerdict, boundsVerdict, mapInside, possibleSize, area, lentVerdict}
 use Rattle.heads.specs.declared.Opcode.{Opcode}
 use Rattle.heads.specs.declared.ChunkHead.{ChunkHead}
 use Rattle.heads.specs.declared.ChunkHead.the-variants.{Chunk, BadChunk}
@@ -70,17 +70,17 @@ module _ (film : List ℕ) (c : Cursor) where
 
 -- ---- a state and what is lent
 
-pub judged-room : (w h palette a b bytes : ℕ) (s t : Standing) (c : Checked) → bytes ≡ area w h → told c ≡ roomVerdict bytes palette a b
-    → c ≡ Accepted → t ≡ s → t ≡ on (roomVerdict (area w h) palette a b) s
-judged-room w h palette a b bytes s t c e q k g = rw (← e) (goes-on (roomVerdict bytes palette a b) s c q t k g)
+pub judged-lent : (w h palette a b bytes : ℕ) (s t : Standing) (c : Checked) → bytes ≡ area w h → told c ≡ lentVerdict bytes palette a b
+    → c ≡ Accepted → t ≡ s → t ≡ on (lentVerdict (area w h) palette a b) s
+judged-lent w h palette a b bytes s t c e q k g = rw (← e) (goes-on (lentVerdict bytes palette a b) s c q t k g)
 
-pub no-room : (w h palette a b bytes : ℕ) (s : Standing) (c : Checked) (r : Refusal) → bytes ≡ area w h
-    → told c ≡ roomVerdict bytes palette a b → c ≡ Refused r → refused (number r) (block r) ≡ on (roomVerdict (area w h) palette a b) s
-no-room w h palette a b bytes s c r e q k = rw (← e) (stops (roomVerdict bytes palette a b) s c q r k)
+pub short-lent : (w h palette a b bytes : ℕ) (s : Standing) (c : Checked) (r : Refusal) → bytes ≡ area w h
+    → told c ≡ lentVerdict bytes palette a b → c ≡ Refused r → refused (number r) (block r) ≡ on (lentVerdict (area w h) palette a b) s
+short-lent w h palette a b bytes s c r e q k = rw (← e) (stops (lentVerdict bytes palette a b) s c q r k)
 
 module _ (film : List ℕ) (st : State) (palette a b : ℕ) (c : Checked) (e : told c ≡ stateVerdict st (length film)) where
   pub found-here : (t : Standing) → c ≡ Accepted
-      → t ≡ on (roomVerdict (area (st .width) (st .height)) palette a b) (standingAt film (st .cursor))
+      → t ≡ on (lentVerdict (area (st .width) (st .height)) palette a b) (standingAt film (st .cursor))
       → t ≡ nextOf film st palette a b
   unfolding nextOf
   found-here t k h = goes-on (stateVerdict st (length film)) _ c e t k h

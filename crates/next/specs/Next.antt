@@ -10,7 +10,7 @@ use Rattle.refusal.specs.declared.Refusal.{Refusal}
 use Rattle.refusal.specs.Number.{Verdict, accept, refuse, number, block}
 use Rattle.state.specs.declared.Cursor.{Cursor}
 use Rattle.state.specs.declared.State.{State}
-use Rattle.state.specs.State.{stateVerdict, area, roomVerdict, mapInside}
+use Rattle.state.specs.State.{stateVerdict, area, lentVerdict, mapInside}
 use Rattle.heads.specs.declared.Opcode.{Opcode}
 use Rattle.heads.specs.Heads.{Head, chunkAt, opcodeAt, shapeVerdict}
 use Rattle.heads.specs.Heads as heads
@@ -55,7 +55,7 @@ standingAt film c = cond (eqb (c .position) (c .«chunk_end»)) (chunkEnd film c
 -- where a state is, with a palette and two pictures this long
 unfoldable pub nextOf : List ℕ → State → ℕ → ℕ → ℕ → Standing
 nextOf film st palette a b =
-    on (stateVerdict st (length film)) (on (roomVerdict (area (st .width) (st .height)) palette a b) (standingAt film (st .cursor)))
+    on (stateVerdict st (length film)) (on (lentVerdict (area (st .width) (st .height)) palette a b) (standingAt film (st .cursor)))
 
 -- what is known of a state that 16 does not refuse
 pub record Possible (st : State) (film : ℕ) : Type 0 where

@@ -9,12 +9,12 @@ use refusal::Refusal;
 use state::Cursor;
 use state::State;
 use state::area_of;
-use state::judge_room;
+use state::judge_lent;
 use state::judge_state;
 ghost use mathlib.Core.Path.{_≡_};
 ghost use Prim.Native.Nat.{_≤_};
 ghost use lib.ListN.{length};
-ghost use Rattle.state.specs.State.{area, roomVerdict};
+ghost use Rattle.state.specs.State.{area, lentVerdict};
 ghost use Rattle.heads.specs.Heads.{shapeVerdict};
 ghost use Rattle.next.specs.Next.{nextAs, on, opcode, chunkEnd, standingAt, nextOf, Possible};
 
@@ -60,12 +60,12 @@ fn standing_at(film: &[u8], c: Cursor) -> Next
     }
 }
 
-fn next_in_room(film: &[u8], st: State, palette: usize, a: usize, b: usize) -> Next
+fn next_with_lent(film: &[u8], st: State, palette: usize, a: usize, b: usize) -> Next
     requires { ⌜ Possible st (length (now film)) ⌝ }
-    ensures { λ r. ⌜ nextAs r ≡ on (roomVerdict (area (st .width) (st .height)) palette a b) (standingAt (now (film .entry)) (st .cursor)) ⌝ }
+    ensures { λ r. ⌜ nextAs r ≡ on (lentVerdict (area (st .width) (st .height)) palette a b) (standingAt (now (film .entry)) (st .cursor)) ⌝ }
 {
     let bytes = area_of(st.width, st.height);
-    match judge_room(bytes, palette, a, b) {
+    match judge_lent(bytes, palette, a, b) {
         Checked::Accepted => {
             let c = st.cursor;
             standing_at(film, c)
@@ -79,7 +79,7 @@ pub fn find(film: &[u8], st: State, palette: usize, a: usize, b: usize) -> Next
     ensures { λ r. ⌜ nextAs r ≡ nextOf (now (film .entry)) st palette a b ⌝ }
 {
     match judge_state(st, film.len()) {
-        Checked::Accepted => next_in_room(film, st, palette, a, b),
+        Checked::Accepted => next_with_lent(film, st, palette, a, b),
         Checked::Refused(r) => Next::Refused(r),
     }
 }

@@ -42,8 +42,8 @@ unfoldable pub area : ℕ → ℕ → ℕ
 area w h = cond (legalSize w h) (w * h) 0
 
 -- a palette and two pictures this long, where a picture has this many bytes
-unfoldable pub roomVerdict : ℕ → ℕ → ℕ → ℕ → Verdict
-roomVerdict bytes palette a b =
+unfoldable pub lentVerdict : ℕ → ℕ → ℕ → ℕ → Verdict
+lentVerdict bytes palette a b =
     cond (eqb palette 768) (cond (ltb a bytes) (refuse 8 0) (cond (ltb b bytes) (refuse 8 0) accept)) (refuse 8 0)
 
 -- ---- the shown picture

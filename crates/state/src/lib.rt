@@ -7,7 +7,7 @@ ghost use Prim.Native.Nat.{_+_, _<_, _^_};
 ghost use lib.Dec.{leb};
 ghost use Rattle.packet.specs.Verdict.{told};
 ghost use Rattle.state.specs.Moves.{cursorBehind, cursorInto, cursorAtEnd, at, behind, into, atEnd, sized, shownNext, sent, mapped, finished};
-ghost use Rattle.state.specs.State.{possibleSize, mapInside, boundsVerdict, stateVerdict, area, roomVerdict, leading, chosen, shownOf};
+ghost use Rattle.state.specs.State.{possibleSize, mapInside, boundsVerdict, stateVerdict, area, lentVerdict, leading, chosen, shownOf};
 
 // Where the next head stands, and where the chunk around it ends.
 pub struct Cursor {
@@ -267,8 +267,8 @@ pub fn area_of(w: usize, h: usize) -> usize
 }
 
 // Whether the lent palette and pictures, of these lengths, hold pictures of so many bytes.
-pub fn judge_room(bytes: usize, palette: usize, a: usize, b: usize) -> Checked
-    ensures { λ r. ⌜ told r ≡ roomVerdict bytes palette a b ⌝ }
+pub fn judge_lent(bytes: usize, palette: usize, a: usize, b: usize) -> Checked
+    ensures { λ r. ⌜ told r ≡ lentVerdict bytes palette a b ⌝ }
 {
     if palette == 768 {
         if a < bytes {
