@@ -52,12 +52,16 @@ pub due-end : (d : Plan) (k : ℕ) → d .blocks ≤ k → due d k ≡ []
 unfolding following
 due-end d k h = let e : d .blocks - k ≡ 0 = omega arith in rw e
 
-pub due-rest : (d : Plan) (k : ℕ) → k < d .blocks → due d k ≡ rest d k 0
-unfolding rest following stores
-due-rest d k h =
-    let e : d .size k - 0 ≡ d .size k = omega arith in
+-- the stores of block k are due, its pixels and then the place, and those of the blocks behind it
+pub due-block : (d : Plan) (k : ℕ) → k < d .blocks → due d k ≡ pixels k 0 (d .size k) ++ (place (suc k) ∷ due d (suc k))
+unfolding following stores
+due-block d k h =
     let q : d .blocks - k ≡ suc (d .blocks - suc k) = omega arith in
-    rw (q, e) (append-assoc (pixels k 0 (d .size k)) (place (suc k) ∷ []) (due d (suc k)))
+    rw q (append-assoc (pixels k 0 (d .size k)) (place (suc k) ∷ []) (due d (suc k)))
+
+pub due-rest : (d : Plan) (k : ℕ) → k < d .blocks → due d k ≡ rest d k 0
+unfolding rest
+due-rest d k h = let e : d .size k - 0 ≡ d .size k = omega arith in rw e (due-block d k h)
 
 -- n pixels of block k are next
 pub rest-pixels : (d : Plan) (k i n : ℕ) → i + n ≤ d .size k → rest d k i ≡ pixels k i n ++ rest d k (i + n)
@@ -70,13 +74,6 @@ rest-pixels d k i n h =
 pub rest-place : (d : Plan) (k i : ℕ) → d .size k ≤ i → rest d k i ≡ place (suc k) ∷ due d (suc k)
 unfolding rest pixels
 rest-place d k i h = let e : d .size k - i ≡ 0 = omega arith in rw e
-
--- the stores of block k are due, and those of the blocks behind it
-pub due-block : (d : Plan) (k : ℕ) → k < d .blocks → due d k ≡ pixels k 0 (d .size k) ++ (place (suc k) ∷ due d (suc k))
-due-block d k h =
-    due-rest d k h
-    ∙ rest-pixels d k 0 (d .size k) (omega arith)
-    ∙ ap (λ (l : List Store). pixels k 0 (d .size k) ++ l) (rest-place d k (0 + d .size k) (omega arith))
 
 pub due-length : (d : Plan) (k : ℕ) → k < d .blocks → length (due d k) ≡ d .size k + suc (length (due d (suc k)))
 due-length d k h = ap length (due-block d k h) ∙ simp (length-append, pixels-length)

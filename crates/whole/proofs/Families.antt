@@ -6,16 +6,19 @@ use mathlib.Core.List.{List}
 use Prim.Native.Nat.{ℕ, zero, suc, _+_, _-_, _*_, _≤_, _<_}
 use native.Mathlib.Omega.{arith}
 use native.Mathlib.Nat.{mul-le-mul-right}
-use lib.ListN.{length, getD}
+use lib.ListN.{length}
 use Rattle.pattern.specs.declared.Form.{Form}
 use Rattle.pattern.specs.Form.{Shape, shape}
 use Rattle.pattern.specs.Pattern.{patternSource}
 use Rattle.motion.specs.declared.Vector.{Vector}
-use Rattle.motion.specs.Motion.{aheadVector, negated, nearVector, farVector, rasterIndex, copiedIndex, Short}
+use Rattle.motion.specs.Motion.{rasterIndex, copiedIndex, Short}
 use Rattle.motion.proofs.Vectors.{inside-each}
-use Rattle.block.specs.Block.{Side, pixels, Kind, same, ahead, behind, near, far, patterned, celled, dithered, kindOf, dataLength, cellSource, ditherSource, source, fetched}
+use Rattle.block.specs.declared.Source.{Source}
+use Rattle.block.specs.declared.Source.the-variants.{Data, Front, Back}
+use Rattle.block.specs.Block.{Side, pixels, Kind, same, patterned, celled, dithered, kindOf, dataLength, cellSource, ditherSource, source, fetched}
 use Rattle.block.specs.Asked.{vectorOf}
-use Rattle.block.proofs.Codes.{kind-0, kind-1, kind-back, kind-front, copy-judged}
+use Rattle.block.proofs.Codes.{kind-0, kind-1, copy-judged}
+use Rattle.pixel.proofs.Sources.{same-source, back-source, front-source, form-source-is, cell-source-is, dither-source-is}
 use Rattle.stores.specs.Stores.{firstPixels}
 use Rattle.stores.proofs.Pixels.{first-agree}
 use Rattle.paint.specs.Paint.{single, fixedValue, backValue}
@@ -107,71 +110,51 @@ module _ (code : ℕ) (s : List ℕ) (w h x y n : ℕ) (d : Drawable code s w h 
       below-2 (suc zero) h = inr refl
       below-2 (suc (suc c)) h = absurd (let z : ⊥ = omega arith in z)
 
--- ---- what each kind's function stores
+-- ---- what each family's function stores
 
 module _ (code : ℕ) (s : List ℕ) (w x y n : ℕ) (front b b′ : List ℕ) where
-  by-kind : (κ : Kind) → kindOf code s ≡ κ → (u : ℕ → List ℕ → ℕ) → ((i : ℕ) (a : List ℕ) → u i a ≡ pixelValue κ s w x y front i a)
+  -- a family whose pixels are what stands at the sources of the block's code
+  by-source : (u : ℕ → List ℕ → ℕ) (from : ℕ → Source) → ((i : ℕ) (a : List ℕ) → u i a ≡ fetched (from i) s front a)
+      → ((i : ℕ) → from i ≡ source (kindOf code s) s w x y i)
       → b′ ≡ firstPixels (single (rasterIndex w x y) u) 0 b n → b′ ≡ firstPixels (blockPlan (kindOf code s) s w x y front) 0 b n
-  by-kind κ k u h e =
-      subst (λ (z : Kind). b′ ≡ firstPixels (blockPlan z s w x y front) 0 b n) (sym k)
-      (e ∙ first-agree (single (rasterIndex w x y) u) (blockPlan κ s w x y front) 0 0 b n (λ i l. refl) (λ i l a g. h i a))
+  unfolding pixelValue
+  by-source u from h k e =
+      e
+      ∙ first-agree (single (rasterIndex w x y) u) (blockPlan (kindOf code s) s w x y front) 0 0 b n (λ i l. refl)
+      (λ i l a g. h i a ∙ ap (λ (z : Source). fetched z s front a) (k i))
 
   pub paints-same : kindOf code s ≡ same → b′ ≡ firstPixels (single (rasterIndex w x y) (fixedValue (rasterIndex w x y) front)) 0 b n
       → b′ ≡ firstPixels (blockPlan (kindOf code s) s w x y front) 0 b n
-  unfolding fixedValue pixelValue source fetched
-  paints-same k = by-kind same k _ (λ i a. refl)
-
-  paints-ahead : (v : Vector) (c : ℕ) → kindOf code s ≡ ahead c → v ≡ aheadVector c
-      → b′ ≡ firstPixels (single (rasterIndex w x y) (backValue (copiedIndex v w x y))) 0 b n
-      → b′ ≡ firstPixels (blockPlan (kindOf code s) s w x y front) 0 b n
-  unfolding backValue pixelValue source fetched
-  paints-ahead v c k e = by-kind (ahead c) k _ (λ i a. ap (λ (z : Vector). getD a (copiedIndex z w x y i) 0) e)
-
-  paints-behind : (v : Vector) (c : ℕ) → kindOf code s ≡ behind c → v ≡ negated (aheadVector c)
-      → b′ ≡ firstPixels (single (rasterIndex w x y) (backValue (copiedIndex v w x y))) 0 b n
-      → b′ ≡ firstPixels (blockPlan (kindOf code s) s w x y front) 0 b n
-  unfolding backValue pixelValue source fetched
-  paints-behind v c k e = by-kind (behind c) k _ (λ i a. ap (λ (z : Vector). getD a (copiedIndex z w x y i) 0) e)
-
-  paints-near : (v : Vector) (c : ℕ) → kindOf code s ≡ near c → v ≡ nearVector c
-      → b′ ≡ firstPixels (single (rasterIndex w x y) (fixedValue (copiedIndex v w x y) front)) 0 b n
-      → b′ ≡ firstPixels (blockPlan (kindOf code s) s w x y front) 0 b n
-  unfolding fixedValue pixelValue source fetched
-  paints-near v c k e = by-kind (near c) k _ (λ i a. ap (λ (z : Vector). getD front (copiedIndex z w x y i) 0) e)
-
-  paints-far : (v : Vector) (c d : ℕ) → kindOf code s ≡ far c d → v ≡ farVector c d
-      → b′ ≡ firstPixels (single (rasterIndex w x y) (fixedValue (copiedIndex v w x y) front)) 0 b n
-      → b′ ≡ firstPixels (blockPlan (kindOf code s) s w x y front) 0 b n
-  unfolding fixedValue pixelValue source fetched
-  paints-far v c d k e = by-kind (far c d) k _ (λ i a. ap (λ (z : Vector). getD front (copiedIndex z w x y i) 0) e)
+  unfolding fixedValue fetched
+  paints-same k = by-source _ (λ i. Front (rasterIndex w x y i)) (λ i a. refl) (λ i. same-source code s w x y i _ k refl)
 
   -- codes 2 and 3 copy back, 4 and 5 front, by the vector of their kind
   pub paints-back : (v : Vector) → 1 < code → code < 4 → v ≡ vectorOf (kindOf code s)
       → b′ ≡ firstPixels (single (rasterIndex w x y) (backValue (copiedIndex v w x y))) 0 b n
       → b′ ≡ firstPixels (blockPlan (kindOf code s) s w x y front) 0 b n
-  unfolding vectorOf
-  paints-back v g l e = ⊎-elim (λ k. paints-ahead v _ k (e ∙ ap vectorOf k)) (λ k. paints-behind v _ k (e ∙ ap vectorOf k)) (kind-back s code g l)
+  unfolding backValue fetched
+  paints-back v g l e = by-source _ (λ i. Back (copiedIndex v w x y i)) (λ i a. refl) (λ i. back-source code s w x y i _ v g l e refl)
 
   pub paints-front : (v : Vector) → 3 < code → code < 6 → v ≡ vectorOf (kindOf code s)
       → b′ ≡ firstPixels (single (rasterIndex w x y) (fixedValue (copiedIndex v w x y) front)) 0 b n
       → b′ ≡ firstPixels (blockPlan (kindOf code s) s w x y front) 0 b n
-  unfolding vectorOf
-  paints-front v g l e = ⊎-elim (λ k. paints-near v _ k (e ∙ ap vectorOf k)) (λ k. paints-far v _ _ k (e ∙ ap vectorOf k)) (kind-front s code g l)
+  unfolding fixedValue fetched
+  paints-front v g l e = by-source _ (λ i. Front (copiedIndex v w x y i)) (λ i a. refl) (λ i. front-source code s w x y i _ v g l e refl)
 
   pub paints-form : (f : Form) → kindOf code s ≡ patterned f
       → b′ ≡ firstPixels (single (rasterIndex w x y) (fixedValue (patternSource (shape f) s) s)) 0 b n
       → b′ ≡ firstPixels (blockPlan (kindOf code s) s w x y front) 0 b n
-  unfolding fixedValue pixelValue source fetched
-  paints-form f k = by-kind (patterned f) k _ (λ i a. refl)
+  unfolding fixedValue fetched
+  paints-form f k = by-source _ (λ i. Data (patternSource (shape f) s i)) (λ i a. refl) (λ i. form-source-is code s w x y i _ f k refl)
 
   pub paints-cells : (c : Side) → kindOf code s ≡ celled c
       → b′ ≡ firstPixels (single (rasterIndex w x y) (fixedValue (cellSource (pixels c)) s)) 0 b n
       → b′ ≡ firstPixels (blockPlan (kindOf code s) s w x y front) 0 b n
-  unfolding fixedValue pixelValue source fetched
-  paints-cells c k = by-kind (celled c) k _ (λ i a. refl)
+  unfolding fixedValue fetched
+  paints-cells c k = by-source _ (λ i. Data (cellSource (pixels c) i)) (λ i a. refl) (λ i. cell-source-is code s w x y i _ c k refl)
 
   pub paints-dither : kindOf code s ≡ dithered
       → b′ ≡ firstPixels (single (rasterIndex w x y) (fixedValue ditherSource s)) 0 b n
       → b′ ≡ firstPixels (blockPlan (kindOf code s) s w x y front) 0 b n
-  unfolding fixedValue pixelValue source fetched
-  paints-dither k = by-kind dithered k _ (λ i a. refl)
+  unfolding fixedValue fetched
+  paints-dither k = by-source _ (λ i. Data (ditherSource i)) (λ i a. refl) (λ i. dither-source-is code s w x y i _ k refl)
