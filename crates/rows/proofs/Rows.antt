@@ -5,13 +5,30 @@ use mathlib.Core.List.{List}
 use Prim.Native.Nat.{ℕ, _+_, _*_, _/_, _%_, _≤_, _<_}
 use native.Mathlib.Omega.{arith}
 use lib.ListN.{length}
-use Rattle.block.specs.Block.{Side, one, two, four, eight, pixels}
-use Rattle.block.specs.Asked.{Sided}
+use Rattle.motion.specs.Motion.{rasterIndex}
 use Rattle.stores.specs.Stores.{Plan, firstPixels}
 use Rattle.stores.proofs.Pixels.{first-join}
 use Rattle.paint.specs.Asked.{Square}
-use Rattle.paint.proofs.Painting.{Painting, painting-start, painting-end, painting-length}
-use Rattle.rows.specs.Row.{fromPixel}
+use Rattle.paint.specs.Paint.{single}
+use Rattle.paint.proofs.Painting.{Painting, painting-start, painting-end, painting-length, square-below}
+use Rattle.rows.specs.Row.{fromPixel, beside}
+
+-- ---- several pixels a turn
+
+-- m pixels more, made by a plan of their own
+pub painting-by : (d : Plan) (b₀ : List ℕ) (n : ℕ) (b : List ℕ) (p : ℕ) → Painting d b₀ n b p → (m : ℕ) → p + m ≤ n → (d′ : Plan)
+    → ((i : ℕ) → i < m → d′ .target 0 i ≡ d .target 0 (p + i))
+    → ((i : ℕ) → i < m → (a : List ℕ) → d′ .value 0 i a ≡ d .value 0 (p + i) a)
+    → (b′ : List ℕ) → b′ ≡ firstPixels d′ 0 b m → Painting d b₀ n b′ (p + m)
+painting-by d b₀ n b p q m h d′ ts vs b′ e =
+    record { within = h; made = first-join d d′ 0 0 b₀ p m b b′ (q .made) e ts (λ i l a g. vs i l a) }
+
+-- made as the block's plan makes them
+pub painting-on : (d : Plan) (b₀ : List ℕ) (n : ℕ) (b : List ℕ) (p : ℕ) → Painting d b₀ n b p → (m : ℕ) → p + m ≤ n
+    → (b′ : List ℕ) → b′ ≡ firstPixels (fromPixel p d) 0 b m → Painting d b₀ n b′ (p + m)
+painting-on d b₀ n b p q m h b′ e = painting-by d b₀ n b p q m h (fromPixel p d) (λ i l. refl) (λ i l a. refl) b′ e
+
+-- ---- a row a turn
 
 -- p is the first pixel of a row
 pub record Rows (d : Plan) (b₀ : List ℕ) (b : List ℕ) (p : ℕ) : Type 0 where
@@ -27,13 +44,7 @@ module _ (d : Plan) (b₀ b : List ℕ) (p : ℕ) (r : Rows d b₀ b p) where
 
   pub rows-more : p < 64 → (b′ : List ℕ) → b′ ≡ firstPixels (fromPixel p d) 0 b 8 → Rows d b₀ b′ (p + 8)
   rows-more h b′ e =
-      record {
-        whole = omega (arith, r .whole);
-        painting = record {
-          within = omega (arith, r .whole);
-          made = first-join d (fromPixel p d) 0 0 b₀ p 8 b b′ (r .painting .made) e (λ x l. refl) (λ x l a g. refl);
-        };
-      }
+      record { whole = omega (arith, r .whole); painting = painting-on d b₀ 64 b p (r .painting) 8 (omega (arith, r .whole)) b′ e }
 
   pub rows-end : 64 ≤ p → b ≡ firstPixels d 0 b₀ 64
   rows-end h = painting-end d b₀ 64 b p (r .painting) h
@@ -49,16 +60,39 @@ in-row p j h l = omega arith
 pub square-kept : {w x y long long′ : ℕ} → Square w x y long → long′ ≡ long → Square w x y long′
 square-kept {w} {x} {y} q e = subst (Square w x y) (sym e) q
 
--- the cells beside each other make up a row of eight pixels
-pub record CellRow (side : ℕ) : Type 0 where
-  pub some : 0 < side
-  pub row : side * (8 / side) ≡ 8
+-- ---- a row side by side
 
-cell-row-of : (c : Side) → CellRow (pixels c)
-cell-row-of one = record { some = omega arith; row = refl }
-cell-row-of two = record { some = omega arith; row = refl }
-cell-row-of four = record { some = omega arith; row = refl }
-cell-row-of eight = record { some = omega arith; row = refl }
+module _ (w x y p to : ℕ) (z : p % 8 ≡ 0) (e : to ≡ rasterIndex w x y p) where
+  -- pixel j of the 8x8, which is the row's pixel i
+  pub row-target : (i j : ℕ) → i < 8 → j ≡ p + i → to + i ≡ rasterIndex w x y j
+  unfolding rasterIndex
+  row-target i j h f =
+      let a : j / 8 ≡ p / 8 = omega (arith, z, f) in
+      rw a (omega (arith, e, z, f))
 
-pub cell-row : {side : ℕ} → Sided side → CellRow side
-cell-row (c, e) = subst CellRow e (cell-row-of c)
+  pub row-inside : (long : ℕ) → Square w x y long → p < 64 → to + 8 ≤ long
+  row-inside long q h =
+      omega (arith, square-below w x y long (p + 7) q (omega (arith, z)) (to + 7) (row-target 7 (p + 7) (omega arith) refl))
+
+-- a row of the 8x8 at x, y, its values found in another way
+pub rows-beside : (w x y : ℕ) (value : ℕ → List ℕ → ℕ) (b₀ b : List ℕ) (p : ℕ) → Rows (single (rasterIndex w x y) value) b₀ b p → p < 64
+    → (to q : ℕ) → to ≡ rasterIndex w x y p → (value′ : ℕ → List ℕ → ℕ)
+    → ((i : ℕ) → i < 8 → (a : List ℕ) → value′ (q + i) a ≡ value (p + i) a)
+    → (b′ : List ℕ) → b′ ≡ firstPixels (beside to q value′) 0 b 8 → Rows (single (rasterIndex w x y) value) b₀ b′ (p + 8)
+rows-beside w x y value b₀ b p r h to q e value′ vs b′ f =
+    record {
+      whole = omega (arith, r .whole);
+      painting = painting-by (single (rasterIndex w x y) value) b₀ 64 b p (r .painting) 8 (omega (arith, r .whole)) (beside to q value′)
+          (λ i l. row-target w x y p to (r .whole) e i (p + i) l refl) vs b′ f;
+    }
+
+-- its values as the block has them
+pub rows-own : (w x y : ℕ) (value : ℕ → List ℕ → ℕ) (b₀ b : List ℕ) (p : ℕ) → Rows (single (rasterIndex w x y) value) b₀ b p → p < 64
+    → (to : ℕ) → to ≡ rasterIndex w x y p → (b′ : List ℕ) → b′ ≡ firstPixels (beside to p value) 0 b 8
+    → Rows (single (rasterIndex w x y) value) b₀ b′ (p + 8)
+rows-own w x y value b₀ b p r h to e b′ f = rows-beside w x y value b₀ b p r h to p e value (λ i l a. refl) b′ f
+
+-- its indices are the picture's
+pub rows-inside : (w x y : ℕ) (d : Plan) (b₀ b : List ℕ) (p : ℕ) → Rows d b₀ b p → p < 64 → (to : ℕ) → to ≡ rasterIndex w x y p
+    → Square w x y (length b₀) → to + 8 ≤ length b
+rows-inside w x y d b₀ b p r h to e q = rw (rows-length d b₀ b p r) (row-inside w x y p to (r .whole) e (length b₀) q h)

@@ -11,6 +11,7 @@ use rows::whole_cells;
 use rows::whole_dither;
 use rows::whole_front;
 use rows::whole_pattern;
+use rows::whole_raw;
 ghost use mathlib.Core.Path.{_≡_};
 ghost use Prim.Native.Nat.{_≤_, _<_};
 ghost use lib.ListN.{length};
@@ -115,7 +116,7 @@ fn paint_all(
         8 => whole_form(form_of_8(s), s, back, w, x, y),
         9 => whole_form(form_of_9(s), s, back, w, x, y),
         10 => whole_form(form_of_a(s), s, back, w, x, y),
-        11 => whole_cells(1, s, back, w, x, y),
+        11 => whole_raw(s, back, w, x, y),
         12 => whole_cells(2, s, back, w, x, y),
         13 => whole_cells(4, s, back, w, x, y),
         14 => whole_cells(8, s, back, w, x, y),

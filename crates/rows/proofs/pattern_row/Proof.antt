@@ -1,27 +1,21 @@
-use mathlib.Core.Path.{_≡_}
-use Prim.Native.Nat.{_-_, _<_}
+use mathlib.Core.Path.{_≡_, refl}
+use Prim.Native.Nat.{_-_}
 use native.Mathlib.Omega.{arith}
-use Rattle.paint.proofs.Painting.{Painting, painting-start, painting-more, painting-end, painting-length, square-inside, square-below, fixed-is, pattern-inside}
+use Rattle.paint.proofs.Painting.{Painting, painting-start, painting-more, painting-end, painting-length, fixed-is, pattern-inside}
 use Rattle.rows.proofs.Rows.{in-row}
-use Rattle.motion.specs.Motion.{rasterIndex}
 use Rattle.pattern.specs.Form.{numbers}
 use Rattle.pattern.specs.Pattern.{patternSource}
 use Rattle.pattern.proofs.Bounds.{small, row}
-use Rattle.paint.specs.Paint.{single, fixedValue}
-use Rattle.rows.specs.Row.{fromPixel}
+use Rattle.paint.specs.Paint.{fixedValue}
+use Rattle.rows.specs.Row.{beside}
 use Rattle.rows.proofs.pattern_row.Statement.{statement}
 use Rattle.rows.proofs.pattern_row.Tie as tie
-use Rattle.rows.proofs.pattern_row.Reads as reads
-use Rattle.rows.proofs.pattern_row.Lts as lts
-use Rattle.motion.proofs.raster_index.Reads as raster-index-reads
-use Rattle.paint.proofs.put.Reads as put-reads
-use Rattle.pattern.proofs.pattern_source.Reads as pattern-source-reads
 
 abbrev Inv-loop : tie.InvT-loop
-Inv-loop bits across down wide high s back₀ w x y p m j₀ back j = (m ≡ 8) × Painting (fromPixel p (single (rasterIndex w x y) (fixedValue (patternSource (numbers bits across down wide high) s) s))) back₀ 8 back j
+Inv-loop bits across down wide high s p back₀ to m j₀ back j = (m ≡ 8) × Painting (beside to p (fixedValue (patternSource (numbers bits across down wide high) s) s)) back₀ 8 back j
 
 abbrev μ-loop : tie.MeasureT-loop
-μ-loop bits across down wide high s back₀ w x y p m j₀ back j = 8 - j
+μ-loop bits across down wide high s p back₀ to m j₀ back j = 8 - j
 
 div-m : tie.Need-div-m Inv-loop μ-loop
 div-m c = let k = small (c .before .before .pre .0) in omega (arith, k .across-some)
@@ -33,31 +27,28 @@ loop-holds : tie.Need-loop-holds Inv-loop μ-loop
 loop-holds c = (row (c .before .before .pre .0), painting-start _ _ _)
 
 add-pattern-source : tie.Need-add-pattern-source Inv-loop μ-loop
-add-pattern-source c = omega (arith, c .before .before .before .before .pre .3, c .loop-test .taken, c .before .loop .inv .0)
+add-pattern-source c = omega (arith, c .before .before .before .before .pre .2, c .loop-test .taken, c .before .loop .inv .0)
 
 pattern-source-requires : tie.Need-pattern-source-requires Inv-loop μ-loop
-pattern-source-requires c κs = (c .before .before .before .before .pre .0, c .before .before .before .before .pre .1, in-row _ _ (c .before .before .before .before .pre .3) (omega (arith, c .loop-test .taken, c .before .loop .inv .0)))
+pattern-source-requires c κs = (c .before .before .before .before .pre .0, c .before .before .before .before .pre .1, in-row _ _ (c .before .before .before .before .pre .2) (omega (arith, c .loop-test .taken, c .before .loop .inv .0)))
 
 shared-slice-read-v : tie.Need-shared-slice-read-v Inv-loop μ-loop
-shared-slice-read-v c = pattern-inside _ _ _ _ _ (c .before .before .before .before .before .before .pre .0) (in-row _ _ (c .before .before .before .before .before .before .pre .3) (omega (arith, c .before .before .loop-test .taken, c .before .before .before .loop .inv .0))) (c .before .before .before .before .before .before .pre .1) (c .before .pattern-source .ensures)
+shared-slice-read-v c = pattern-inside _ _ _ _ _ (c .before .before .before .before .before .before .pre .0) (in-row _ _ (c .before .before .before .before .before .before .pre .2) (omega (arith, c .before .before .loop-test .taken, c .before .before .before .loop .inv .0))) (c .before .before .before .before .before .before .pre .1) (c .before .pattern-source .ensures)
 
-add-raster-index : tie.Need-add-raster-index Inv-loop μ-loop
-add-raster-index c = omega (arith, c .before .before .before .before .before .before .before .pre .3, c .before .before .before .loop-test .taken, c .before .before .before .before .loop .inv .0)
-
-raster-index-requires : tie.Need-raster-index-requires Inv-loop μ-loop
-raster-index-requires c κs = square-inside _ _ _ _ _ (c .before .before .before .before .before .before .before .pre .2) (in-row _ _ (c .before .before .before .before .before .before .before .pre .3) (omega (arith, c .before .before .before .loop-test .taken, c .before .before .before .before .loop .inv .0)))
+add-put : tie.Need-add-put Inv-loop μ-loop
+add-put c = omega (arith, c .before .before .before .before .before .before .before .pre .3, c .before .before .before .loop-test .taken, c .before .before .before .before .loop .inv .0)
 
 put-requires : tie.Need-put-requires Inv-loop μ-loop
-put-requires c κs = let h : c .before .before .before .before .before .loop .j < 8 = omega (arith, c .before .before .before .before .loop-test .taken, c .before .before .before .before .before .loop .inv .0) in let q = square-below _ _ _ _ _ (c .before .before .before .before .before .before .before .before .pre .2) (in-row _ _ (c .before .before .before .before .before .before .before .before .pre .3) h) _ (c .raster-index .ensures) in omega (arith, q, painting-length _ _ _ _ _ (c .before .before .before .before .before .loop .inv .1))
+put-requires c κs = omega (arith, c .before .before .before .before .before .before .before .pre .3, c .before .before .before .loop-test .taken, c .before .before .before .before .loop .inv .0, painting-length _ _ _ _ _ (c .before .before .before .before .loop .inv .1))
 
 add-j : tie.Need-add-j Inv-loop μ-loop
-add-j c = omega (arith, c .before .before .before .before .before .before .before .loop-test .taken, c .before .before .before .before .before .before .before .before .loop .inv .0)
+add-j c = omega (arith, c .before .before .before .before .before .before .loop-test .taken, c .before .before .before .before .before .before .before .loop .inv .0)
 
 loop-less : tie.Need-loop-less Inv-loop μ-loop
-loop-less c = omega (arith, c .before .before .before .before .before .before .before .loop-test .taken, c .before .before .before .before .before .before .before .before .loop .inv .0)
+loop-less c = omega (arith, c .before .before .before .before .before .before .loop-test .taken, c .before .before .before .before .before .before .before .loop .inv .0)
 
 loop-again : tie.Need-loop-again Inv-loop μ-loop
-loop-again c = (c .before .before .before .before .before .before .before .before .loop .inv .0, painting-more _ _ _ _ _ (c .before .before .before .before .before .before .before .before .loop .inv .1) (omega (arith, c .before .before .before .before .before .before .before .loop-test .taken, c .before .before .before .before .before .before .before .before .loop .inv .0)) _ _ _ (c .before .before .before .raster-index .ensures) (fixed-is _ _ _ _ _ (c .before .before .before .before .before .before .pattern-source .ensures)) (c .before .before .put .ensures))
+loop-again c = (c .before .before .before .before .before .before .before .loop .inv .0, painting-more _ _ _ _ _ (c .before .before .before .before .before .before .before .loop .inv .1) (omega (arith, c .before .before .before .before .before .before .loop-test .taken, c .before .before .before .before .before .before .before .loop .inv .0)) _ _ _ refl (fixed-is _ _ _ _ _ (c .before .before .before .before .before .pattern-source .ensures)) (c .before .before .put .ensures))
 
 same-length : tie.Need-same-length Inv-loop μ-loop
 same-length c = painting-length _ _ _ _ _ (c .before .loop .inv .1)
@@ -77,8 +68,7 @@ pattern-row-spec =
     add-pattern-source
     pattern-source-requires
     shared-slice-read-v
-    add-raster-index
-    raster-index-requires
+    add-put
     put-requires
     add-j
     loop-less

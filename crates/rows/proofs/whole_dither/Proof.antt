@@ -1,41 +1,49 @@
 use Prim.Native.Nat.{_-_}
 use native.Mathlib.Omega.{arith}
-use Rattle.rows.proofs.Rows.{Rows, rows-start, rows-room, rows-more, rows-end, rows-length, square-kept}
+use Rattle.paint.proofs.Painting.{square-inside}
+use Rattle.rows.proofs.Rows.{Rows, rows-start, rows-inside, rows-end, rows-length}
+use Rattle.rows.proofs.Colours.{Turned, turned-start, turned-next, rows-turned}
 use Rattle.motion.specs.Motion.{rasterIndex}
 use Rattle.block.specs.Block.{ditherSource}
 use Rattle.paint.specs.Paint.{single, fixedValue}
 use Rattle.rows.proofs.whole_dither.Statement.{statement}
 use Rattle.rows.proofs.whole_dither.Tie as tie
-use Rattle.rows.proofs.whole_dither.Reads as reads
-use Rattle.rows.proofs.whole_dither.Lts as lts
-use Rattle.rows.proofs.dither_row.Reads as dither-row-reads
 
 abbrev Inv-loop : tie.InvT-loop
-Inv-loop s back₀ w x y p₀ back p = Rows (single (rasterIndex w x y) (fixedValue ditherSource s)) back₀ back p
+Inv-loop s back₀ w x y a₀ b₀ p₀ back a b p = Turned s p a b × Rows (single (rasterIndex w x y) (fixedValue ditherSource s)) back₀ back p
 
 abbrev μ-loop : tie.MeasureT-loop
-μ-loop s back₀ w x y p₀ back p = 64 - p
+μ-loop s back₀ w x y a₀ b₀ p₀ back a b p = 64 - p
+
+shared-slice-read-a : tie.Need-shared-slice-read-a Inv-loop μ-loop
+shared-slice-read-a c = omega (arith, c .before .before .before .pre .0)
+
+shared-slice-read-b : tie.Need-shared-slice-read-b Inv-loop μ-loop
+shared-slice-read-b c = omega (arith, c .before .before .before .before .pre .0)
 
 loop-holds : tie.Need-loop-holds Inv-loop μ-loop
-loop-holds c = rows-start _ _
+loop-holds c = (turned-start _, rows-start _ _)
 
-dither-row-requires : tie.Need-dither-row-requires Inv-loop μ-loop
-dither-row-requires c κs = (c .before .before .before .before .before .pre .0, square-kept (c .before .before .before .before .before .pre .1) (rows-length _ _ _ _ (c .before .before .loop .inv)), rows-room _ _ _ _ (c .before .before .loop .inv) (c .before .loop-test .taken))
+raster-index-requires : tie.Need-raster-index-requires Inv-loop μ-loop
+raster-index-requires c κs = square-inside _ _ _ _ _ (c .before .before .before .before .before .before .before .pre .1) (c .before .loop-test .taken)
+
+colours-row-requires : tie.Need-colours-row-requires Inv-loop μ-loop
+colours-row-requires c κs = (omega arith, rows-inside _ _ _ _ _ _ _ (c .before .before .before .loop .inv .1) (c .before .before .loop-test .taken) _ (c .raster-index .ensures) (c .before .before .before .before .before .before .before .before .pre .1))
 
 add-p : tie.Need-add-p Inv-loop μ-loop
-add-p c = omega (arith, c .before .before .before .before .loop-test .taken)
+add-p c = omega (arith, c .before .before .before .before .before .loop-test .taken)
 
 loop-less : tie.Need-loop-less Inv-loop μ-loop
-loop-less c = omega (arith, c .before .before .before .before .loop-test .taken)
+loop-less c = omega (arith, c .before .before .before .before .before .loop-test .taken)
 
 loop-again : tie.Need-loop-again Inv-loop μ-loop
-loop-again c = rows-more _ _ _ _ (c .before .before .before .before .before .loop .inv) (c .before .before .before .before .loop-test .taken) _ (c .before .before .dither-row .ensures)
+loop-again c = (turned-next _ _ _ _ (c .before .before .before .before .before .before .loop .inv .0), rows-turned _ _ _ _ _ _ _ _ _ (c .before .before .before .before .before .before .loop .inv .1) (c .before .before .before .before .before .before .loop .inv .0) (c .before .before .before .before .before .loop-test .taken) _ (c .before .before .before .raster-index .ensures) _ (c .before .before .colours-row .ensures))
 
 same-length : tie.Need-same-length Inv-loop μ-loop
-same-length c = rows-length _ _ _ _ (c .before .loop .inv)
+same-length c = rows-length _ _ _ _ (c .before .loop .inv .1)
 
 returns : tie.Need-returns Inv-loop μ-loop
-returns c = rows-end _ _ _ _ (c .before .loop .inv) (c .loop-test .left)
+returns c = rows-end _ _ _ _ (c .before .loop .inv .1) (c .loop-test .left)
 
 pub whole-dither-spec : {M : Type 1} → statement M
 whole-dither-spec =
@@ -43,8 +51,11 @@ whole-dither-spec =
     (tie.spec
     Inv-loop
     μ-loop
+    shared-slice-read-a
+    shared-slice-read-b
     loop-holds
-    dither-row-requires
+    raster-index-requires
+    colours-row-requires
     add-p
     loop-less
     loop-again

@@ -1,15 +1,13 @@
 use Prim.Native.Nat.{_-_}
 use native.Mathlib.Omega.{arith}
-use Rattle.rows.proofs.Rows.{Rows, rows-start, rows-room, rows-more, rows-end, rows-length, square-kept}
+use Rattle.paint.proofs.Painting.{square-inside}
+use Rattle.rows.proofs.Rows.{Rows, rows-start, rows-room, rows-own, rows-inside, rows-end, rows-length}
 use Rattle.motion.specs.Motion.{rasterIndex}
 use Rattle.pattern.specs.Form.{numbers}
 use Rattle.pattern.specs.Pattern.{patternSource}
 use Rattle.paint.specs.Paint.{single, fixedValue}
 use Rattle.rows.proofs.whole_pattern.Statement.{statement}
 use Rattle.rows.proofs.whole_pattern.Tie as tie
-use Rattle.rows.proofs.whole_pattern.Reads as reads
-use Rattle.rows.proofs.whole_pattern.Lts as lts
-use Rattle.rows.proofs.pattern_row.Reads as pattern-row-reads
 
 abbrev Inv-loop : tie.InvT-loop
 Inv-loop bits across down wide high s back₀ w x y p₀ back p = Rows (single (rasterIndex w x y) (fixedValue (patternSource (numbers bits across down wide high) s) s)) back₀ back p
@@ -20,17 +18,20 @@ abbrev μ-loop : tie.MeasureT-loop
 loop-holds : tie.Need-loop-holds Inv-loop μ-loop
 loop-holds c = rows-start _ _
 
+raster-index-requires : tie.Need-raster-index-requires Inv-loop μ-loop
+raster-index-requires c κs = square-inside _ _ _ _ _ (c .before .before .before .before .before .pre .2) (c .before .loop-test .taken)
+
 pattern-row-requires : tie.Need-pattern-row-requires Inv-loop μ-loop
-pattern-row-requires c κs = (c .before .before .before .before .before .pre .0, c .before .before .before .before .before .pre .1, square-kept (c .before .before .before .before .before .pre .2) (rows-length _ _ _ _ (c .before .before .loop .inv)), rows-room _ _ _ _ (c .before .before .loop .inv) (c .before .loop-test .taken))
+pattern-row-requires c κs = (c .before .before .before .before .before .before .pre .0, c .before .before .before .before .before .before .pre .1, rows-room _ _ _ _ (c .before .before .before .loop .inv) (c .before .before .loop-test .taken), rows-inside _ _ _ _ _ _ _ (c .before .before .before .loop .inv) (c .before .before .loop-test .taken) _ (c .raster-index .ensures) (c .before .before .before .before .before .before .pre .2))
 
 add-p : tie.Need-add-p Inv-loop μ-loop
-add-p c = omega (arith, c .before .before .before .before .loop-test .taken)
+add-p c = omega (arith, c .before .before .before .before .before .loop-test .taken)
 
 loop-less : tie.Need-loop-less Inv-loop μ-loop
-loop-less c = omega (arith, c .before .before .before .before .loop-test .taken)
+loop-less c = omega (arith, c .before .before .before .before .before .loop-test .taken)
 
 loop-again : tie.Need-loop-again Inv-loop μ-loop
-loop-again c = rows-more _ _ _ _ (c .before .before .before .before .before .loop .inv) (c .before .before .before .before .loop-test .taken) _ (c .before .before .pattern-row .ensures)
+loop-again c = rows-own _ _ _ _ _ _ _ (c .before .before .before .before .before .before .loop .inv) (c .before .before .before .before .before .loop-test .taken) _ (c .before .before .before .raster-index .ensures) _ (c .before .before .pattern-row .ensures)
 
 same-length : tie.Need-same-length Inv-loop μ-loop
 same-length c = rows-length _ _ _ _ (c .before .loop .inv)
@@ -45,6 +46,7 @@ whole-pattern-spec =
     Inv-loop
     μ-loop
     loop-holds
+    raster-index-requires
     pattern-row-requires
     add-p
     loop-less

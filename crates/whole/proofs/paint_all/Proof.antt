@@ -11,6 +11,7 @@ use Rattle.whole.proofs.paint_all.Reads as reads
 use Rattle.whole.proofs.paint_all.Lts as lts
 use Rattle.rows.proofs.whole_front.Reads as whole-front-reads
 use Rattle.rows.proofs.whole_cells.Reads as whole-cells-reads
+use Rattle.rows.proofs.whole_raw.Reads as whole-raw-reads
 use Rattle.rows.proofs.whole_dither.Reads as whole-dither-reads
 use Rattle.whole.proofs.copy_by.Reads as copy-by-reads
 use Rattle.whole.proofs.whole_form.Reads as whole-form-reads
@@ -65,21 +66,21 @@ whole-form-requires-4 : tie.Need-whole-form-requires-4
 unfolding dataLength
 whole-form-requires-4 c κs = (there _ _ _ _ _ _ _ (c .before .before .before .before .before .before .before .before .pre .0) _ (kind-A _ _ _ (c .before .before .match .keys4) (c .before .form-of-a .ensures)), back-square _ _ _ _ _ _ (c .before .before .before .before .before .before .before .before .pre .1))
 
+whole-raw-requires : tie.Need-whole-raw-requires
+unfolding dataLength
+whole-raw-requires c κs = (there _ _ _ _ _ _ _ (c .before .before .before .before .before .before .before .pre .0) (celled one) (kind-B _ _ (c .before .match .keys5)), back-square _ _ _ _ _ _ (c .before .before .before .before .before .before .before .pre .1))
+
 whole-cells-requires : tie.Need-whole-cells-requires
 unfolding dataLength
-whole-cells-requires c κs = ((one, refl), there _ _ _ _ _ _ _ (c .before .before .before .before .before .before .before .pre .0) (celled one) (kind-B _ _ (c .before .match .keys5)), back-square _ _ _ _ _ _ (c .before .before .before .before .before .before .before .pre .1))
+whole-cells-requires c κs = ((two, refl), omega arith, there _ _ _ _ _ _ _ (c .before .before .before .before .before .before .before .pre .0) (celled two) (kind-C _ _ (c .before .match .keys6)), back-square _ _ _ _ _ _ (c .before .before .before .before .before .before .before .pre .1))
 
 whole-cells-requires-2 : tie.Need-whole-cells-requires-2
 unfolding dataLength
-whole-cells-requires-2 c κs = ((two, refl), there _ _ _ _ _ _ _ (c .before .before .before .before .before .before .before .pre .0) (celled two) (kind-C _ _ (c .before .match .keys6)), back-square _ _ _ _ _ _ (c .before .before .before .before .before .before .before .pre .1))
+whole-cells-requires-2 c κs = ((four, refl), omega arith, there _ _ _ _ _ _ _ (c .before .before .before .before .before .before .before .pre .0) (celled four) (kind-D _ _ (c .before .match .keys7)), back-square _ _ _ _ _ _ (c .before .before .before .before .before .before .before .pre .1))
 
 whole-cells-requires-3 : tie.Need-whole-cells-requires-3
 unfolding dataLength
-whole-cells-requires-3 c κs = ((four, refl), there _ _ _ _ _ _ _ (c .before .before .before .before .before .before .before .pre .0) (celled four) (kind-D _ _ (c .before .match .keys7)), back-square _ _ _ _ _ _ (c .before .before .before .before .before .before .before .pre .1))
-
-whole-cells-requires-4 : tie.Need-whole-cells-requires-4
-unfolding dataLength
-whole-cells-requires-4 c κs = ((eight, refl), there _ _ _ _ _ _ _ (c .before .before .before .before .before .before .before .pre .0) (celled eight) (kind-E _ _ (c .before .match .keys8)), back-square _ _ _ _ _ _ (c .before .before .before .before .before .before .before .pre .1))
+whole-cells-requires-3 c κs = ((eight, refl), omega arith, there _ _ _ _ _ _ _ (c .before .before .before .before .before .before .before .pre .0) (celled eight) (kind-E _ _ (c .before .match .keys8)), back-square _ _ _ _ _ _ (c .before .before .before .before .before .before .before .pre .1))
 
 whole-dither-requires : tie.Need-whole-dither-requires
 unfolding dataLength
@@ -113,25 +114,25 @@ same-length-7 : tie.Need-same-length-7
 same-length-7 c = search needs
 
 returns-7 : tie.Need-returns-7
-returns-7 c = paints-cells _ _ _ _ _ _ _ _ _ one (kind-B _ _ (c .before .before .before .before .match .keys5)) (c .before .before .whole-cells .ensures)
+returns-7 c = paints-cells _ _ _ _ _ _ _ _ _ one (kind-B _ _ (c .before .before .before .before .match .keys5)) (c .before .before .whole-raw .ensures)
 
 same-length-8 : tie.Need-same-length-8
 same-length-8 c = search needs
 
 returns-8 : tie.Need-returns-8
-returns-8 c = paints-cells _ _ _ _ _ _ _ _ _ two (kind-C _ _ (c .before .before .before .before .match .keys6)) (c .before .before .whole-cells2 .ensures)
+returns-8 c = paints-cells _ _ _ _ _ _ _ _ _ two (kind-C _ _ (c .before .before .before .before .match .keys6)) (c .before .before .whole-cells .ensures)
 
 same-length-9 : tie.Need-same-length-9
 same-length-9 c = search needs
 
 returns-9 : tie.Need-returns-9
-returns-9 c = paints-cells _ _ _ _ _ _ _ _ _ four (kind-D _ _ (c .before .before .before .before .match .keys7)) (c .before .before .whole-cells3 .ensures)
+returns-9 c = paints-cells _ _ _ _ _ _ _ _ _ four (kind-D _ _ (c .before .before .before .before .match .keys7)) (c .before .before .whole-cells2 .ensures)
 
 same-length-10 : tie.Need-same-length-10
 same-length-10 c = search needs
 
 returns-10 : tie.Need-returns-10
-returns-10 c = paints-cells _ _ _ _ _ _ _ _ _ eight (kind-E _ _ (c .before .before .before .before .match .keys8)) (c .before .before .whole-cells4 .ensures)
+returns-10 c = paints-cells _ _ _ _ _ _ _ _ _ eight (kind-E _ _ (c .before .before .before .before .match .keys8)) (c .before .before .whole-cells3 .ensures)
 
 same-length-11 : tie.Need-same-length-11
 same-length-11 c = search needs
@@ -160,10 +161,10 @@ paint-all-spec =
     whole-form-requires-3
     form-of-a-requires
     whole-form-requires-4
+    whole-raw-requires
     whole-cells-requires
     whole-cells-requires-2
     whole-cells-requires-3
-    whole-cells-requires-4
     whole-dither-requires
     same-length-3
     returns-3

@@ -1,0 +1,175 @@
+-- Colours read once for several pixels: the value that a pixel takes from them is the one that the block's rule gives it.
+-- Assumes nothing.
+use mathlib.Core.Path.{_≡_, refl, sym, ap, subst, _∙_}
+use mathlib.Core.List.{List}
+use Prim.Native.Nat.{ℕ, zero, suc, _+_, _*_, _/_, _%_, _≤_, _<_}
+use native.Mathlib.Nat.{zero-add}
+use native.Mathlib.Omega.{arith}
+use lib.ListN.{length, getD}
+use Rattle.block.specs.Block.{Side, one, two, four, eight, pixels, cellSource, ditherSource}
+use Rattle.block.specs.Asked.{Sided}
+use Rattle.motion.specs.Motion.{rasterIndex}
+use Rattle.stores.specs.Stores.{firstPixels}
+use Rattle.paint.specs.Asked.{Square}
+use Rattle.paint.specs.Paint.{single, fixedValue}
+use Rattle.paint.proofs.Painting.{Painting, painting-start, painting-length}
+use Rattle.rows.specs.Row.{fromPixel, beside, colours, inTurn, Band}
+use Rattle.rows.proofs.Rows.{Rows, painting-by, row-target, row-inside, rows-beside}
+
+-- ---- a row
+
+pub raw-source : (i : ℕ) → i ≡ cellSource 1 i
+unfolding cellSource
+raw-source i = omega arith
+
+pub last-of-four : (a b c d k : ℕ) → k < 4 → 3 ≤ k → d ≡ getD (colours a b c d) k 0
+last-of-four a b c d k h l = let e : k ≡ 3 = omega arith in rw e
+
+pub turn-value : (a b c d step j v : ℕ) (l : List ℕ) → v ≡ getD (colours a b c d) (j / step % 4) 0
+    → v ≡ fixedValue (inTurn step) (colours a b c d) (0 + j) l
+unfolding fixedValue inTurn
+turn-value a b c d step j v l e = rw (zero-add j) e
+
+-- four colours that are f 0 to f 3
+colour-is : (f : ℕ → ℕ) (a b c d : ℕ) → a ≡ f 0 → b ≡ f 1 → c ≡ f 2 → d ≡ f 3 → (k : ℕ) → k < 4 → getD (colours a b c d) k 0 ≡ f k
+colour-is f a b c d ea eb ec ed zero h = ea
+colour-is f a b c d ea eb ec ed (suc zero) h = eb
+colour-is f a b c d ea eb ec ed (suc (suc zero)) h = ec
+colour-is f a b c d ea eb ec ed (suc (suc (suc zero))) h = ed
+colour-is f a b c d ea eb ec ed (suc (suc (suc (suc k)))) h = absurd (let z : ⊥ = omega arith in z)
+
+-- ---- codes C to E
+
+-- the rows from p on that are the first of a band: p is a row's first pixel, and the band's rows stand below the block's end
+pub record BandRoom (side p : ℕ) : Type 0 where
+  pub row : p % 8 ≡ 0
+  pub room : p + 8 * side ≤ 64
+  pub next : (p + 8 * side) % (8 * side) ≡ 0
+
+band-room-of : (c : Side) (p : ℕ) → p % (8 * pixels c) ≡ 0 → p < 64 → BandRoom (pixels c) p
+band-room-of one p first below = record { row = omega arith; room = omega arith; next = omega arith }
+band-room-of two p first below = record { row = omega arith; room = omega arith; next = omega arith }
+band-room-of four p first below = record { row = omega arith; room = omega arith; next = omega arith }
+band-room-of eight p first below = record { row = omega arith; room = omega arith; next = omega arith }
+
+pub band-room : {side p : ℕ} → Band side p → BandRoom side p
+band-room {side} {p} z =
+    subst (λ (n : ℕ). p % (8 * n) ≡ 0 → BandRoom n p) (z .sided .1) (λ f. band-room-of (z .sided .0) p f (z .below)) (z .first)
+
+-- pixel i of the band's row from r on has the cell of every pixel above it in the band, and of the other of its pair
+band-down : (c : Side) (p r : ℕ) → p % (8 * pixels c) ≡ 0 → r < 8 * pixels c → (p + r) / 8 / pixels c ≡ p / 8 / pixels c
+band-down one p r first l = omega arith
+band-down two p r first l = omega arith
+band-down four p r first l = omega arith
+band-down eight p r first l = omega arith
+
+band-across : (c : Side) (i : ℕ) → 1 < pixels c → i < 8 → i / 2 % 4 * 2 / pixels c ≡ i / pixels c
+band-across one i wide h = absurd (let z : ⊥ = omega arith in z)
+band-across two i wide h = omega arith
+band-across four i wide h = omega arith
+band-across eight i wide h = omega arith
+
+pub record BandCell (p r i side : ℕ) : Type 0 where
+  pub down : (p + r) / 8 / side ≡ p / 8 / side
+  pub across : i / 2 % 4 * 2 / side ≡ i / side
+
+module _ {side p : ℕ} (z : Band side p) (r i : ℕ) (even : r % 8 ≡ 0) (l : r < 8 * side) (h : i < 8) where
+  band-both : BandCell p r i side
+  band-both =
+      subst (λ (n : ℕ). p % (8 * n) ≡ 0 → r < 8 * n → 1 < n → BandCell p r i n) (z .sided .1)
+      (λ f g w. record { down = band-down (z .sided .0) p r f g; across = band-across (z .sided .0) i w h })
+      (z .first) l (z .wide)
+
+  pub band-cell : cellSource side (p + i / 2 % 4 * 2) ≡ cellSource side (p + (r + i))
+  unfolding cellSource
+  band-cell =
+      let f = band-room z .row in
+      let a : (p + i / 2 % 4 * 2) / 8 ≡ p / 8 = omega (arith, f) in
+      let b : (p + i / 2 % 4 * 2) % 8 ≡ i / 2 % 4 * 2 = omega (arith, f) in
+      let c : (p + (r + i)) / 8 ≡ (p + r) / 8 = omega (arith, f) in
+      let d : (p + (r + i)) % 8 ≡ i = omega (arith, f) in
+      rw (a, b, c, d, band-both .down, band-both .across)
+
+-- the four colours of a band, each that of its pixels
+pub record Read (side p : ℕ) (s : List ℕ) (a b c d : ℕ) : Type 0 where
+  pub first : a ≡ getD s (cellSource side p) 0
+  pub second : b ≡ getD s (cellSource side (p + 2)) 0
+  pub third : c ≡ getD s (cellSource side (p + 4)) 0
+  pub fourth : d ≡ getD s (cellSource side (p + 6)) 0
+
+pub band-value : {side p : ℕ} (z : Band side p) (s : List ℕ) (a b c d : ℕ) → Read side p s a b c d
+    → (r i : ℕ) → r % 8 ≡ 0 → r < 8 * side → i < 8 → (k : List ℕ)
+    → fixedValue (inTurn 2) (colours a b c d) (0 + i) k ≡ fixedValue (cellSource side) s (p + (r + i)) k
+unfolding fixedValue inTurn
+band-value {side} {p} z s a b c d q r i even l h k =
+    let e : p ≡ p + 0 * 2 = omega arith in
+    rw (zero-add i)
+    (colour-is (λ (n : ℕ). getD s (cellSource side (p + n * 2)) 0) a b c d (q .first ∙ ap (λ (n : ℕ). getD s (cellSource side n) 0) e) (q .second) (q .third) (q .fourth) (i / 2 % 4) (omega arith)
+    ∙ ap (λ (n : ℕ). getD s n 0) (band-cell z r i even l h))
+
+-- the loop over the rows of a band: after each the picture is as the band's pixels up to there leave it
+pub record Banded (w x y side : ℕ) (s : List ℕ) (p : ℕ) (b₀ b : List ℕ) (r : ℕ) : Type 0 where
+  pub even : r % 8 ≡ 0
+  pub painting : Painting (fromPixel p (single (rasterIndex w x y) (fixedValue (cellSource side) s))) b₀ (8 * side) b r
+
+pub banded-start : (w x y side : ℕ) (s : List ℕ) (p : ℕ) (b : List ℕ) → Banded w x y side s p b b 0
+banded-start w x y side s p b = record { even = refl; painting = painting-start _ _ _ }
+
+pub band-below : {side p : ℕ} → Band side p → (r : ℕ) → r < 8 * side → p + r < 64
+band-below z r l = omega (arith, band-room z .room)
+
+module _ (w x y side : ℕ) (s : List ℕ) (p : ℕ) (b₀ b : List ℕ) (r : ℕ) (g : Banded w x y side s p b₀ b r) (z : Band side p) (l : r < 8 * side)
+    (to : ℕ) (e : to ≡ rasterIndex w x y (p + r)) where
+  pub banded-inside : Square w x y (length b₀) → to + 8 ≤ length b
+  banded-inside q =
+      let k : length b ≡ length b₀ = painting-length _ b₀ (8 * side) b r (g .painting) in
+      rw k (row-inside w x y (p + r) to (omega (arith, band-room z .row, g .even)) e (length b₀) q (band-below z r l))
+
+  pub banded-more : (a₁ a₂ a₃ a₄ : ℕ) → Read side p s a₁ a₂ a₃ a₄ → (b′ : List ℕ)
+      → b′ ≡ firstPixels (beside to 0 (fixedValue (inTurn 2) (colours a₁ a₂ a₃ a₄))) 0 b 8 → Banded w x y side s p b₀ b′ (r + 8)
+  banded-more a₁ a₂ a₃ a₄ q b′ f =
+      record {
+        even = omega (arith, g .even);
+        painting = painting-by _ b₀ (8 * side) b r (g .painting) 8 (omega (arith, g .even)) (beside to 0 (fixedValue (inTurn 2) (colours a₁ a₂ a₃ a₄)))
+            (λ i h. row-target w x y (p + r) to (omega (arith, band-room z .row, g .even)) e i (p + (r + i)) h (omega arith))
+            (λ i h k. band-value z s a₁ a₂ a₃ a₄ q r i (g .even) l h k) b′ f;
+      }
+
+-- ---- code F
+
+pub record Turned (s : List ℕ) (p a b : ℕ) : Type 0 where
+  pub first : a ≡ getD s (p / 8 % 2) 0
+  pub second : b ≡ getD s ((p / 8 + 1) % 2) 0
+
+pub turned-start : (s : List ℕ) → Turned s 0 (getD s 0 0) (getD s 1 0)
+turned-start s = record { first = refl; second = refl }
+
+pub turned-next : (s : List ℕ) (p a b : ℕ) → Turned s p a b → Turned s (p + 8) b a
+turned-next s p a b t =
+    let e : (p + 8) / 8 % 2 ≡ (p / 8 + 1) % 2 = omega arith in
+    let f : ((p + 8) / 8 + 1) % 2 ≡ p / 8 % 2 = omega arith in
+    record { first = rw e (t .second); second = rw f (t .first) }
+
+-- four pixels on nothing has changed
+turned-pair : (n i : ℕ) → (n + i / 1 % 4) % 2 ≡ (n + i) % 2
+turned-pair n i = omega arith
+
+pub turned-value : (s : List ℕ) (p a b : ℕ) → Turned s p a b → p % 8 ≡ 0 → (i : ℕ) → i < 8 → (k : List ℕ)
+    → fixedValue (inTurn 1) (colours a b a b) (0 + i) k ≡ fixedValue ditherSource s (p + i) k
+unfolding fixedValue inTurn ditherSource
+turned-value s p a b t even i h k =
+    let d : (p / 8 + 0) % 2 ≡ p / 8 % 2 = omega arith in
+    let e : (p / 8 + 2) % 2 ≡ p / 8 % 2 = omega arith in
+    let f : (p / 8 + 3) % 2 ≡ (p / 8 + 1) % 2 = omega arith in
+    let g : (p + i) / 8 ≡ p / 8 = omega (arith, even) in
+    let j : (p + i) % 8 ≡ i = omega (arith, even) in
+    rw (zero-add i)
+    (colour-is (λ (n : ℕ). getD s ((p / 8 + n) % 2) 0) a b a b (rw d (t .first)) (t .second) (rw e (t .first)) (rw f (t .second)) (i / 1 % 4) (omega arith)
+    ∙ rw (g, j, turned-pair (p / 8) i))
+
+pub rows-turned : (w x y : ℕ) (s b₀ b : List ℕ) (p u v : ℕ) → Rows (single (rasterIndex w x y) (fixedValue ditherSource s)) b₀ b p → Turned s p u v
+    → p < 64 → (to : ℕ) → to ≡ rasterIndex w x y p → (b′ : List ℕ)
+    → b′ ≡ firstPixels (beside to 0 (fixedValue (inTurn 1) (colours u v u v))) 0 b 8
+    → Rows (single (rasterIndex w x y) (fixedValue ditherSource s)) b₀ b′ (p + 8)
+rows-turned w x y s b₀ b p u v r t h to e b′ f =
+    rows-beside w x y (fixedValue ditherSource s) b₀ b p r h to 0 e (fixedValue (inTurn 1) (colours u v u v)) (turned-value s p u v t (r .whole)) b′ f
