@@ -24,7 +24,7 @@ use Rattle.palette.specs.Mask.{setPaletteCompressed}
 use Rattle.state.specs.declared.Map.{Map}
 use Rattle.state.specs.declared.Map.the-variants.{Missing, Part}
 use Rattle.state.specs.declared.State.{State}
-use Rattle.state.specs.State.{area, roomVerdict}
+use Rattle.state.specs.State.{area, lentVerdict}
 use Rattle.heads.specs.declared.Opcode.{Opcode}
 use Rattle.next.specs.Next.{Standing, nextOf}
 use Rattle.next.specs.Next as found
@@ -185,7 +185,7 @@ module _ (film : List ℕ) (st : State) (allowed : ℕ) where
   -- the tests see the palette's length, and whether a picture is shorter than the size
   same-next : (l m : Lent) → SameTo (bytes st) l m
       → nextOf film st (length (l .palette)) (length (l .first)) (length (l .second)) ≡ nextOf film st (length (m .palette)) (length (m .first)) (length (m .second))
-  unfolding nextOf roomVerdict
+  unfolding nextOf lentVerdict
   same-next l m s = rw (s .palette, take-short (bytes st) (l .first) (m .first) (s .first), take-short (bytes st) (l .second) (m .second) (s .second)) refl
 
   pub step-unread : (l : Lent) → Unread film st allowed l

@@ -22,7 +22,7 @@ use Rattle.draw.proofs.Exactly.{drawn-exactly}
 use Rattle.state.specs.declared.Map.{Map}
 use Rattle.state.specs.declared.Map.the-variants.{Missing, Part}
 use Rattle.state.specs.declared.State.{State}
-use Rattle.state.specs.State.{area, roomVerdict}
+use Rattle.state.specs.State.{area, lentVerdict}
 use Rattle.state.specs.Moves.{behind, atEnd, sized, sent, mapped}
 use Rattle.heads.specs.declared.Opcode.{Opcode}
 use Rattle.next.specs.Next.{Standing, on, nextOf}
@@ -65,8 +65,8 @@ refuses : (n k : ℕ) → refuse n k ≡ accept → ⊥
 refuses n k e = let z : _≡_ {A = ℕ} 0 1 = cc in omega arith
 
 -- both pictures are as long as the size asks
-room-is : (n p a b : ℕ) → roomVerdict n p a b ≡ accept → (n ≤ a) × (n ≤ b)
-unfolding roomVerdict
+room-is : (n p a b : ℕ) → lentVerdict n p a b ≡ accept → (n ≤ a) × (n ≤ b)
+unfolding lentVerdict
 room-is n p a b r =
     let x = first (eqb p 768) _ _ _ (refuses 8 0) r in
     let y = not-first (ltb a n) _ _ _ (refuses 8 0) (x .1) in
