@@ -43,6 +43,12 @@ with the same film, the state last given back, and the palette, pictures and pla
 in memory that outlives the stop, and the old state until the new one is saved in full. A step that was stopped while
 it changed the palette stores the same entries again.
 
+This holds on a machine that keeps two things. Stores reach that memory in program order, as the restarted program sees
+it: a store is there only with all that were made before it. So a write-back cache must not be lost at the stop, or must
+be flushed in order. And no store is torn: it is there in full or not at all. The place is one aligned word, stored at
+once; compiled code may store neighbouring pixels by one wider store, too. Both hold for memory that processes on x86-64
+share, whenever one of them is stopped or killed; host/stops tests it.
+
 A block has at most 65 stores, the largest picture 312,000. A call that is allowed 64 or fewer finishes no block that has
 pixels to store, so allow 65 or more.
 

@@ -36,13 +36,13 @@ impl Block<'_> {
     }
 
     /// Index in the picture of the block's pixel `i`, row by row.
-    pub(crate) fn target(&self, size: FrameSize, i: usize) -> usize {
+    pub fn target(&self, size: FrameSize, i: usize) -> usize {
         let (column, row) = (i % BLOCK_SIDE, i / BLOCK_SIDE);
         (self.y + row) * size.width() + self.x + column
     }
 
     /// Value of the block's pixel `i`, read from the pictures as they are now.
-    pub(crate) fn value(&self, size: FrameSize, i: usize, front: &[u8], back: &[u8]) -> u8 {
+    pub fn value(&self, size: FrameSize, i: usize, front: &[u8], back: &[u8]) -> u8 {
         let source = block::source(size.width(), self.code, self.data, self.x, self.y, i);
         match source.expect("each pixel of an accepted block has a source") {
             Source::Data(index) => self.data[index],

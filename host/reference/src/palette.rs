@@ -18,28 +18,41 @@ const MAX_GRADIENT_COLUMN: usize = 39;
 const GROUP: usize = 8;
 
 /// One palette entry with the colour to store.
-#[derive(Clone, Copy)]
-struct Entry {
-    index: usize,
-    colour: [u8; COMPONENTS],
+#[derive(Clone, Copy, Debug, PartialEq, Eq)]
+pub struct Entry {
+    /// The entry's number.
+    pub index: usize,
+    /// Its red, green and blue.
+    pub colour: [u8; COMPONENTS],
 }
 
 /// Opcode 0B, "create gradient": a red-blue and a red-green gradient. The red-blue one is stored
 /// first, so where they overlap red-green stays.
 pub fn create_gradient(body: &[u8], palette: &mut [u8]) -> Result<(), Refusal> {
     check_lent(palette)?;
+    store(&gradient_entries(body)?, palette);
+    Ok(())
+}
+
+/// The entries that opcode 0B stores, in order.
+pub fn gradient_entries(body: &[u8]) -> Result<Vec<Entry>, Refusal> {
     let &[base_rb, rows_rb, columns_rb, base_rg, rows_rg, columns_rg] = body else {
         return Err(Refusal::new(refusal::BODY_LENGTH));
     };
     let mut entries = gradient(base_rb, rows_rb, columns_rb, |red, blue| [red, 0, blue])?;
     entries.extend(gradient(base_rg, rows_rg, columns_rg, |red, green| [red, green, 0])?);
-    store(&entries, palette);
-    Ok(())
+    Ok(entries)
 }
 
 /// Opcode 0C, "set palette": a run of entries.
 pub fn set_palette(body: &[u8], palette: &mut [u8]) -> Result<(), Refusal> {
     check_lent(palette)?;
+    store(&palette_entries(body)?, palette);
+    Ok(())
+}
+
+/// The entries that opcode 0C stores, in order.
+pub fn palette_entries(body: &[u8]) -> Result<Vec<Entry>, Refusal> {
     let &[start_low, start_high, count_low, count_high, ref colours @ ..] = body else {
         return Err(Refusal::new(refusal::BODY_LENGTH));
     };
@@ -51,14 +64,19 @@ pub fn set_palette(body: &[u8], palette: &mut [u8]) -> Result<(), Refusal> {
     check_range(start, count)?;
     let entries: Vec<Entry> = (start..).zip(colours_of(colours)).map(entry).collect();
     check_components(&entries)?;
-    store(&entries, palette);
-    Ok(())
+    Ok(entries)
 }
 
 /// Opcode 0D, "set palette entries compressed": 32 groups of a mask byte and the colours of the
 /// entries whose bit is one, lowest bit first.
 pub fn set_palette_compressed(body: &[u8], palette: &mut [u8]) -> Result<(), Refusal> {
     check_lent(palette)?;
+    store(&compressed_entries(body)?, palette);
+    Ok(())
+}
+
+/// The entries that opcode 0D stores, in order.
+pub fn compressed_entries(body: &[u8]) -> Result<Vec<Entry>, Refusal> {
     let mut entries = Vec::new();
     let mut rest = body;
     for first in (0..ENTRIES).step_by(GROUP) {
@@ -74,8 +92,7 @@ pub fn set_palette_compressed(body: &[u8], palette: &mut [u8]) -> Result<(), Ref
         return Err(Refusal::new(refusal::BODY_LENGTH));
     }
     check_components(&entries)?;
-    store(&entries, palette);
-    Ok(())
+    Ok(entries)
 }
 
 /// The entries of one gradient, row by row; none where a count is zero, and then the base is not

@@ -1,0 +1,274 @@
+//! What is stopped: a drawing call, and a walk over a film. Everything that is expected of them is
+//! the second decoder's.
+
+use crate::kept::{Memory, Numbers};
+use crate::list::{self, Packet, Store};
+use crate::state;
+use reference::film::{State, Stepped};
+
+/// A process to stop, and what is expected at a stop.
+pub trait Case {
+    /// The arguments that it is started with.
+    fn arguments(&self) -> Vec<String>;
+    /// What is kept when it starts.
+    fn found(&self) -> &Memory;
+    /// The stores that it makes.
+    fn stores(&self) -> &[Store];
+    /// What it writes at its end.
+    fn answer(&self) -> &str;
+    /// Makes the call anew that was stopped, on a copy of what the stop left and with no limit to its
+    /// stores. It ends as if nothing had been stopped, or the difference is told.
+    fn go_on(&self, left: &Memory) -> Result<(), String>;
+}
+
+/// A call of `mve_draw`. The first picture is front, the second one back.
+#[derive(Clone, Debug)]
+pub struct Drawing {
+    packet: maker::Packet,
+    allowed: usize,
+    found: Memory,
+    stores: Vec<Store>,
+    answer: String,
+    end: Memory,
+}
+
+impl Drawing {
+    /// A call with a valid packet, behind an earlier one that made so many stores.
+    pub fn new(packet: maker::Packet, first: Memory, earlier: usize, allowed: usize) -> Drawing {
+        let (mut found, mut end) = (first.clone(), first);
+        second_draw(&packet, &mut found, earlier);
+        second_draw(&packet, &mut end, usize::MAX);
+        let drawn = second_draw(&packet, &mut found.clone(), allowed);
+        let answer = match drawn.whole {
+            true => format!("whole {}\n", drawn.stores),
+            false => format!("unfinished {}\n", drawn.stores),
+        };
+        let mut stores = list::drawing(&listed(&packet), &found).expect("a valid packet");
+        stores.truncate(allowed);
+        Drawing { packet, allowed, found, stores, answer, end }
+    }
+
+    /// The packet.
+    pub fn packet(&self) -> &maker::Packet {
+        &self.packet
+    }
+}
+
+fn listed(packet: &maker::Packet) -> Packet<'_> {
+    let maker::Packet { width, height, map, data } = packet;
+    Packet { width: *width, height: *height, map, data, front: 0 }
+}
+
+/// A call of the second decoder.
+fn second_draw(packet: &maker::Packet, memory: &mut Memory, allowed: usize) -> reference::Drawn {
+    let maker::Packet { width, height, map, data } = packet;
+    let Memory { pictures: [front, back], place, .. } = memory;
+    reference::draw(*width, *height, map, data, front, back, place, allowed)
+        .expect("a valid packet")
+}
+
+impl Case for Drawing {
+    fn arguments(&self) -> Vec<String> {
+        let maker::Packet { width, height, map, data } = &self.packet;
+        let numbers = [width.to_string(), height.to_string(), self.allowed.to_string()];
+        let mut words = vec!["--draw".to_string()];
+        words.extend(numbers);
+        words.extend([hex(map), hex(data)]);
+        words
+    }
+
+    fn found(&self) -> &Memory {
+        &self.found
+    }
+
+    fn stores(&self) -> &[Store] {
+        &self.stores
+    }
+
+    fn answer(&self) -> &str {
+        &self.answer
+    }
+
+    fn go_on(&self, left: &Memory) -> Result<(), String> {
+        let maker::Packet { width, height, map, data } = &self.packet;
+        let due = list::due(&listed(&self.packet), left.place);
+        let mut memory = left.clone();
+        let Memory { pictures: [front, back], place, .. } = &mut memory;
+        let drawn = mve::draw(*width, *height, map, data, front, back, place, usize::MAX);
+        if drawn != Ok(mve::Drawn::Whole { stores: due }) {
+            return Err(format!("the new call answers {drawn:?}, with {due} stores due"));
+        }
+        same(&memory, &self.end)
+    }
+}
+
+/// A walk over a film to its end by `mve_step`, every step with the same allowance. What is kept
+/// begins with the film's first state.
+#[derive(Clone, Debug)]
+pub struct Walk {
+    film: Vec<u8>,
+    allowed: usize,
+    found: Memory,
+    stores: Vec<Store>,
+    answer: String,
+    steps: Vec<Step>,
+}
+
+/// A step that nothing stops, with no limit to its stores.
+#[derive(Clone, Debug)]
+pub struct Step {
+    /// The state that it is given.
+    pub state: State,
+    /// What it finds. What it leaves, with the new state saved, is what the next step finds.
+    pub before: Memory,
+    /// Its answer; the stores of a drawing are those from place 0 on.
+    pub answer: Stepped,
+}
+
+impl Walk {
+    /// A walk over a valid film.
+    pub fn new(film: Vec<u8>, first: Memory, allowed: usize) -> Walk {
+        let opened = reference::film::open(&film).expect("a valid film");
+        let found = Memory { state: state::second_numbers(opened), ..first };
+        let (stores, calls) = listed_walk(&film, opened, found.clone(), allowed);
+        let answer = format!("ended after {calls} steps\n");
+        let steps = steps(&film, found.clone());
+        Walk { film, allowed, found, stores, answer, steps }
+    }
+}
+
+/// The stores of a walk, those of the state included, and how many steps it has.
+fn listed_walk(
+    film: &[u8],
+    opened: State,
+    mut memory: Memory,
+    allowed: usize,
+) -> (Vec<Store>, usize) {
+    let (mut state, mut stores) = (opened, Vec::new());
+    for calls in 1.. {
+        let mut listed = list::step(film, &state, &memory).expect("a valid film");
+        if list::packet_at(film, &state).is_some() {
+            listed.truncate(allowed);
+        }
+        let mut model = memory.clone();
+        listed.iter().for_each(|&store| model.make(store));
+        let next = match second_step(film, state, &mut memory, allowed) {
+            Stepped::Taken(next) | Stepped::Whole(next, _) => next,
+            Stepped::Unfinished(same, _) => same,
+            Stepped::Ended(_) => return (stores, calls),
+            Stepped::Refused(refusal) => panic!("a valid film is refused: {refusal:?}"),
+        };
+        assert!(model == memory, "the list is not that of the second decoder's step");
+        stores.extend(listed);
+        if next != state {
+            let saved = Store::State(state::second_numbers(next));
+            stores.push(saved);
+            memory.make(saved);
+        }
+        state = next;
+    }
+    unreachable!("no film has so many steps")
+}
+
+/// The steps of a film that nothing stops.
+pub fn steps(film: &[u8], mut memory: Memory) -> Vec<Step> {
+    let mut state = reference::film::open(film).expect("a valid film");
+    memory.state = state::second_numbers(state);
+    let mut steps = Vec::new();
+    loop {
+        let before = memory.clone();
+        let answer = second_step(film, state, &mut memory, usize::MAX);
+        let next = match answer {
+            Stepped::Taken(next) | Stepped::Whole(next, _) | Stepped::Ended(next) => next,
+            other => panic!("a valid film is answered {other:?}"),
+        };
+        memory.state = state::second_numbers(next);
+        steps.push(Step { state, before, answer });
+        if let Stepped::Ended(_) = answer {
+            return steps;
+        }
+        state = next;
+    }
+}
+
+/// Which step has this state.
+pub fn at(steps: &[Step], state: Numbers) -> Result<usize, String> {
+    let step = steps.iter().position(|step| state::second_numbers(step.state) == state);
+    step.ok_or_else(|| format!("the saved state is none of the film's: {state:?}"))
+}
+
+/// A step of the second decoder.
+fn second_step(film: &[u8], state: State, memory: &mut Memory, allowed: usize) -> Stepped {
+    let Memory { palette, pictures: [a, b], place, .. } = memory;
+    reference::film::step(film, state, palette, a, b, place, allowed)
+}
+
+impl Case for Walk {
+    fn arguments(&self) -> Vec<String> {
+        vec!["--film".to_string(), self.allowed.to_string(), hex(&self.film)]
+    }
+
+    fn found(&self) -> &Memory {
+        &self.found
+    }
+
+    fn stores(&self) -> &[Store] {
+        &self.stores
+    }
+
+    fn answer(&self) -> &str {
+        &self.answer
+    }
+
+    fn go_on(&self, left: &Memory) -> Result<(), String> {
+        let stopped = at(&self.steps, left.state)?;
+        let Step { state, answer: undisturbed, .. } = &self.steps[stopped];
+        // Behind the last step nothing is changed.
+        let after = self.steps.get(stopped + 1).unwrap_or(&self.steps[stopped]);
+        let mut memory = left.clone();
+        let Memory { palette, pictures: [a, b], place, .. } = &mut memory;
+        let given = state::of_numbers(left.state);
+        let step = mve::step(&self.film, given, palette, a, b, place, usize::MAX)
+            .map_err(|refusal| format!("the new step is refused: {refusal}"))?;
+        memory.state = state::numbers(step.state());
+        let packet = list::packet_at(&self.film, state);
+        let due = packet.map_or(0, |packet| list::due(&packet, left.place));
+        match (undisturbed, step) {
+            (Stepped::Taken(_), mve::Step::Taken(_)) | (Stepped::Ended(_), mve::Step::Ended(_)) => {
+            }
+            (Stepped::Whole(..), mve::Step::Whole(_, stores)) if stores == due => {}
+            _ => return Err(format!("the new step answers {step:?}, not {undisturbed:?}")),
+        }
+        same(&memory, &after.before)
+    }
+}
+
+/// Whether memory is as it is when nothing stops the call.
+fn same(memory: &Memory, undisturbed: &Memory) -> Result<(), String> {
+    let Memory { palette, pictures: [a, b], place, state } = undisturbed;
+    let differs = [
+        (memory.palette != *palette, "palette"),
+        (memory.pictures[0] != *a, "first picture"),
+        (memory.pictures[1] != *b, "second picture"),
+        (memory.place != *place, "place"),
+        (memory.state != *state, "state"),
+    ];
+    match differs.iter().find(|(differs, _)| *differs) {
+        Some((_, what)) => Err(format!("the {what} is not as it is when nothing is stopped")),
+        None => Ok(()),
+    }
+}
+
+/// No state: of a drawing call, which has none.
+pub const NO_STATE: Numbers = [0; 9];
+
+/// Bytes as an argument.
+fn hex(bytes: &[u8]) -> String {
+    bytes.iter().map(|byte| format!("{byte:02x}")).collect()
+}
+
+/// The bytes of an argument.
+pub fn hex_bytes(word: &str) -> Vec<u8> {
+    let digit = |i: usize| u8::from_str_radix(&word[i..i + 2], 16).expect("two hex digits");
+    (0..word.len()).step_by(2).map(digit).collect()
+}

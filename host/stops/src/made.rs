@@ -1,0 +1,109 @@
+//! Seeded cases: packets and films of every kind of block.
+
+use crate::cases::{Drawing, Walk, NO_STATE};
+use crate::kept::Memory;
+use crate::stopped::LENT;
+use maker::calls::allowance;
+use maker::film::{packet_opcodes, Chunk, Film, Opcode};
+use maker::packet::Draft;
+use maker::{Form, Profile, Seeded, Size};
+
+/// Memory with any colours and any pixels, so that nearly every store changes it.
+pub fn memory(rng: &mut Seeded, lent: usize) -> Memory {
+    let palette = (0..768).map(|_| rng.byte() % 64).collect();
+    let pictures = [rng.bytes(lent), rng.bytes(lent)];
+    Memory { palette, pictures, place: 0, state: NO_STATE }
+}
+
+/// Drawings of a form. The first draws four blocks at once, the second stops inside the first block,
+/// and the third goes on behind a call that was stopped so and stops inside the second block. (A copy
+/// has no vector in some corner of the frame; a solid block stands in for it there.)
+pub fn of_form(rng: &mut Seeded, form: Form) -> [Drawing; 3] {
+    // Code 1 has one store a block, all others 65.
+    let (block, pixels) = if form == Form::Untouched { (1, 0) } else { (65, 29) };
+    let sizes = [Size::new(2, 2), Size::new(2, 1), Size::new(1, 2)];
+    let stores = [(0, usize::MAX), (0, pixels), (pixels, block + pixels)];
+    std::array::from_fn(|i| {
+        let packet = Draft::make(rng, sizes[i], Profile::Only(form)).packet();
+        Drawing::new(packet, memory(rng, LENT), stores[i].0, stores[i].1)
+    })
+}
+
+/// A drawing of any blocks, place and allowance, in a frame of up to 3x3 blocks.
+pub fn drawing(rng: &mut Seeded) -> Drawing {
+    let size = Size::new(rng.between(1, 3), rng.between(1, 3));
+    let profile = rng.pick(&Profile::MANY);
+    let draft = Draft::make(rng, size, profile);
+    let earlier = if rng.one_in(2) { rng.below(draft.stores_from(0) + 1) } else { 0 };
+    let allowed = allowance(rng, size.blocks());
+    Drawing::new(draft.packet(), memory(rng, LENT), earlier, allowed)
+}
+
+/// A walk over a film of two frames, so that either picture is drawn on.
+pub fn walk(rng: &mut Seeded, profile: Profile, allowed: usize) -> Walk {
+    let size = rng.pick(&[Size::new(2, 1), Size::new(1, 2)]);
+    let frames = [frame(rng, size, profile), frame(rng, size, profile)];
+    let [first, second] = frames.map(Vec::from);
+    let first = [vec![init_video(size)], first, vec![Opcode::new(0x01, 0, Vec::new())]];
+    let second = [second, vec![Opcode::new(0x00, 0, Vec::new())]];
+    let chunks = vec![chunk(first.concat()), chunk(second.concat())];
+    let film = Film { size, chunks, tail: Vec::new() };
+    Walk::new(film.bytes(), memory(rng, LENT), allowed)
+}
+
+/// A walk over a film that changes the palette by each of its three opcodes.
+pub fn palette_walk(rng: &mut Seeded) -> Walk {
+    let opcodes = vec![gradients(rng), set_palette(rng), set_palette_compressed(rng)];
+    let film = Film { size: Size::new(1, 1), chunks: vec![chunk(opcodes)], tail: Vec::new() };
+    Walk::new(film.bytes(), memory(rng, LENT), 0)
+}
+
+/// A chunk of these opcodes.
+pub fn chunk(opcodes: Vec<Opcode>) -> Chunk {
+    Chunk { opcodes, ..Chunk::default() }
+}
+
+/// Opcode 05.
+pub fn init_video(size: Size) -> Opcode {
+    let sides = [size.width(), size.height()].map(|side| (side as u16).to_le_bytes());
+    Opcode::new(0x05, 0, sides.concat())
+}
+
+/// Map, video data and send.
+pub fn frame(rng: &mut Seeded, size: Size, profile: Profile) -> [Opcode; 3] {
+    let packet = Draft::make(rng, size, profile).packet();
+    let [map, video] = packet_opcodes(rng, packet);
+    [map, video, Opcode::new(0x07, 0, vec![0; 4])]
+}
+
+/// Opcode 0B: gradients of few entries, or of one or none; the second lies over the first, or not.
+pub fn gradients(rng: &mut Seeded) -> Opcode {
+    let mut gradient = |base| {
+        let (rows, columns) = rng.pick(&[(1, 1), (1, 4), (3, 1), (3, 2), (2, 3), (0, 5)]);
+        [base, rows, columns]
+    };
+    Opcode::new(0x0B, 0, [gradient(100), gradient(103)].concat())
+}
+
+/// Opcode 0C, with up to eight entries.
+pub fn set_palette(rng: &mut Seeded) -> Opcode {
+    let (start, count) = (rng.below(249), rng.below(9));
+    let words = [start as u16, count as u16].map(u16::to_le_bytes).concat();
+    Opcode::new(0x0C, 0, [words, components(rng, 3 * count)].concat())
+}
+
+/// Opcode 0D, with some entries in two of its groups.
+pub fn set_palette_compressed(rng: &mut Seeded) -> Opcode {
+    let groups = [rng.below(16), 16 + rng.below(16)];
+    let mut body = Vec::new();
+    for group in 0..32 {
+        let mask = if groups.contains(&group) { rng.byte() & rng.byte() } else { 0 };
+        body.push(mask);
+        body.extend(components(rng, 3 * mask.count_ones() as usize));
+    }
+    Opcode::new(0x0D, 0, body)
+}
+
+fn components(rng: &mut Seeded, count: usize) -> Vec<u8> {
+    (0..count).map(|_| rng.byte() % 64).collect()
+}

@@ -1,0 +1,69 @@
+//! A long run by hand, `stops SEED COUNT`: steps so many drawings, walks over films and changes of the
+//! palette, and kills a player so often. With other arguments it is the process that is stopped.
+
+use maker::calls::allowance;
+use maker::{Profile, Seeded};
+use std::env;
+use std::io;
+use std::path::Path;
+use std::process::ExitCode;
+use stops::cases::Case;
+use stops::kills::{self, Player};
+use stops::watch::{watch, Counts};
+use stops::{made, stopped};
+
+fn main() -> ExitCode {
+    let arguments: Vec<String> = env::args().skip(1).collect();
+    let words: Vec<&str> = arguments.iter().map(String::as_str).collect();
+    let outcome = match words[..] {
+        ["--play", player, film, allowed] => played(player, film, allowed),
+        [first, ..] if first.starts_with("--") => stopped::run(&arguments),
+        [seed, count] => match (seed.parse(), count.parse()) {
+            (Ok(seed), Ok(count)) => long(seed, count),
+            _ => return usage(),
+        },
+        _ => return usage(),
+    };
+    match outcome {
+        Ok(text) => {
+            print!("{text}");
+            ExitCode::SUCCESS
+        }
+        Err(error) => {
+            eprintln!("stops: {error}");
+            ExitCode::FAILURE
+        }
+    }
+}
+
+/// Nothing is written beside the pictures.
+fn played(player: &str, film: &str, allowed: &str) -> io::Result<String> {
+    let player = Player::named(player).ok_or_else(|| io::Error::other("no such player"))?;
+    let allowed = allowed.parse().map_err(io::Error::other)?;
+    kills::play(player, film, allowed).map(|()| String::new())
+}
+
+fn usage() -> ExitCode {
+    eprintln!("usage: stops SEED COUNT");
+    ExitCode::from(2)
+}
+
+/// Steps so many drawings and walks, and kills so often; what was seen, in words.
+fn long(seed: u64, count: usize) -> io::Result<String> {
+    let program = env::current_exe()?;
+    let rng = &mut Seeded::new(seed);
+    let (mut drawings, mut walks) = (Counts::default(), Counts::default());
+    for number in 0..count {
+        let (profile, allowed) = (rng.pick(&Profile::MANY), allowance(rng, 2).max(65));
+        drawings += stepped(&program, &made::drawing(rng), number)?;
+        walks += stepped(&program, &made::walk(rng, profile, allowed), number)?;
+        walks += stepped(&program, &made::palette_walk(rng), number)?;
+    }
+    let killed = kills::kill(&program, Player::Right, seed, count)?;
+    Ok(format!("drawings: {drawings:?}\nwalks: {walks:?}\nkills: {killed:?}\n"))
+}
+
+fn stepped(program: &Path, case: &dyn Case, number: usize) -> io::Result<Counts> {
+    let counts = watch(program, case)?.good();
+    counts.map_err(|fault| io::Error::other(format!("case {number}, {fault}")))
+}

@@ -1,0 +1,89 @@
+//! The process that is stopped: what it does with the memory that it is given.
+
+use crate::cases::hex_bytes;
+use crate::ffi;
+use crate::kept::Kept;
+use crate::state;
+use crate::wrong::{self, Wrong};
+use mve::{Drawn, State, Step};
+use std::io;
+
+/// The bytes of each picture that are lent to a process that is stepped: more than the pixels of any
+/// frame that is drawn there.
+pub const LENT: usize = 600;
+
+/// Runs a case with these arguments, as [`crate::cases::Case`] gives them, between two stops. What it
+/// answers.
+pub fn run(arguments: &[String]) -> io::Result<String> {
+    let words: Vec<&str> = arguments.iter().map(String::as_str).collect();
+    let kept = Kept::<LENT>::given()?;
+    ffi::trace_me()?;
+    match words[..] {
+        ["--draw", width, height, allowed, map, data] => {
+            let [width, height, allowed] = [width, height, allowed].map(number);
+            let (map, data) = (hex_bytes(map), hex_bytes(data));
+            ffi::stop();
+            kept.enter();
+            let Kept { a, b, place, .. } = &mut *kept;
+            let drawn = mve::draw(width, height, &map, &data, a, b, place, allowed);
+            kept.leave();
+            ffi::stop();
+            Ok(match drawn.map_err(io::Error::other)? {
+                Drawn::Whole { stores } => format!("whole {stores}\n"),
+                Drawn::Unfinished { stores } => format!("unfinished {stores}\n"),
+            })
+        }
+        ["--film", allowed, film] => {
+            let (allowed, film) = (number(allowed), hex_bytes(film));
+            ffi::stop();
+            let steps = walk(kept, &film, allowed, |_, _| Ok(()))?;
+            ffi::stop();
+            Ok(format!("ended after {steps} steps\n"))
+        }
+        ["--wrong", name, width, height, map, data] => {
+            let wrong = Wrong::named(name).expect("a wrong program");
+            let [width, height] = [width, height].map(number);
+            let stores =
+                wrong::stores(wrong, kept, width, height, &hex_bytes(map), &hex_bytes(data));
+            ffi::stop();
+            kept.enter();
+            wrong::make(&stores, kept);
+            kept.leave();
+            ffi::stop();
+            Ok(format!("whole {}\n", stores.len()))
+        }
+        _ => Err(io::Error::other("arguments of no case")),
+    }
+}
+
+fn number(word: &str) -> usize {
+    word.parse().expect("a number")
+}
+
+/// Walks over a film from the saved state to its end, as the example players do: a picture that the
+/// film sends is sent before the state is saved. How many steps it took.
+pub fn walk<const LENT: usize>(
+    kept: &mut Kept<LENT>,
+    film: &[u8],
+    allowed: usize,
+    mut send: impl FnMut(&Kept<LENT>, &State) -> io::Result<()>,
+) -> io::Result<usize> {
+    for steps in 1.. {
+        let state = state::of_numbers(kept.saved_state());
+        kept.enter();
+        let Kept { palette, a, b, place, .. } = &mut *kept;
+        let step = mve::step(film, state, palette, a, b, place, allowed);
+        kept.leave();
+        match step.map_err(io::Error::other)? {
+            Step::Unfinished(..) => {}
+            Step::Ended(_) => return Ok(steps),
+            Step::Taken(next) | Step::Whole(next, _) => {
+                if state.unsent && !next.unsent {
+                    send(kept, &next)?;
+                }
+                kept.save(state::numbers(next));
+            }
+        }
+    }
+    unreachable!("no film has so many steps")
+}

@@ -1,0 +1,14 @@
+//! A player that is killed at random moments, most of them inside a step: the next process goes on,
+//! and all pictures are sent, each as the second decoder has it.
+
+use std::path::Path;
+use stops::kills::{kill, Player};
+
+#[test]
+fn killed_players_go_on() {
+    let killed = kill(Path::new(env!("CARGO_BIN_EXE_stops")), Player::Right, 1, 300);
+    let killed = killed.unwrap_or_else(|error| panic!("{error}"));
+    println!("{killed:?}");
+    assert!(killed.kills >= 300 && killed.films >= 2 && killed.sent >= 16);
+    assert!(killed.inside * 2 > killed.kills && killed.drawing >= 100, "{killed:?}");
+}

@@ -1,0 +1,51 @@
+//! Programs that are wrong on purpose are noticed: without this, a test that looks at nothing would
+//! pass, too.
+
+use maker::{Packet, Seeded};
+use std::path::Path;
+use stops::cases::Drawing;
+use stops::kills::{kill, Player};
+use stops::made;
+use stops::stopped::LENT;
+use stops::watch::{watch, Watched};
+use stops::wrong::{Wrong, WrongDrawing};
+
+/// Two blocks: the left one is copied from where the right one is drawn later.
+fn drawn(wrong: Wrong) -> Watched {
+    let packet = Packet { width: 16, height: 8, map: vec![0xE2], data: vec![0x00, 0x07] };
+    let memory = made::memory(&mut Seeded::new(1), LENT);
+    let case = WrongDrawing { right: Drawing::new(packet, memory, 0, usize::MAX), wrong };
+    let watched = watch(Path::new(env!("CARGO_BIN_EXE_stops")), &case);
+    watched.unwrap_or_else(|error| panic!("{wrong:?}: {error}"))
+}
+
+#[test]
+fn the_right_order_is_taken() {
+    let counts = drawn(Wrong::Nothing).good().expect("nothing is wrong");
+    assert!(counts.stores == 130 && counts.changes >= 125, "{counts:?}");
+}
+
+#[test]
+fn wrong_orders_are_noticed() {
+    for wrong in Wrong::ALL {
+        let noticed = drawn(wrong).disorder.is_some();
+        assert_eq!(noticed, wrong != Wrong::Nothing, "{wrong:?}");
+    }
+}
+
+/// Pixels of one block may be drawn in any order, and twice: it is drawn again whole.
+#[test]
+fn wrong_ends_are_noticed() {
+    for wrong in Wrong::ALL {
+        let ends_well = matches!(wrong, Wrong::Nothing | Wrong::PixelsSwapped | Wrong::PixelTwice);
+        assert_eq!(drawn(wrong).wrong_end.is_none(), ends_well, "{wrong:?}");
+    }
+}
+
+#[test]
+fn a_killed_player_that_forgets_the_place_is_noticed() {
+    let killed = kill(Path::new(env!("CARGO_BIN_EXE_stops")), Player::BeginsAnew, 1, 100);
+    let noticed = killed.expect_err("frames are drawn twice").to_string();
+    let faults = ["memory is as no prefix", "not picture"];
+    assert!(faults.iter().any(|fault| noticed.starts_with(fault)), "{noticed}");
+}

@@ -1,0 +1,118 @@
+//! The exported calls, stopped after every machine instruction: memory is always as a prefix of the
+//! listed stores leaves it, and a new call ends as if nothing had been stopped.
+
+use maker::{Form, Profile, Seeded};
+use reference::packet::blocks;
+use std::path::Path;
+use stops::cases::{Case, Drawing, Walk};
+use stops::list::Store;
+use stops::made;
+use stops::watch::{watch, Counts};
+
+/// Steps a case. Nothing was looked at where no instruction was stepped.
+#[track_caller]
+fn stepped(name: &str, case: &dyn Case) -> Counts {
+    let watched = watch(Path::new(env!("CARGO_BIN_EXE_stops")), case);
+    let watched = watched.unwrap_or_else(|error| panic!("{name}: {error}"));
+    let counts = watched.good().unwrap_or_else(|fault| panic!("{name}: {fault}"));
+    assert!(counts.instructions >= 100, "{name}: {counts:?}");
+    counts
+}
+
+/// The forms of a packet's blocks.
+fn forms(drawing: &Drawing) -> Vec<Form> {
+    let maker::Packet { width, height, map, data } = drawing.packet();
+    let blocks = blocks(*width, *height, map, data).expect("a valid packet");
+    blocks.iter().map(|block| Form::of(block.code, block.data).expect("a form")).collect()
+}
+
+/// The form of the block in which a drawing stops.
+fn stopped_in(drawing: &Drawing) -> Option<Form> {
+    let is_place = |store: &&Store| matches!(store, Store::Place(_));
+    let block = drawing.found().place + drawing.stores().iter().filter(is_place).count();
+    let in_block = matches!(drawing.stores().last(), Some(Store::Pixel { .. }));
+    in_block.then(|| forms(drawing)[block])
+}
+
+#[test]
+fn drawings_of_every_form() {
+    let mut all = Counts::default();
+    for (seed, form) in (0..).zip(Form::ALL) {
+        let drawings = made::of_form(&mut Seeded::new(seed), form);
+        assert!(forms(&drawings[0]).contains(&form), "{form:?}");
+        let has_pixels = form != Form::Untouched;
+        let stops = drawings.iter().any(|drawing| stopped_in(drawing) == Some(form));
+        assert_eq!(stops, has_pixels, "{form:?}");
+        for (number, drawing) in drawings.iter().enumerate() {
+            let counts = stepped(&format!("{form:?}, {number}"), drawing);
+            // However wide the stores that the compiler merges into one: a few are seen.
+            let least =
+                if has_pixels { drawing.stores().len() / 32 } else { drawing.stores().len() };
+            assert!(counts.changes >= least, "{form:?}, {number}: {counts:?}");
+            all += counts;
+        }
+    }
+    println!("{all:?}");
+    assert!(all.cases == 69 && all.instructions >= 30_000 && all.changes >= 1000);
+}
+
+#[test]
+fn drawings_of_any_blocks() {
+    let mut all = Counts::default();
+    for seed in 0..50 {
+        let drawing = made::drawing(&mut Seeded::new(seed));
+        all += stepped(&format!("seed {seed}"), &drawing);
+    }
+    println!("{all:?}");
+    assert!(all.instructions >= 30_000 && all.changes >= 500);
+}
+
+/// The second block of each frame is begun by one step and drawn by the next.
+#[test]
+fn films_of_every_form() {
+    let mut all = Counts::default();
+    for (seed, form) in (0..).zip(Form::ALL) {
+        let walk = made::walk(&mut Seeded::new(seed), Profile::Only(form), 65 + 29);
+        all += stepped(&format!("{form:?}"), &walk);
+    }
+    println!("{all:?}");
+    assert!(all.instructions >= 50_000 && all.changes >= 1000);
+}
+
+#[test]
+fn films_of_any_blocks() {
+    let mut all = Counts::default();
+    for (seed, profile) in (0..).zip(Profile::MANY) {
+        for allowed in [65, usize::MAX] {
+            let walk = made::walk(&mut Seeded::new(seed), profile, allowed);
+            all += stepped(&format!("{profile:?}, allowed {allowed}"), &walk);
+        }
+    }
+    println!("{all:?}");
+    assert!(all.instructions >= 30_000 && all.changes >= 500);
+}
+
+/// Among them gradients of one entry and two that overlap.
+#[test]
+fn palettes() {
+    let mut all = Counts::default();
+    let (mut black, mut twice) = (0, 0);
+    for seed in 0..10 {
+        let walk: Walk = made::palette_walk(&mut Seeded::new(seed));
+        let stores = walk.stores();
+        black += stores.iter().filter(|store| matches!(store, Store::Black { .. })).count();
+        twice += stores.iter().filter(|&store| overlaps(store, stores)).count();
+        all += stepped(&format!("seed {seed}"), &walk);
+    }
+    println!("{all:?}, {black} gradients of one entry, {twice} bytes stored twice");
+    assert!(all.instructions >= 10_000 && all.changes >= 200 && black >= 2 && twice >= 5);
+}
+
+/// Whether a byte of the palette is stored with another value, too.
+fn overlaps(store: &Store, stores: &[Store]) -> bool {
+    let Store::Palette { index, value } = *store else { return false };
+    stores.iter().any(|other| match *other {
+        Store::Palette { index: same, value: another } => same == index && another != value,
+        _ => false,
+    })
+}
