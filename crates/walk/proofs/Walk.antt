@@ -29,30 +29,12 @@ use Rattle.next.specs.Next as found
 use Rattle.next.proofs.Standing.{found-ready, found-chunk}
 use Rattle.opcodes.specs.Opcodes.{Answer, Step, taken, whole, unfinished, ended, refused, quiet, sizeAnswer, colourOf, quietAnswer, paletteAnswer, drawnAs}
 use Rattle.film.specs.Film.{Lent, withPalette, withPictures, swap, Outcome, after, called, drawSecond, drawOn, part, drawBy, update, act, standing, stepOf}
-use Rattle.walk.specs.Walk.{Forward, Moves, Same, Keeps, GoesTo, Walked, none, more}
+use Rattle.walk.specs.Walk.{Forward, Moves, Still, Keeps, GoesTo, Walked, none, more}
 
 -- what holds of a step
 record Good (film : ℕ) (st : State) (l : Lent) (o : Outcome) : Type 0 where
   moves : Moves film st (o .step .answer)
   keeps : Keeps l o
-
--- nothing lent was touched
-untouched : (l : Lent) (x : Answer) → Same x l l
-unfolding Same
-untouched l (taken s) = tt
-untouched l (whole s) = tt
-untouched l (unfinished s) = tt
-untouched l (ended s) = refl
-untouched l (refused n k) = refl
-
--- the same, the pictures the other way round
-swapped : (x : Answer) (l m : Lent) → Same x (swap l) m → Same x l (swap m)
-unfolding Same
-swapped (taken s) l m e = tt
-swapped (whole s) l m e = tt
-swapped (unfinished s) l m e = tt
-swapped (ended s) l m e = ap (λ (x : Lent). swap x) e
-swapped (refused n k) l m e = ap (λ (x : Lent). swap x) e
 
 -- ---- an opcode whose body ends at p
 
@@ -105,15 +87,15 @@ module _ (film : List ℕ) (st : State) (p : ℕ) (rises : st .cursor .position 
       by false false false = on-behind
 
   quiet-good : (l : Lent) (x : Answer) → Moves (length film) st x → Good (length film) st l (after (quiet x) l)
-  quiet-good l x m = record { moves = m; keeps = untouched l x }
+  quiet-good l x m = record { moves = m; keeps = λ s. refl }
 
   update-good : (u : Update) (l : Lent) → Good (length film) st l (update st p u l)
-  unfolding paletteAnswer paletteAfter onAccept Moves Same
+  unfolding paletteAnswer paletteAfter onAccept Moves Still
   update-good u l = by (verdictOn u (l .palette)) refl
     where
       by : (v : Verdict) → verdictOn u (l .palette) ≡ v
           → Good (length film) st l (after (quiet (paletteAnswer st p v)) (withPalette l (onAccept v (applied (u .stores) (l .palette)) (l .palette))))
-      by accept e = record { moves = on-behind; keeps = tt }
+      by accept e = record { moves = on-behind; keeps = λ s. absurd s }
       by (refuse n k) e = quiet-good l (refused n k) tt
 
   -- 11, on the second picture
@@ -121,7 +103,7 @@ module _ (film : List ℕ) (st : State) (p : ℕ) (rises : st .cursor .position 
       → Good (length film) st l
       (after (drawnAs st p (outcome d (memory (l .second) (l .place)) v .answer) (outcome d (memory (l .second) (l .place)) v .count))
       (withPictures l (l .first) (leave d (memory (l .second) (l .place)) v .picture) (leave d (memory (l .second) (l .place)) v .place)))
-  unfolding drawnAs Moves Same outcome answered leave
+  unfolding drawnAs Moves Still outcome answered leave
   plan-good d l (denied r) = quiet-good l (refused (r .number) (r .block)) tt
   plan-good d l (allows n) = by (eqb (afterStores d (memory (l .second) (l .place)) n .place) (d .blocks))
     where
@@ -129,8 +111,8 @@ module _ (film : List ℕ) (st : State) (p : ℕ) (rises : st .cursor .position 
           → Good (length film) st l
           (after (drawnAs st p (answered t) (count d (memory (l .second) (l .place)) n))
           (withPictures l (l .first) (afterStores d (memory (l .second) (l .place)) n .picture) (afterStores d (memory (l .second) (l .place)) n .place)))
-      by true = record { moves = on-finished; keeps = tt }
-      by false = record { moves = refl; keeps = tt }
+      by true = record { moves = on-finished; keeps = λ s. absurd s }
+      by false = record { moves = refl; keeps = λ s. absurd s }
 
   called-good : (q : Request) (l : Lent) → Good (length film) st l (called st p q l)
   unfolding called
@@ -146,7 +128,7 @@ module _ (film : List ℕ) (st : State) (p : ℕ) (rises : st .cursor .position 
       by : (t : Bool)
           → Good (length film) st l (cond t (called st p (q (l .first)) l) (after (called st p (q (l .second)) (swap l) .step) (swap (called st p (q (l .second)) (swap l) .lent))))
       by true = called-good (q (l .first)) l
-      by false = let g = called-good (q (l .second)) (swap l) in record { moves = g .moves; keeps = swapped _ _ _ (g .keeps) }
+      by false = let g = called-good (q (l .second)) (swap l) in record { moves = g .moves; keeps = λ s. ap (λ (m : Lent). swap m) (g .keeps s) }
 
   by-good : (m : Map) (body : List ℕ) (n : ℕ) (l : Lent) → Good (length film) st l (drawBy m film st body p n l)
   unfolding drawBy Moves
@@ -158,7 +140,7 @@ module _ (film : List ℕ) (st : State) (p : ℕ) (rises : st .cursor .position 
       by false = on-good (part film start (start + long)) (part body 14 (length body)) n l
 
   act-good : (kind version s : ℕ) (body : List ℕ) (n : ℕ) (l : Lent) → Good (length film) st l (act film st kind version s body p n l)
-  unfolding act Moves Same
+  unfolding act Moves Still
   act-good kind version s body n l = by (eqb kind 15) (eqb kind 17) (eqb kind 11) (eqb kind 12) (eqb kind 13)
     where
       by : (t15 t17 t11 t12 t13 : Bool)
@@ -169,7 +151,7 @@ module _ (film : List ℕ) (st : State) (p : ℕ) (rises : st .cursor .position 
           (cond t12 (update st p (setPalette body) l)
           (cond t13 (update st p (setPaletteCompressed body) l)
           (after (quiet (quietAnswer (length film) st kind version body p)) l))))))
-      by true t17 t11 t12 t13 = record { moves = on-mapped (Part s (p - s)); keeps = tt }
+      by true t17 t11 t12 t13 = record { moves = on-mapped (Part s (p - s)); keeps = λ s. absurd s }
       by false true t11 t12 t13 = by-good (st .map) body n l
       by false false true t12 t13 = update-good (createGradient body) l
       by false false false true t13 = update-good (setPalette body) l
@@ -180,12 +162,12 @@ module _ (film : List ℕ) (st : State) (p : ℕ) (rises : st .cursor .position 
 
 module _ (film : List ℕ) (st : State) (n : ℕ) (l : Lent) where
   standing-good : (s : Standing) → nextOf film st (length (l .palette)) (length (l .first)) (length (l .second)) ≡ s → Good (length film) st l (standing s film st n l)
-  unfolding standing Moves Same at
-  standing-good (found.refused i k) e = record { moves = tt; keeps = refl }
-  standing-good found.ended e = record { moves = refl; keeps = refl }
+  unfolding standing Moves Still at
+  standing-good (found.refused i k) e = record { moves = tt; keeps = λ s. refl }
+  standing-good found.ended e = record { moves = refl; keeps = λ s. refl }
   standing-good (found.chunk c) e =
       let f = found-chunk film st (length (l .palette)) (length (l .first)) (length (l .second)) c e in
-      record { moves = record { rises = omega (arith, f .1, f .2 .behind); ordered = f .2 .ordered; inside = f .2 .inside }; keeps = tt }
+      record { moves = record { rises = omega (arith, f .1, f .2 .behind); ordered = f .2 .ordered; inside = f .2 .inside }; keeps = λ s. refl }
   standing-good (found.opcode o) e =
       let f = found-ready film st (length (l .palette)) (length (l .first)) (length (l .second)) o e in
       act-good film st (o .start + o .long) (omega (arith, f .1 .behind)) (f .1 .within) (f .0 .inside) (o .kind) (o .version) (o .start)

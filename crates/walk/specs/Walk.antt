@@ -23,16 +23,16 @@ Moves film st (unfinished s) = s ≡ st
 Moves film st (ended s) = s ≡ st
 Moves film st (refused n k) = Unit
 
--- what is lent, before and after a step with this answer: the same where it was refused or at the end
-unfoldable pub Same : Answer → Lent → Lent → Type 0
-Same (taken s) l m = Unit
-Same (whole s) l m = Unit
-Same (unfinished s) l m = Unit
-Same (ended s) l m = m ≡ l
-Same (refused n k) l m = m ≡ l
+-- the answers of a step that changes nothing lent: refused, or at the film's end
+unfoldable pub Still : Answer → Type 0
+Still (taken s) = ⊥
+Still (whole s) = ⊥
+Still (unfinished s) = ⊥
+Still (ended s) = Unit
+Still (refused n k) = Unit
 
 abbrev pub Keeps : Lent → Outcome → Type 0
-Keeps l o = Same (o .step .answer) l (o .lent)
+Keeps l o = Still (o .step .answer) → o .lent ≡ l
 
 -- ---- walks
 
