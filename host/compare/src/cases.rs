@@ -7,6 +7,7 @@ use maker::packet_damage::{damaged, Damage};
 use maker::states::{self, Start};
 use maker::{film_damage, Form, Packet, Profile, Seeded, Size};
 use reference::film::{State, Stepped};
+use reference::sound::NO_STREAM;
 
 /// The packet of a case: valid, damaged or hostile.
 pub fn packet(seed: u64, number: u64) -> Packet {
@@ -122,10 +123,11 @@ fn from_middle(rng: &mut Seeded) -> Walk {
 /// The pixels of a film's frames; 0 where no step gives it a size. Pictures without a byte do until
 /// then.
 fn pixels(film: &[u8]) -> usize {
-    let Ok(state) = reference::film::open(film) else { return 0 };
+    let Ok(state) = reference::film::open(film, NO_STREAM) else { return 0 };
     let (palette, picture_a, picture_b) = (vec![0; 768], Vec::new(), Vec::new());
-    let mut walk = Start { state, palette, picture_a, picture_b, place: 0, allowed: 0 };
-    while let Stepped::Taken(state) = walk.step(film) {
+    let (place, room, allowed) = (0, Vec::new(), 0);
+    let mut walk = Start { state, palette, picture_a, picture_b, place, room, allowed };
+    while let Stepped::Taken(state, _) = walk.step(film) {
         walk.state = state;
     }
     walk.state.width * walk.state.height

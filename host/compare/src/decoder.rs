@@ -3,6 +3,7 @@
 use maker::states::Start;
 use maker::Packet;
 use reference::film::{self, Span, State, Stepped};
+use reference::sound::{Sound, NO_STREAM};
 use reference::{Drawn, Refusal};
 
 /// What a check answers.
@@ -49,7 +50,7 @@ pub trait Decoder {
         allowed: usize,
     ) -> Answer;
 
-    /// Opens a film.
+    /// Opens a film, for no stream of sound.
     fn open(&self, film: &[u8]) -> Opened;
 
     /// Takes a step over a film: from the state in `walk`, with what is lent there. The state that
@@ -93,7 +94,7 @@ impl Decoder for Proved {
     }
 
     fn step(&self, film: &[u8], walk: &mut Start) -> Walked {
-        let Start { state, palette, picture_a, picture_b, place, allowed } = walk;
+        let Start { state, palette, picture_a, picture_b, place, room: _, allowed } = walk;
         let stepped =
             mve::step(film, own_state(state), palette, picture_a, picture_b, place, *allowed)
                 .map_err(common_refusal)?;
@@ -122,11 +123,12 @@ fn common_drawn(drawn: mve::Drawn) -> Drawn {
 fn common_state(state: mve::State) -> State {
     let mve::State { position, chunk_end, width, height, front, map, unsent } = state;
     let map = map.map(|(start, length)| Span { start, length });
-    State { position, chunk_end, width, height, front, map, unsent }
+    let sound = Sound::new(NO_STREAM);
+    State { position, chunk_end, width, height, front, map, unsent, sound }
 }
 
 fn own_state(state: &State) -> mve::State {
-    let State { position, chunk_end, width, height, front, map, unsent } = *state;
+    let State { position, chunk_end, width, height, front, map, unsent, sound: _ } = *state;
     let map = map.map(|Span { start, length }| (start, length));
     mve::State { position, chunk_end, width, height, front, map, unsent }
 }
@@ -158,12 +160,12 @@ impl Decoder for Second {
     }
 
     fn open(&self, film: &[u8]) -> Opened {
-        film::open(film)
+        film::open(film, NO_STREAM)
     }
 
     fn step(&self, film: &[u8], walk: &mut Start) -> Walked {
         let (step, state) = match walk.step(film) {
-            Stepped::Taken(state) => (Step::Taken, state),
+            Stepped::Taken(state, _) => (Step::Taken, state),
             Stepped::Whole(state, stores) => (Step::Whole(stores), state),
             Stepped::Unfinished(state, stores) => (Step::Unfinished(stores), state),
             Stepped::Ended(state) => (Step::Ended, state),

@@ -41,7 +41,7 @@ impl<A: Decoder, B: Decoder> Comparison<A, B> {
 fn lent(walk: &Walk, state: State) -> Start {
     let [picture_a, picture_b] = walk.pictures.clone();
     let (palette, place) = (walk.palette.clone(), walk.place);
-    Start { state, palette, picture_a, picture_b, place, allowed: 0 }
+    Start { state, palette, picture_a, picture_b, place, room: Vec::new(), allowed: 0 }
 }
 
 /// All that can be seen after a step.
