@@ -1,9 +1,10 @@
 //! Films with sound for a chosen stream: opcodes 03, 08 and 09 between those of the pictures (02,
 //! W5).
 
-use crate::film::{self, Film, Opcode, SOUND};
+use crate::film::{self, Chunk, Film, Opcode, SOUND};
 use crate::film_damage;
 use crate::seeded::Seeded;
+use crate::size::Size;
 use reference::steps::STEPS;
 
 /// A format that opcode 03 can give.
@@ -233,6 +234,23 @@ pub fn hostile(rng: &mut Seeded) -> Vec<u8> {
         }
         opcode
     })
+}
+
+/// A film of so many packets of compressed sound, mono and stereo, each behind a 03 of its own and
+/// [`without_wrap`]: libavcodec's decoder takes every packet as a first one, and clips.
+pub fn restarted(rng: &mut Seeded, stream: usize, packets: usize) -> Film {
+    let mut track = Track::new(stream);
+    let mut chunks = Vec::new();
+    for _ in 0..packets {
+        let stereo = rng.one_in(2);
+        let format = Format { stereo, wide: true, compressed: true };
+        let count = count(rng, 8000, format).max(format.channels());
+        let start = track.start(rng, format);
+        let data = without_wrap(rng, format.channels(), count);
+        let opcodes = vec![start, track.packet(rng, 0x08, count, data)];
+        chunks.push(Chunk { opcodes, ..Chunk::default() });
+    }
+    Film { size: Size::new(1, 1), stream, chunks, tail: Vec::new() }
 }
 
 /// The data of a first compressed 08 with so many samples: start words and steps by which no sum

@@ -380,6 +380,24 @@ fn without_wrap() {
     assert_eq!(steps.len(), 256);
 }
 
+/// Films for libavcodec's decoder are valid, every packet in them is a first compressed one, and both
+/// numbers of channels are there.
+#[test]
+fn restarted() {
+    for seed in 0..20 {
+        let film = sound::restarted(&mut Seeded::new(seed), 5, 50);
+        let mut counts = Counts::default();
+        let ended = run(&film.bytes(), 5, |head, state, _| {
+            counts.note(format!("{:02} {}", head.kind, state.sound.stereo));
+            assert!(head.kind == 0x03 || words(&state.sound).starts_with("first compressed"));
+        });
+        assert!(ended.is_ok(), "seed {seed}: {ended:?}");
+        let times = |kind: &str| counts.0.get(kind).copied().unwrap_or(0);
+        assert_eq!(times("08 false") + times("08 true"), 50, "seed {seed}");
+        assert!(times("08 false") > 0 && times("08 true") > 0, "seed {seed}");
+    }
+}
+
 /// A film of packets of one format, each in a chunk of its own, is taken.
 #[test]
 fn every_format_alone() {
