@@ -290,7 +290,7 @@ fn every_start() {
                 expected.state.position = expected.state.chunk_end;
                 expected.palette[3 * start..][..3 * count].fill(7);
             }
-            let answer = if taken { Ok(Step::Taken) } else { Err(Refusal::new(7)) };
+            let answer = if taken { Ok(Step::Taken(0)) } else { Err(Refusal::new(7)) };
             assert!(step(&film, &found) == (answer, expected), "{count} from {start}");
         }
     }
