@@ -1,5 +1,5 @@
 //! Times of the proved drawing call beside libavcodec's decoder, the second decoder and a copy of
-//! the picture, all on the same frames, whose pictures are compared.
+//! the picture, all on the same frames, whose pictures are compared. Sound is compared, too.
 
 mod allowance;
 mod blocks;
@@ -12,6 +12,7 @@ mod measure;
 mod mirror;
 mod program;
 mod report;
+mod sound;
 mod table;
 
 use allowance::Cuts;
@@ -119,7 +120,7 @@ impl Run {
     }
 }
 
-/// Compares the pictures of everything that is measured.
+/// Compares the pictures of everything that is measured, and the sound.
 fn quick(seed: u64, rounds: usize) -> Result<(), String> {
     let Run { benches, cuts, series } = Run::new(seed, rounds)?;
     let (kinds, lists, sizes) = (benches.len(), cuts.len() * cuts[0].pieces.len(), series.len());
@@ -130,6 +131,12 @@ fn quick(seed: u64, rounds: usize) -> Result<(), String> {
     match libav::version() {
         Ok(version) => println!("bench: libavcodec {version} draws the same of every kind"),
         Err(why) => println!("bench: not compared with libavcodec: {why}"),
+    }
+    match sound::compare(seed)? {
+        Some(sound::Compared { packets, samples }) => {
+            println!("bench: it decodes the same {samples} samples of {packets} packets of sound");
+        }
+        None => println!("bench: sound is not compared: libavcodec's decoder of it is not there"),
     }
     Ok(())
 }

@@ -7,6 +7,7 @@ use maker::packet::Draft;
 use maker::states::Start;
 use maker::{Form, Packet, Profile, Seeded, Size};
 use reference::film::{open, Span, State};
+use reference::sound::NO_STREAM;
 use reference::Refusal;
 use std::cmp::Ordering;
 use std::collections::BTreeSet;
@@ -147,18 +148,19 @@ fn film_of(kind: u8, version: u8, body: &[u8], last: bool) -> Vec<u8> {
         opcodes.push(Opcode::new(0x01, 0, Vec::new()));
     }
     let chunks = vec![Chunk { opcodes, ..Chunk::default() }];
-    Film { size: Size::new(1, 1), chunks, tail: vec![code] }.bytes()
+    Film { size: Size::new(1, 1), stream: NO_STREAM, chunks, tail: vec![code] }.bytes()
 }
 
 /// A step at that opcode, with memory of any bytes.
 fn lent(rng: &mut Seeded, film: &[u8]) -> Start {
-    let opened = open(film).expect("a header");
+    let opened = open(film, NO_STREAM).expect("a header");
     Start {
         state: State { position: 30, chunk_end: film.len() - 1, ..opened },
         palette: rng.bytes(768),
         picture_a: rng.bytes(64),
         picture_b: rng.bytes(64),
         place: 3,
+        room: Vec::new(),
         allowed: 312_000,
     }
 }
@@ -288,7 +290,7 @@ fn every_start() {
                 expected.state.position = expected.state.chunk_end;
                 expected.palette[3 * start..][..3 * count].fill(7);
             }
-            let answer = if taken { Ok(Step::Taken) } else { Err(Refusal::new(7)) };
+            let answer = if taken { Ok(Step::Taken(0)) } else { Err(Refusal::new(7)) };
             assert!(step(&film, &found) == (answer, expected), "{count} from {start}");
         }
     }

@@ -8,8 +8,9 @@ use maker::film::{self, packet_opcodes, Chunk, Film, Opcode};
 use maker::film_damage::{self, Damage};
 use maker::packet::Draft;
 use maker::{demo, Profile, Seeded, Size};
-use reference::film::{open, step, Stepped};
+use reference::film::{open, step, Lent, Stepped};
 use reference::pictures::{self, Played};
+use reference::sound::NO_STREAM;
 use std::collections::{BTreeMap, BTreeSet};
 
 const ALLOWANCES: [usize; 4] = [65, 66, 1000, 312_000];
@@ -28,18 +29,25 @@ fn largest(rng: &mut Seeded, frames: usize) -> Film {
         opcodes.push(Opcode::new(0x07, 0, vec![0; 4]));
         chunks.push(Chunk { opcodes, ..Chunk::default() });
     }
-    Film { size, chunks, tail: Vec::new() }
+    Film { size, stream: NO_STREAM, chunks, tail: Vec::new() }
 }
 
 /// How often a player with this allowance is stopped.
 fn stops(film: &[u8], allowance: usize) -> usize {
     let (mut palette, mut place) = ([0; 768], 0);
     let (mut a, mut b) = (vec![0; 640 * 480], vec![0; 640 * 480]);
-    let mut state = open(film).expect("a header");
+    let mut state = open(film, NO_STREAM).expect("a header");
     let mut stops = 0;
     loop {
-        match step(film, state, &mut palette, &mut a, &mut b, &mut place, allowance) {
-            Stepped::Taken(next) | Stepped::Whole(next, _) => state = next,
+        let lent = Lent {
+            palette: &mut palette,
+            picture_a: &mut a,
+            picture_b: &mut b,
+            place: &mut place,
+            room: &mut [],
+        };
+        match step(film, state, lent, allowance) {
+            Stepped::Taken(next, _) | Stepped::Whole(next, _) => state = next,
             Stepped::Unfinished(..) => stops += 1,
             Stepped::Ended(_) | Stepped::Refused(_) => return stops,
         }
@@ -88,7 +96,7 @@ fn good_films() {
         let rng = &mut Seeded::new(seed);
         let film = film::with_frames(rng, seed as usize % 12);
         let bytes = film.bytes();
-        let played = pictures::play(&bytes);
+        let played = pictures::play(&bytes, NO_STREAM);
         println!("seed {seed}");
         assert_eq!(played.refusal, None);
         for allowance in ALLOWANCES.into_iter().chain([rng.between(65, 400)]) {
@@ -106,7 +114,7 @@ fn long_and_large_films() {
     let long = demo::film().bytes();
     let large = largest(&mut Seeded::new(1), 2).bytes();
     for (film, allowances) in [(long, &ALLOWANCES[..]), (large, &ALLOWANCES[2..])] {
-        let played = pictures::play(&film);
+        let played = pictures::play(&film, NO_STREAM);
         for &allowance in allowances {
             assert_played("long_and_large_films", &film, &played, allowance);
         }
@@ -145,7 +153,7 @@ fn refused_films() {
         let others = [film_damage::scratched(rng), film::hostile(rng), Vec::new()];
         for (number, film) in damaged.iter().chain(&others).enumerate() {
             println!("seed {seed}, film {number}");
-            let played = pictures::play(film);
+            let played = pictures::play(film, NO_STREAM);
             let Some(refusal) = played.refusal else {
                 assert_played("refused_films", film, &played, 65);
                 continue;
