@@ -96,8 +96,8 @@ pub enum Kind {
 }
 
 impl Kind {
-    /// Every kind that the proved library is compared on; it has no sound yet.
-    pub const ALL: [Kind; 3] = [Kind::Packets, Kind::Lists, Kind::Films];
+    /// Every kind.
+    pub const ALL: [Kind; 4] = [Kind::Packets, Kind::Lists, Kind::Films, Kind::Sounds];
 }
 
 impl fmt::Display for Kind {

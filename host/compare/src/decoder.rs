@@ -89,20 +89,18 @@ impl Decoder for Proved {
             .map_err(common_refusal)
     }
 
-    /// The library has no sound yet: streams and rooms are not given to it.
     fn open(&self, film: &[u8], stream: usize) -> Opened {
-        let opened = mve::open(film).map_err(common_refusal)?;
-        Ok(common_state(opened, Sound::new(stream)))
+        mve::open(film, stream).map(common_state).map_err(common_refusal)
     }
 
     fn step(&self, film: &[u8], walk: &mut Start) -> Walked {
-        let Start { state, palette, picture_a, picture_b, place, room: _, allowed } = walk;
-        let stepped =
-            mve::step(film, own_state(state), palette, picture_a, picture_b, place, *allowed)
-                .map_err(common_refusal)?;
-        *state = common_state(stepped.state(), state.sound);
+        let Start { state, palette, picture_a, picture_b, place, room, allowed } = walk;
+        let (found, allowed) = (own_state(state), *allowed);
+        let stepped = mve::step(film, found, palette, picture_a, picture_b, place, room, allowed)
+            .map_err(common_refusal)?;
+        *state = common_state(stepped.state());
         Ok(match stepped {
-            mve::Step::Taken(_) => Step::Taken(0),
+            mve::Step::Taken(_, bytes) => Step::Taken(bytes),
             mve::Step::Whole(_, stores) => Step::Whole(stores),
             mve::Step::Unfinished(_, stores) => Step::Unfinished(stores),
             mve::Step::Ended(_) => Step::Ended,
@@ -122,16 +120,20 @@ fn common_drawn(drawn: mve::Drawn) -> Drawn {
     Drawn { whole: matches!(drawn, mve::Drawn::Whole { .. }), stores: drawn.stores() }
 }
 
-fn common_state(state: mve::State, sound: Sound) -> State {
-    let mve::State { position, chunk_end, width, height, front, map, unsent } = state;
+fn common_state(state: mve::State) -> State {
+    let mve::State { position, chunk_end, width, height, front, map, unsent, sound } = state;
     let map = map.map(|(start, length)| Span { start, length });
+    let mve::Sound { stream, has_format, stereo, wide, compressed, begun, left, right } = sound;
+    let sound = Sound { stream, has_format, stereo, wide, compressed, begun, left, right };
     State { position, chunk_end, width, height, front, map, unsent, sound }
 }
 
 fn own_state(state: &State) -> mve::State {
-    let State { position, chunk_end, width, height, front, map, unsent, sound: _ } = *state;
+    let State { position, chunk_end, width, height, front, map, unsent, sound } = *state;
     let map = map.map(|Span { start, length }| (start, length));
-    mve::State { position, chunk_end, width, height, front, map, unsent }
+    let Sound { stream, has_format, stereo, wide, compressed, begun, left, right } = sound;
+    let sound = mve::Sound { stream, has_format, stereo, wide, compressed, begun, left, right };
+    mve::State { position, chunk_end, width, height, front, map, unsent, sound }
 }
 
 /// The second decoder.

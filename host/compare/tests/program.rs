@@ -14,7 +14,7 @@ fn ends_with_the_counts() {
     let last = text.lines().last().expect("a line");
     assert!(output.status.success(), "{text}");
     assert!(last.starts_with("seed 7: 120 packets, "), "{text}");
-    assert!(last.ends_with(" stores, 0 sounds: no difference"), "{text}");
+    assert!(last.ends_with(" sounds: no difference") && !last.contains(" 0 sounds"), "{text}");
 }
 
 #[test]
@@ -32,6 +32,10 @@ fn runs_one_kind() {
     let text = String::from_utf8(output.stdout).expect("text");
     assert!(text.starts_with("seed 7: 0 packets, 0 calls, 60 films, "), "{text}");
     assert!(!text.contains(" 0 steps"), "{text}");
+    let output = run(&["7", "60", "sounds"]);
+    let text = String::from_utf8(output.stdout).expect("text");
+    assert!(text.starts_with("seed 7: 0 packets, 0 calls, 60 films, "), "{text}");
+    assert!(!text.contains(" 0 sounds"), "{text}");
 }
 
 #[test]

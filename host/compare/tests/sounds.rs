@@ -1,9 +1,9 @@
-//! Films with sound: what the cases reach. The proved library has no sound yet; the second decoder
-//! stands on both sides.
+//! Films with sound: after every step the proved library has answered, written to the room and left
+//! the state and all that is lent as the second decoder has.
 
 mod common;
 
-use compare::{Comparison, Event, Kind, Second};
+use compare::{Comparison, Event, Kind, Proved, Second};
 use maker::film::SOUND;
 use maker::sound::Format;
 
@@ -14,7 +14,7 @@ const SOUNDS: usize = 10_000;
 
 #[test]
 fn sounds() {
-    let mut comparison = Comparison::new(Second, Second);
+    let mut comparison = Comparison::new(Proved, Second);
     let compared = comparison.run(Kind::Sounds, SEED, 0..FILMS);
     compared.unwrap_or_else(|found| panic!("{found}"));
     let answers = [
