@@ -1,9 +1,10 @@
 //! Programs that are wrong on purpose are noticed: without this, a test that looks at nothing would
 //! pass, too.
 
+use maker::sound::Format;
 use maker::{Packet, Seeded};
 use std::path::Path;
-use stops::cases::Drawing;
+use stops::cases::{Case, Drawing};
 use stops::kills::{kill, Player};
 use stops::made;
 use stops::stopped::LENT;
@@ -48,4 +49,20 @@ fn a_killed_player_that_forgets_the_place_is_noticed() {
     let noticed = killed.expect_err("frames are drawn twice").to_string();
     let faults = ["memory is as no prefix", "not picture"];
     assert!(faults.iter().any(|fault| noticed.starts_with(fault)), "{noticed}");
+}
+
+/// A walk with sound of which the last samples were not kept, or another than the saved state: the
+/// step made anew from it would write other samples.
+#[test]
+fn a_sample_that_is_not_kept_is_noticed() {
+    let format = Format { stereo: true, wide: true, compressed: true };
+    let walk = made::sound_walk(&mut Seeded::new(1), format);
+    let later = walk.steps().iter().filter(|step| step.state.sound.begun);
+    let kept: Vec<_> = later.map(|step| step.before.clone()).collect();
+    assert!(kept.len() >= 4 && kept.iter().all(|left| walk.go_on(left).is_ok()));
+    for mut left in kept {
+        let [.., sample, _] = &mut left.state;
+        *sample ^= 1;
+        assert!(walk.go_on(&left).is_err());
+    }
 }
