@@ -9,7 +9,7 @@ use maker::{sound, Seeded};
 use reference::pictures::play;
 
 /// The stream that the films are made for; libavcodec's decoder knows none.
-const STREAM: usize = 0;
+pub const STREAM: usize = 0;
 /// Packets of a film.
 const PACKETS: usize = 400;
 
@@ -26,7 +26,8 @@ pub struct Compared {
 type Decode = fn(&[u8]) -> Result<Vec<u8>, String>;
 
 /// Every such decoder.
-const DECODERS: [(&str, Decode); 1] = [("the second decoder", second)];
+const DECODERS: [(&str, Decode); 2] =
+    [("the proved library", proved), ("the second decoder", second)];
 
 /// Compares the sound of the film of this seed; `None` where libavcodec is not there.
 pub fn compare(seed: u64) -> Result<Option<Compared>, String> {
@@ -39,6 +40,25 @@ pub fn compare(seed: u64) -> Result<Option<Compared>, String> {
     }
     let samples = expected.iter().map(Vec::len).sum();
     Ok(Some(Compared { packets: expected.len(), samples }))
+}
+
+/// The samples that the proved library gives, all formats behind each other.
+fn proved(film: &[u8]) -> Result<Vec<u8>, String> {
+    let mut state = mve::open(film, STREAM).map_err(|refusal| refusal.to_string())?;
+    let (mut palette, mut place, mut room) = ([0; 768], 0, vec![0; mve::ROOM_BYTES]);
+    let mut samples = Vec::new();
+    loop {
+        let step = mve::step(film, state, &mut palette, &mut [], &mut [], &mut place, &mut room, 0);
+        match step {
+            Ok(mve::Step::Taken(next, bytes)) => {
+                samples.extend(&room[..bytes]);
+                state = next;
+            }
+            Ok(mve::Step::Ended(_)) => return Ok(samples),
+            Ok(other) => return Err(format!("{other:?}")),
+            Err(refusal) => return Err(format!("{refusal}, at byte {}", state.position)),
+        }
+    }
 }
 
 /// The samples that the second decoder gives, all formats behind each other.

@@ -167,7 +167,9 @@ fn wav(bytes: &[u8]) -> Option<Recording> {
     let number = |at: usize| Some(u32::from_le_bytes(bytes.get(at..at + 4)?.try_into().ok()?));
     let word = |at: usize| Some(u16::from_le_bytes(bytes.get(at..at + 2)?.try_into().ok()?));
     let is = |at: usize, text: &[u8]| bytes.get(at..)?.starts_with(text).then_some(());
-    (is(0, b"RIFF")?, is(8, b"WAVEfmt ")?, is(36, b"data")?);
+    is(0, b"RIFF")?;
+    is(8, b"WAVEfmt ")?;
+    is(36, b"data")?;
     let (channels, rate, bits) = (word(22)?, number(24)?, word(34)?);
     let (stereo, wide) = (channels == 2, bits == 16);
     let length = number(40)? as usize;
