@@ -1,6 +1,6 @@
 //! One function for each store (01, "Stores"): of the library's functions `paint::put`,
-//! `paint::set_place` and `palette::put` store to what is lent, once each, and no other does. Read
-//! from the sources, since no contract says which function stores.
+//! `paint::set_place`, `palette::put` and `room::put` store to what is lent, once each, and no other
+//! does. Read from the sources, since no contract says which function stores.
 //!
 //! Rattle stores by assignment alone; slices have no methods that do. Lent memory is assigned to by
 //! an index, through a reference, or as a field: an assignment to a mere name is to the function's
@@ -11,7 +11,7 @@ use std::fs;
 use std::path::{Path, PathBuf};
 
 /// The functions that store, in the order of their names.
-const STORING: [&str; 3] = ["paint::put", "paint::set_place", "palette::put"];
+const STORING: [&str; 4] = ["paint::put", "paint::set_place", "palette::put", "room::put"];
 
 /// Operators with an equals sign that do not assign, and those that do.
 const OTHERS: [&str; 6] = ["..=", "==", "!=", "<=", ">=", "=>"];
