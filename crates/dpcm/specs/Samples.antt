@@ -11,6 +11,7 @@ use Rattle.dpcm.specs.declared.Last.{Last}
 unfoldable pub sampleAfter : ℕ → ℕ → ℕ
 sampleAfter last b = (last + getD steps b 0) % 65536
 
+-- the last sample of the channel whose turn is next, and of the other one. A packet begins with the left channel; mono has the one channel alone
 abbrev pub last : ℕ → ℕ → Last
 last next other = record { next = next; other = other }
 

@@ -75,7 +75,8 @@ fn decode_by(table: &[u16], stereo: bool, first: Last, data: &[u8], room: &mut [
     last
 }
 
-// The samples of data bytes, from the last samples on; the last samples then. The table is named here alone: where it is named it is copied to the stack.
+// The samples of data bytes, from the last samples on; the last samples then. Where the table is named it is copied to the stack, so it is named here
+// alone. Two functions call this one: with a single caller the compiler would make it a part of that, and the copy a part of every step's frame.
 fn decode(stereo: bool, first: Last, data: &[u8], room: &mut [u8]) -> Last
     requires { ⌜ 2 * length (now «data») ≤ length (now room) ⌝ }
     ensures { λ r. ⌜ r ≡ lastOf stereo first (now («data» .entry)) ⌝ }

@@ -28,7 +28,7 @@ roomAfter (refused n k) room = room
 unfoldable pub even : Bool → ℕ → Bool
 even stereo count = cond stereo (eqb (count % 2) 0) true
 
--- bytes a sample
+-- bytes a sample; compressed sound is 16-bit
 unfoldable pub sampleBytes : Bool → Bool → ℕ
 sampleBytes wide compressed = cond compressed 2 (cond wide 2 1)
 
