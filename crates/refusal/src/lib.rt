@@ -35,6 +35,12 @@ pub enum Refusal {
     LeftOver,
     // The state is one that no film gives.
     State,
+    // Sound of the chosen stream comes before its format, or a format is both 8-bit and compressed.
+    SoundFormat,
+    // A sound's data is not that of its sample count, or the count is not one for its channels.
+    SoundLength,
+    // The output room is too small.
+    Room,
 }
 
 pub fn number_of(r: Refusal) -> u8
@@ -57,6 +63,9 @@ pub fn number_of(r: Refusal) -> u8
         Refusal::CopyOutside(_) => 14,
         Refusal::LeftOver => 15,
         Refusal::State => 16,
+        Refusal::SoundFormat => 17,
+        Refusal::SoundLength => 18,
+        Refusal::Room => 19,
     }
 }
 
@@ -80,5 +89,8 @@ pub fn block_of(r: Refusal) -> usize
         Refusal::Place => 0,
         Refusal::LeftOver => 0,
         Refusal::State => 0,
+        Refusal::SoundFormat => 0,
+        Refusal::SoundLength => 0,
+        Refusal::Room => 0,
     }
 }

@@ -1,13 +1,12 @@
 -- Colours read once for several pixels: the value that a pixel takes from them is the one that the block's rule gives it.
 -- Assumes nothing.
-use mathlib.Core.Path.{_≡_, refl, sym, ap, subst, _∙_}
+use mathlib.Core.Path.{_≡_, refl, ap, subst, _∙_}
 use mathlib.Core.List.{List}
 use Prim.Native.Nat.{ℕ, zero, suc, _+_, _*_, _/_, _%_, _≤_, _<_}
 use native.Mathlib.Nat.{zero-add}
 use native.Mathlib.Omega.{arith}
 use lib.ListN.{length, getD}
 use Rattle.block.specs.Block.{Side, one, two, four, eight, pixels, cellSource, ditherSource}
-use Rattle.block.specs.Asked.{Sided}
 use Rattle.motion.specs.Motion.{rasterIndex}
 use Rattle.stores.specs.Stores.{firstPixels}
 use Rattle.paint.specs.Asked.{Square}
@@ -40,7 +39,7 @@ colour-is f a b c d ea eb ec ed (suc (suc (suc (suc k)))) h = absurd (let z : �
 
 -- ---- codes C to E
 
--- the rows from p on that are the first of a band: p is a row's first pixel, and the band's rows stand below the block's end
+-- a band begins with a row and ends within the block, and the next begins behind it
 pub record BandRoom (side p : ℕ) : Type 0 where
   pub row : p % 8 ≡ 0
   pub room : p + 8 * side ≤ 64
@@ -56,22 +55,23 @@ pub band-room : {side p : ℕ} → Band side p → BandRoom side p
 band-room {side} {p} z =
     subst (λ (n : ℕ). p % (8 * n) ≡ 0 → BandRoom n p) (z .sided .1) (λ f. band-room-of (z .sided .0) p f (z .below)) (z .first)
 
--- pixel i of the band's row from r on has the cell of every pixel above it in the band, and of the other of its pair
+-- the rows of a band have one row of cells
 band-down : (c : Side) (p r : ℕ) → p % (8 * pixels c) ≡ 0 → r < 8 * pixels c → (p + r) / 8 / pixels c ≡ p / 8 / pixels c
 band-down one p r first l = omega arith
 band-down two p r first l = omega arith
 band-down four p r first l = omega arith
 band-down eight p r first l = omega arith
 
+-- pixels 2 k and 2 k + 1 of a row have one cell
 band-across : (c : Side) (i : ℕ) → 1 < pixels c → i < 8 → i / 2 % 4 * 2 / pixels c ≡ i / pixels c
 band-across one i wide h = absurd (let z : ⊥ = omega arith in z)
 band-across two i wide h = omega arith
 band-across four i wide h = omega arith
 band-across eight i wide h = omega arith
 
-pub record BandCell (p r i side : ℕ) : Type 0 where
-  pub down : (p + r) / 8 / side ≡ p / 8 / side
-  pub across : i / 2 % 4 * 2 / side ≡ i / side
+record BandCell (p r i side : ℕ) : Type 0 where
+  down : (p + r) / 8 / side ≡ p / 8 / side
+  across : i / 2 % 4 * 2 / side ≡ i / side
 
 module _ {side p : ℕ} (z : Band side p) (r i : ℕ) (even : r % 8 ≡ 0) (l : r < 8 * side) (h : i < 8) where
   band-both : BandCell p r i side
@@ -80,7 +80,7 @@ module _ {side p : ℕ} (z : Band side p) (r i : ℕ) (even : r % 8 ≡ 0) (l : 
       (λ f g w. record { down = band-down (z .sided .0) p r f g; across = band-across (z .sided .0) i w h })
       (z .first) l (z .wide)
 
-  pub band-cell : cellSource side (p + i / 2 % 4 * 2) ≡ cellSource side (p + (r + i))
+  band-cell : cellSource side (p + i / 2 % 4 * 2) ≡ cellSource side (p + (r + i))
   unfolding cellSource
   band-cell =
       let f = band-room z .row in
@@ -90,14 +90,14 @@ module _ {side p : ℕ} (z : Band side p) (r i : ℕ) (even : r % 8 ≡ 0) (l : 
       let d : (p + (r + i)) % 8 ≡ i = omega (arith, f) in
       rw (a, b, c, d, band-both .down, band-both .across)
 
--- the four colours of a band, each that of its pixels
+-- the colours of a band: those of pixels 0, 2, 4 and 6 of its first row
 pub record Read (side p : ℕ) (s : List ℕ) (a b c d : ℕ) : Type 0 where
   pub first : a ≡ getD s (cellSource side p) 0
   pub second : b ≡ getD s (cellSource side (p + 2)) 0
   pub third : c ≡ getD s (cellSource side (p + 4)) 0
   pub fourth : d ≡ getD s (cellSource side (p + 6)) 0
 
-pub band-value : {side p : ℕ} (z : Band side p) (s : List ℕ) (a b c d : ℕ) → Read side p s a b c d
+band-value : {side p : ℕ} (z : Band side p) (s : List ℕ) (a b c d : ℕ) → Read side p s a b c d
     → (r i : ℕ) → r % 8 ≡ 0 → r < 8 * side → i < 8 → (k : List ℕ)
     → fixedValue (inTurn 2) (colours a b c d) (0 + i) k ≡ fixedValue (cellSource side) s (p + (r + i)) k
 unfolding fixedValue inTurn
@@ -137,6 +137,7 @@ module _ (w x y side : ℕ) (s : List ℕ) (p : ℕ) (b₀ b : List ℕ) (r : �
 
 -- ---- code F
 
+-- a and b are the colours of the row from pixel p on
 pub record Turned (s : List ℕ) (p a b : ℕ) : Type 0 where
   pub first : a ≡ getD s (p / 8 % 2) 0
   pub second : b ≡ getD s ((p / 8 + 1) % 2) 0
@@ -150,11 +151,11 @@ turned-next s p a b t =
     let f : ((p + 8) / 8 + 1) % 2 ≡ p / 8 % 2 = omega arith in
     record { first = rw e (t .second); second = rw f (t .first) }
 
--- four pixels on nothing has changed
+-- what is in turn by two is in turn by four
 turned-pair : (n i : ℕ) → (n + i / 1 % 4) % 2 ≡ (n + i) % 2
 turned-pair n i = omega arith
 
-pub turned-value : (s : List ℕ) (p a b : ℕ) → Turned s p a b → p % 8 ≡ 0 → (i : ℕ) → i < 8 → (k : List ℕ)
+turned-value : (s : List ℕ) (p a b : ℕ) → Turned s p a b → p % 8 ≡ 0 → (i : ℕ) → i < 8 → (k : List ℕ)
     → fixedValue (inTurn 1) (colours a b a b) (0 + i) k ≡ fixedValue ditherSource s (p + i) k
 unfolding fixedValue inTurn ditherSource
 turned-value s p a b t even i h k =

@@ -108,6 +108,7 @@ pub fn whole_raw(s: &[u8], back: &mut [u8], w: usize, x: usize, y: usize)
     }
 }
 
+// Colour k of four.
 fn of_four(a: u8, b: u8, c: u8, d: u8, k: usize) -> u8
     requires { ⌜ k < 4 ⌝ }
     ensures { λ r. ⌜ r ≡ getD (colours a b c d) k 0 ⌝ }
@@ -120,7 +121,7 @@ fn of_four(a: u8, b: u8, c: u8, d: u8, k: usize) -> u8
     }
 }
 
-// Codes C to F: eight pixels side by side from index to on, of four colours in turn, each for step pixels. Nothing is read between the stores.
+// Codes C to F: eight pixels side by side from index to on, of four colours in turn, each for step pixels. Nothing is read between the stores, so that the compiler may join them.
 fn colours_row(a: u8, b: u8, c: u8, d: u8, step: usize, back: &mut [u8], to: usize)
     requires { ⌜ (0 < step) × (to + 8 ≤ length (now back)) ⌝ }
     ensures { λ _. ⌜ now (back .exit) ≡ firstPixels (beside to 0 (fixedValue (inTurn step) (colours a b c d))) 0 (now (back .entry)) 8 ⌝ }

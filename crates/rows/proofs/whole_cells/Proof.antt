@@ -5,7 +5,6 @@ use native.Mathlib.Omega.{arith}
 use Rattle.paint.proofs.Painting.{Painting, painting-start, painting-end, painting-length}
 use Rattle.rows.proofs.Rows.{painting-on, square-kept}
 use Rattle.rows.proofs.Colours.{band-room}
-use Rattle.rows.specs.Row.{Band}
 use Rattle.motion.specs.Motion.{rasterIndex}
 use Rattle.block.specs.Block.{cellSource}
 use Rattle.paint.specs.Paint.{single, fixedValue}

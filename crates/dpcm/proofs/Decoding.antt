@@ -1,0 +1,69 @@
+-- The loop of samples: after i of them the room has their bytes at its front. A law for the start, each turn and the end.
+-- Assumes nothing.
+use mathlib.Core.Path.{_≡_, refl, sym, ap, subst, _∙_}
+use mathlib.Core.Bool.{Bool}
+use mathlib.Core.List.{List, [], _∷_, _++_, append-assoc}
+use Prim.Native.Nat.{ℕ, _+_, _*_, _/_, _%_, _≤_, _<_}
+use native.Mathlib.Omega.{arith}
+use lib.ListN.{length, take, getD, set}
+use lib.Seq.{take-all}
+use Rattle.room.specs.Room.{written}
+use Rattle.room.proofs.Written.{Writing, writing-start, writing-more, writing-length}
+use Rattle.dpcm.specs.Steps.{steps}
+use Rattle.dpcm.specs.Samples.{sampleAfter, turned, samples, lastOf, bytesOf}
+use Rattle.dpcm.specs.declared.Last.{Last}
+use Rattle.dpcm.proofs.Samples.{samples-more, last-more, bytes-append}
+
+-- the code's sum is the rule's
+pub is-sample : (table : List ℕ) (last b k r : ℕ) → table ≡ steps → k ≡ b → r ≡ (last + getD table k 0) % 65536 → r ≡ sampleAfter last b
+unfolding sampleAfter
+is-sample table last b k r et ek er = rw (er, et, ek)
+
+-- a sample's two bytes
+pub writing-sample : (room₀ w : List ℕ) (at : ℕ) (room : List ℕ) → Writing room₀ w at room → at + 2 ≤ length room₀ → (sample : ℕ) (room′ : List ℕ)
+    → room′ ≡ set (set room at (sample % 256)) (at + 1) (sample / 256) → Writing room₀ (w ++ bytesOf (sample ∷ [])) (at + 2) room′
+unfolding bytesOf
+writing-sample room₀ w at room m fits sample room′ e =
+    let low = writing-more _ _ _ _ m (omega arith) (w ++ (sample % 256 ∷ [])) _ (sample % 256) refl refl in
+    let n : at + 1 + 1 ≡ at + 2 = omega arith in
+    subst (λ (k : ℕ). Writing room₀ (w ++ bytesOf (sample ∷ [])) k room′) n
+    (writing-more _ _ _ _ low (omega arith) _ room′ (sample / 256) (sym (append-assoc w (sample % 256 ∷ []) (sample / 256 ∷ []))) e)
+
+module _ (stereo : Bool) (first : Last) («data» room₀ : List ℕ) where
+  -- i samples are decoded
+  pub record Decoding (room : List ℕ) (last : Last) (i : ℕ) : Type 0 where
+    pub within : i ≤ length «data»
+    pub writing : Writing room₀ (bytesOf (samples stereo first (take i «data»))) (2 * i) room
+    pub now : last ≡ lastOf stereo first (take i «data»)
+
+  pub decoding-start : Decoding room₀ first 0
+  unfolding samples lastOf bytesOf
+  decoding-start = record { within = omega arith; writing = writing-start room₀; now = refl }
+
+  module _ (room : List ℕ) (last : Last) (i : ℕ) (d : Decoding room last i) where
+    pub decoding-length : length room ≡ length room₀
+    decoding-length = writing-length _ _ _ _ (d .writing)
+
+    pub decoding-more : 2 * length «data» ≤ length room₀ → i < length «data» → (sample : ℕ) (room′ : List ℕ) (last′ : Last)
+        → sample ≡ sampleAfter (last .next) (getD «data» i 0) → room′ ≡ set (set room (2 * i) (sample % 256)) (2 * i + 1) (sample / 256)
+        → last′ ≡ turned stereo last sample → Decoding room′ last′ (i + 1)
+    decoding-more fits h sample room′ last′ es er el =
+        let n : 2 * i + 2 ≡ 2 * (i + 1) = omega arith in
+        let s : sampleAfter (lastOf stereo first (take i «data») .next) (getD «data» i 0) ≡ sample =
+        sym (es ∙ ap (λ (l : Last). sampleAfter (l .next) (getD «data» i 0)) (d .now)) in
+        let e : bytesOf (samples stereo first (take (i + 1) «data»)) ≡ bytesOf (samples stereo first (take i «data»)) ++ bytesOf (sample ∷ []) =
+        ap bytesOf (samples-more stereo first «data» i h) ∙ bytes-append (samples stereo first (take i «data»)) _
+        ∙ ap (λ (v : ℕ). bytesOf (samples stereo first (take i «data»)) ++ bytesOf (v ∷ [])) s in
+        record {
+          within = omega arith;
+          writing = rw (e, ← n) (writing-sample _ _ _ _ (d .writing) (omega arith) sample room′ er);
+          now =
+              el ∙ ap (λ (l : Last). turned stereo l sample) (d .now)
+              ∙ ap (turned stereo (lastOf stereo first (take i «data»))) (sym s)
+              ∙ sym (last-more stereo first «data» i h);
+        }
+
+    pub decoded : length «data» ≤ i → (last ≡ lastOf stereo first «data») × (room ≡ written (bytesOf (samples stereo first «data»)) room₀)
+    decoded h =
+        let e = take-all i «data» h in
+        (d .now ∙ ap (lastOf stereo first) e, d .writing .now ∙ ap (λ (l : List ℕ). written (bytesOf (samples stereo first l)) room₀) e)

@@ -1,0 +1,5 @@
+pub mod Every
+pub mod Table
+pub mod Samples
+pub mod Decoding
+pub mod Packet

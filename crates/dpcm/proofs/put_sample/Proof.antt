@@ -1,0 +1,32 @@
+use borrow.Author.Needs.{needs}
+use Rattle.dpcm.proofs.put_sample.Statement.{statement}
+use Rattle.dpcm.proofs.put_sample.Tie as tie
+use Rattle.dpcm.proofs.put_sample.Reads as reads
+use Rattle.dpcm.proofs.put_sample.Lts as lts
+use Rattle.room.proofs.put.Reads as put-reads
+
+cast-put : tie.Need-cast-put
+cast-put c = search needs
+
+put-requires : tie.Need-put-requires
+put-requires c κs = search needs
+
+add-put : tie.Need-add-put
+add-put c = search needs
+
+cast-put-2 : tie.Need-cast-put-2
+cast-put-2 c = search needs
+
+put-requires-2 : tie.Need-put-requires-2
+put-requires-2 c κs = search needs
+
+same-length : tie.Need-same-length
+same-length c = search needs
+
+returns : tie.Need-returns
+returns c = rw (c .before .before .put2 .ensures, c .before .before .before .before .before .before .put .ensures)
+
+pub put-sample-spec : {M : Type 1} → statement M
+put-sample-spec =
+    tie.close
+    (tie.spec cast-put put-requires add-put cast-put-2 put-requires-2 same-length returns)

@@ -1,0 +1,42 @@
+-- Compressed packets (document 02, W5): the first has one start word a channel, which are its first samples, then one byte a sample; later ones go on
+-- from the last sample of each channel.
+-- Assumes nothing.
+use mathlib.Core.Bool.{Bool, true, false, cond}
+use mathlib.Core.List.{List, [], _∷_, _++_}
+use Prim.Native.Nat.{ℕ, _*_, _-_, _≤_}
+use lib.ListN.{drop}
+use Rattle.words.specs.Word.{wordAt}
+use Rattle.dpcm.specs.Samples.{last, samples, lastOf}
+use Rattle.dpcm.specs.declared.Last.{Last}
+
+abbrev pub channels : Bool → ℕ
+channels stereo = cond stereo 2 1
+
+-- the start words of a first packet, left and then right; mono leaves the other sample be
+unfoldable pub startWords : Bool → Last → List ℕ → Last
+startWords true l bytes = last (wordAt bytes 0) (wordAt bytes 2)
+startWords false l bytes = last (wordAt bytes 0) (l .other)
+
+-- they are the first samples
+unfoldable pub firstSamples : Bool → Last → List ℕ
+firstSamples true l = l .next ∷ l .other ∷ []
+firstSamples false l = l .next ∷ []
+
+-- what follows the start words
+abbrev pub behindStart : Bool → List ℕ → List ℕ
+behindStart stereo bytes = drop (2 * channels stereo) bytes
+
+-- the samples of a packet's data, and the last samples then. begun: it is not the first
+unfoldable pub packetSamples : Bool → Bool → Last → List ℕ → List ℕ
+packetSamples stereo true l bytes = samples stereo l bytes
+packetSamples stereo false l bytes =
+    firstSamples stereo (startWords stereo l bytes) ++ samples stereo (startWords stereo l bytes) (behindStart stereo bytes)
+
+unfoldable pub packetLast : Bool → Bool → Last → List ℕ → Last
+packetLast stereo true l bytes = lastOf stereo l bytes
+packetLast stereo false l bytes = lastOf stereo (startWords stereo l bytes) (behindStart stereo bytes)
+
+-- what a decoder of packets asks: data of so many bytes has its start words, and the room holds its samples
+pub record Fits (stereo begun : Bool) (bytes room : ℕ) : Type 0 where
+  pub start : cond begun 0 (2 * channels stereo) ≤ bytes
+  pub samples : 2 * (bytes - cond begun 0 (channels stereo)) ≤ room
