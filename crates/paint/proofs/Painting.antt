@@ -6,7 +6,7 @@ use Prim.Native.Nat.{ℕ, _+_, _*_, _/_, _≤_, _<_, zero-le}
 use native.Mathlib.Omega.{arith}
 use lib.ListN.{length, getD, set}
 use Rattle.motion.specs.Motion.{rasterIndex, Inside}
-use Rattle.block.specs.Block.{cellSource, ditherSource}
+use Rattle.block.specs.Block.{cellSource}
 use Rattle.block.specs.Asked.{Sided}
 use Rattle.block.proofs.Codes.{cell}
 use Rattle.pattern.specs.Form.{Shape}
@@ -61,10 +61,6 @@ back-is at i b j e = rw e
 pub cell-inside : (side i j long : ℕ) → Sided side → i < 64 → 8 / side * (8 / side) ≤ long → j ≡ cellSource side i → j < long
 unfolding cellSource
 cell-inside side i j long z h l e = omega (arith, cell side i z h, e)
-
-pub dither-inside : (i j long : ℕ) → 2 ≤ long → j ≡ ditherSource i → j < long
-unfolding ditherSource
-dither-inside i j long l e = omega arith
 
 pub pattern-inside : (q : Shape) (s : List ℕ) (i j long : ℕ) → Shaped q → i < 64 → patternLength q ≤ long → j ≡ patternSource q s i → j < long
 pattern-inside q s i j long z h l e = omega (arith, source-inside q s i z h, e)

@@ -67,7 +67,3 @@ accepted u e =
     let b = first _ _ _ _ (refuses 7) (a .1) in
     let c = first _ _ _ _ (refuses 7) (b .1) in
     record { exact = a .0; inside = b .0; components = c .0 }
-
-pub is-accepted : (u : Update) → Accepted u → verdict u ≡ accept
-unfolding verdict
-is-accepted u a = rw (a .exact, a .inside, a .components)
