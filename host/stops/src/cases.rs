@@ -143,6 +143,11 @@ impl Walk {
     pub fn steps(&self) -> &[Step] {
         &self.steps
     }
+
+    /// The same, for a fault that is planted in what is expected.
+    pub fn steps_mut(&mut self) -> &mut [Step] {
+        &mut self.steps
+    }
 }
 
 /// The stores of a walk, those of the state included, and how many steps it has.
