@@ -123,3 +123,39 @@ fn write_at(file: &mut File, offset: usize, bytes: &[u8]) -> io::Result<()> {
 fn sound_path(folder: &Path, number: usize) -> PathBuf {
     folder.join(format!("{number:06}.wav"))
 }
+
+#[cfg(test)]
+mod tests {
+    use super::*;
+    use std::env;
+    use std::process;
+
+    /// What was written behind a state that is kept goes again: samples, and a file that was begun.
+    #[test]
+    fn cut() -> Result<(), Failed> {
+        let folder = env::temp_dir().join(format!("play_cut_{}", process::id()));
+        fs::create_dir_all(&folder).expect("a folder");
+        let files = || {
+            let file = |number| fs::read(sound_path(&folder, number)).ok();
+            [file(0), file(1)]
+        };
+        let format = Format { stereo: false, wide: false, rate: 22_050 };
+        let begun = Sound::NONE.take_format(&folder, format)?;
+        let kept = begun.write_samples(&folder, &[1, 2, 3, 4])?;
+        let later = kept.write_samples(&folder, &[5, 6, 7, 8, 9, 10])?;
+        later.take_format(&folder, Format { rate: 11_025, ..format })?;
+        let lengths = files().map(|file| file.map(|bytes| bytes.len()));
+        assert_eq!(lengths, [Some(HEADER + 10), Some(HEADER)]);
+
+        kept.cut(&folder)?;
+        let [first, second] = files();
+        let first = first.expect("the first file stays");
+        assert_eq!((first.len(), &first[HEADER..]), (HEADER + 4, &[1, 2, 3, 4][..]));
+        assert_eq!(second, None);
+
+        Sound::NONE.cut(&folder)?;
+        assert_eq!(files(), [None, None]);
+        fs::remove_dir(&folder).expect("the folder is empty");
+        Ok(())
+    }
+}
