@@ -89,8 +89,9 @@ A film has up to 16 streams of sound, 0 to 15; mve_open is told which is wanted.
 are then passed over, whatever their version and length.
 
     03       a word that is not read; word of flags: bit 0 stereo, bit 1 16-bit, bit 2 compressed (in version 1 alone);
-             word of the rate, in samples of a channel a second, and the length of a buffer, which are not read. A host
-             reads the rate at body bytes 4 and 5 itself. A later 03 starts afresh.
+             word of the rate, in samples of a channel a second, and the length of a buffer, which the library does not
+             read; a host finds the rate in the body's third word (bytes 4 and 5, counted from 0). A later 03 starts
+             afresh.
     08, 09   word of an index that is not read; word of a mask, which has bit n for stream n; word of the count of
              samples, of both channels together; of 08 then the data. A packet whose mask lacks the stream's bit is passed over.
 
@@ -189,7 +190,7 @@ struct mve_state {
     size_t map_length;
     size_t unsent;     /* 0: no frame is finished and unsent */
     size_t stream;     /* of sound; above 15: none */
-    size_t has_format; /* 0: no 03 was taken yet, and nothing below is read */
+    size_t has_format; /* 0: no 03 was taken yet; where it is 0, nothing below is read */
     size_t stereo;     /* 0: one channel */
     size_t wide;       /* 0: 8-bit samples, else 16-bit */
     size_t compressed;
