@@ -7,7 +7,7 @@ use mathlib.Core.List.{List}
 use Prim.Native.Nat.{ℕ, _+_, _-_, _*_, _≤_, _<_, min}
 use native.Mathlib.Omega.{arith}
 use lib.Dec.{eqb}
-use lib.ListN.{length, getD, take, length-take}
+use lib.ListN.{length, getD, take, drop, length-take}
 use Rattle.refusal.specs.Number.{Verdict, accept, refuse}
 use Rattle.motion.specs.declared.Vector.{Vector}
 use Rattle.motion.specs.Motion.{PointsInside, aheadVector, negated, nearVector, farVector, rasterIndex, copiedIndex}
@@ -17,8 +17,9 @@ use Rattle.packet.specs.Accepted.{CopyInside}
 use Rattle.packet.proofs.Sizes.{size-is}
 use Rattle.stores.specs.Stores.{Plan, Memory, memory, Off, after, count}
 use Rattle.stores.specs.Calls.{Call, allowed, Outcome, answered, Event, returns, cut, callOf, leave, leaveCut, outcome, happens, reply, step}
+use Rattle.stores.proofs.Steps.{run-length}
 use Rattle.stores.proofs.Recover.{after-off}
-use Rattle.stores.proofs.Within.{AgreeTo, agree-take, take-agree, take-short, Both, after-within, cut-least}
+use Rattle.stores.proofs.Within.{AgreeTo, agree-take, take-agree, take-short, drop-same, Both, after-within, cut-least}
 use Rattle.paint.specs.Value.{pixelValue}
 use Rattle.draw.specs.Drawing.{sizeAt, targetAt, valueAt, plan}
 use Rattle.draw.specs.Call.{Request, packetOf, callVerdict, drawVerdict, Reason, comes, calling}
@@ -84,17 +85,21 @@ module _ (c : Request) (m : Memory) (e : drawVerdict c m ≡ accept) where
 -- ---- none is written
 
 pub beyond-unwritten : (m : Memory) (e : Event Request) → Unwritten m e
-unfolding callOf happens leave leaveCut comes
-beyond-unwritten m (returns c) t h = by (drawVerdict c m) refl
+unfolding callOf happens leave leaveCut comes after
+beyond-unwritten m (returns c) = by (drawVerdict c m) refl
   where
-    by : (v : Verdict) → drawVerdict c m ≡ v → getD (leave (plan (packetOf c) (c .front)) m (comes v (c .allowed)) .picture) t 0 ≡ getD (m .picture) t 0
+    by : (v : Verdict) → drawVerdict c m ≡ v
+        → drop (area c) (leave (plan (packetOf c) (c .front)) m (comes v (c .allowed)) .picture) ≡ drop (area c) (m .picture)
     by (refuse a k) q = refl
-    by accept q = keeps c m q (c .allowed) t h
-beyond-unwritten m (cut c j) t h = by (drawVerdict c m) refl
+    by accept q = drop-same (area c) _ _ (run-length (plan (packetOf c) (c .front)) m _) (keeps c m q (c .allowed))
+beyond-unwritten m (cut c j) = by (drawVerdict c m) refl
   where
-    by : (v : Verdict) → drawVerdict c m ≡ v → getD (leaveCut (plan (packetOf c) (c .front)) m (comes v (c .allowed)) j .picture) t 0 ≡ getD (m .picture) t 0
+    by : (v : Verdict) → drawVerdict c m ≡ v
+        → drop (area c) (leaveCut (plan (packetOf c) (c .front)) m (comes v (c .allowed)) j .picture) ≡ drop (area c) (m .picture)
     by (refuse a k) q = refl
-    by accept q = rw (cut-least (plan (packetOf c) (c .front)) m (comes accept (c .allowed)) (c .allowed) j refl) (keeps c m q (min j (c .allowed)) t h)
+    by accept q =
+        rw (cut-least (plan (packetOf c) (c .front)) m (comes accept (c .allowed)) (c .allowed) j refl)
+        (drop-same (area c) _ _ (run-length (plan (packetOf c) (c .front)) m _) (keeps c m q (min j (c .allowed))))
 
 -- ---- none is read
 
@@ -106,28 +111,36 @@ module _ (c : Request) (front : List ℕ) (m m′ : Memory) (f : take (area c) (
   agree : (a b : List ℕ) → area c ≤ length a → take (area c) a ≡ take (area c) b → AgreeTo (area c) a b
   agree a b l e = take-agree (area c) a b l (omega (arith, length-take (area c) a, length-take (area c) b, ap length e)) e
 
-  drawn-both : drawVerdict c m ≡ accept
-      → Both (area c) (after (plan (packetOf c) (c .front)) m (c .allowed)) (after (plan (packetOf c) front) m′ (c .allowed))
-  drawn-both e =
+  drawn-both : (n : ℕ) → drawVerdict c m ≡ accept
+      → Both (area c) (after (plan (packetOf c) (c .front)) m n) (after (plan (packetOf c) front) m′ n)
+  drawn-both n e =
       let r = call c m e in
       let l = long c m e in
-      subst (λ (k : ℕ). Both (area c) (after (plan (packetOf c) (c .front)) m (c .allowed)) (after (plan (packetOf c) front) (memory (m′ .picture) k) (c .allowed)))
+      subst (λ (k : ℕ). Both (area c) (after (plan (packetOf c) (c .front)) m n) (after (plan (packetOf c) front) (memory (m′ .picture) k) n))
       (s .place)
-      (both c m e front (m′ .picture) (c .allowed)
+      (both c m e front (m′ .picture) n
       (agree (c .front) front (omega (arith, l, r .front-room)) f)
       (agree (m .picture) (m′ .picture) (omega (arith, l, r .back-room)) (s .picture)))
 
+  same-drawn : (n : ℕ) → drawVerdict c m ≡ accept → SameTo (area c) (after (plan (packetOf c) (c .front)) m n) (after (plan (packetOf c) front) m′ n)
+  same-drawn n e = let g = drawn-both n e in record { picture = agree-take (area c) _ _ (g .pictures); place = g .place }
+
   same-calls : (v : Verdict) → drawVerdict c m ≡ v → SameCalls (area c) c front m m′
-  unfolding comes leave outcome count
+  unfolding comes leave leaveCut outcome count happens
   same-calls (refuse n k) e =
       let e′ = sym same-verdict ∙ e in
-      record { answers = rw (e, e′) refl; leaves = rw (e, e′) s }
+      record { answers = rw (e, e′) refl; leaves = rw (e, e′) s; cuts = λ j. rw (e, e′) s }
   same-calls accept e =
       let e′ = sym same-verdict ∙ e in
-      let g = drawn-both e in
+      let g = drawn-both (c .allowed) e in
       record {
         answers = rw (e, e′, g .place, s .place) refl;
-        leaves = rw (e, e′) (record { picture = agree-take (area c) _ _ (g .pictures); place = g .place });
+        leaves = rw (e, e′) (same-drawn (c .allowed) e);
+        cuts =
+            λ j.
+            rw (e, e′)
+            (rw (cut-least (plan (packetOf c) (c .front)) m (comes accept (c .allowed)) (c .allowed) j refl, cut-least (plan (packetOf c) front) m′ (comes accept (c .allowed)) (c .allowed) j refl)
+            (same-drawn (min j (c .allowed)) e));
       }
 
 pub beyond-unread : (c : Request) → Unread c

@@ -22,7 +22,7 @@ use Rattle.draw.specs.Call.{Request, packetOf, drawVerdict, comes, calling}
 use Rattle.draw.specs.Taken.{DrawAccepts}
 use Rattle.draw.proofs.Judged.{area}
 use Rattle.draw.proofs.Exactly.{drawn-exactly}
-use Rattle.book.specs.Demand.{Same, OnlyRefusedDiffer, CutsWithin, Given, Progresses, Demand3}
+use Rattle.book.specs.Demand.{Same, OnlyRefusedDiffer, CutsWithin, Given, leavesAt, Progresses, Demand3}
 use Rattle.book.proofs.Lawful.{plan-lawful}
 
 -- ---- lists
@@ -88,6 +88,11 @@ module _ (c : Request) (first : List ℕ) (g : Given c first) where
   goes-on m (returns r) f = λ q l. f (r .allowed) (comes-on (drawVerdict r m) (r .allowed) q) (omega arith)
   goes-on m (cut r j) f = tt
 
+  shows : (m : Memory) (e : Event Request) → leavesAt m e .shown ≡ callOf e .front
+  unfolding leavesAt callOf
+  shows m (returns r) = refl
+  shows m (cut r j) = refl
+
   pub demand-3 : (es : List (Event Request)) → OnlyRefusedDiffer c (memory first 0) es → CutsWithin (memory first 0) es → Demand3 c first es
   unfolding OnlyRefusedDiffer
   demand-3 es o w =
@@ -96,7 +101,7 @@ module _ (c : Request) (first : List ℕ) (g : Given c first) where
       record {
         booked = b;
         accepts = each-as _ _ _ (λ m e at l. takes m (callOf e) (at .0) (l .0)) m es (b .at-most) (b .keeps-length);
-        shown = each-as _ _ _ (λ m e f _. (refl, λ q. f q .front)) m es o o;
+        shown = each-as _ _ _ (λ m e f _. (shows m e, λ q. shows m e ∙ f q .front)) m es o o;
         progress = each-as _ _ _ (λ m e f _. goes-on m e f) m es (b .goes-on 64 at-most-64) o;
         finishes = b .ends 64 at-most-64;
       }

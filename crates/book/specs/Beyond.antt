@@ -3,19 +3,19 @@
 -- Assumes nothing.
 use mathlib.Core.Path.{_≡_}
 use mathlib.Core.List.{List}
-use Prim.Native.Nat.{ℕ, _+_, _-_, _*_, _≤_}
-use lib.ListN.{getD, take}
+use Prim.Native.Nat.{ℕ, _-_, _*_}
+use lib.ListN.{take, drop}
 use Rattle.stores.specs.Stores.{Memory}
-use Rattle.stores.specs.Calls.{Event, callOf, happens, reply, step}
+use Rattle.stores.specs.Calls.{Event, cut, callOf, happens, reply, step}
 use Rattle.draw.specs.Call.{Request, request, calling}
 
 -- the bytes of a picture of a call's size
 abbrev pub area : Request → ℕ
 area c = c .width * c .height
 
--- an event writes no byte beyond the size
+-- an event leaves the picture beyond the size as it was
 abbrev pub Unwritten : Memory → Event Request → Type 0
-Unwritten m e = (t : ℕ) → area (callOf e) ≤ t → getD (happens calling m e .picture) t 0 ≡ getD (m .picture) t 0
+Unwritten m e = drop (area (callOf e)) (happens calling m e .picture) ≡ drop (area (callOf e)) (m .picture)
 
 -- the same call with another shown picture
 abbrev pub showing : Request → List ℕ → Request
@@ -26,10 +26,12 @@ pub record SameTo (n : ℕ) (m m′ : Memory) : Type 0 where
   pub picture : take n (m .picture) ≡ take n (m′ .picture)
   pub place : m .place ≡ m′ .place
 
--- a call, and the same with another shown picture, at two memories: one answer and count, and what they leave is the same up to n
+-- a call, and the same with another shown picture, at two memories: one answer and count, and what they leave is the same up to n, also where both are
+-- cut at one point
 pub record SameCalls (n : ℕ) (c : Request) (front : List ℕ) (m m′ : Memory) : Type 0 where
   pub answers : reply calling m c ≡ reply calling m′ (showing c front)
   pub leaves : SameTo n (step calling m c) (step calling m′ (showing c front))
+  pub cuts : (j : ℕ) → SameTo n (happens calling m (cut c j)) (happens calling m′ (cut (showing c front) j))
 
 -- a call reads no byte beyond the size
 abbrev pub Unread : Request → Type 0

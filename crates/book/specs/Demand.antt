@@ -11,9 +11,9 @@ use Rattle.refusal.specs.Number.{accept}
 use Rattle.packet.specs.Packet.{blocks}
 use Rattle.packet.specs.Accepted.{Accepts}
 use Rattle.stores.specs.Stores.{Memory, memory, final}
-use Rattle.stores.specs.Calls.{whole, Event, callOf, step, reply, happens, Returning, CutWithin, finally, ampleCalls, Each, AsBooked}
+use Rattle.stores.specs.Calls.{whole, Event, returns, cut, callOf, step, reply, happens, Returning, CutWithin, finally, ampleCalls, Each, AsBooked}
 use Rattle.draw.specs.Drawing.{plan}
-use Rattle.draw.specs.Call.{Request, packetOf, drawVerdict, calling, Pictures, pictures}
+use Rattle.draw.specs.Call.{Request, packetOf, drawVerdict, calling, Pictures, pictures, leaves}
 
 -- two calls bring the same packet, map, size and shown picture
 pub record Same (a b : Request) : Type 0 where
@@ -37,9 +37,10 @@ pub record Given (c : Request) (first : List ℕ) : Type 0 where
   pub front-long : c .width * c .height ≤ length (c .front)
   pub back-long : c .width * c .height ≤ length first
 
--- what an event leaves of both pictures and the place: the shown picture of its call stays
-abbrev pub leavesAt : Memory → Event Request → Pictures
-leavesAt m e = pictures (callOf e .front) (happens calling m e)
+-- what an event leaves of both pictures and the place: a call that returns what the contract of `draw` says; of a cut one the shown picture stays, too
+unfoldable pub leavesAt : Memory → Event Request → Pictures
+leavesAt m (returns c) = leaves c m
+leavesAt m (cut c j) = pictures (c .front) (happens calling m (cut c j))
 
 -- a call that is not refused and is allowed 65 stores or more raises the place or answers "whole"
 abbrev pub Progresses : Memory → Request → Type 0

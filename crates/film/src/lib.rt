@@ -141,7 +141,7 @@ fn act_on(
     }
 }
 
-// 03, 08, 09 of the chosen stream. Whatever else is lent stays as it is.
+// 03, 08, 09 where a stream is chosen. Whatever else is lent stays as it is.
 fn hear_sound(
     st: State,
     kind: usize,

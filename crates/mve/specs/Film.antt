@@ -27,7 +27,7 @@ flagOf n = cond (eqb n 0) false true
 abbrev pub numberOf : Bool → ℕ
 numberOf b = cond b 1 0
 
--- has-format: 0 before a 03; then only the stream is read
+-- has-format: 0 before a 03; where it is 0, only the stream is read
 unfoldable pub soundOf : MveSound → Sound
 soundOf m =
     cond (eqb (m .«has_format») 0) (firstSound (m .stream))

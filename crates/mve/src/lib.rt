@@ -94,7 +94,7 @@ pub extern "C" fn mve_draw(
     }
 }
 
-// The sound that a state keeps. stream: the one that opening was given. has_format: 0 before a 03; then nothing below is read. stereo, wide, compressed: what
+// The sound that a state keeps. stream: the one that opening was given. has_format: 0 before a 03; where it is 0, nothing below is read. stereo, wide, compressed: what
 // the last 03 said; wide is 16-bit. begun: 0 where no compressed 08 was taken since. left, right: the last sample of each channel.
 #[repr(C)]
 pub struct MveSound {

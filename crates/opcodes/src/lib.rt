@@ -80,7 +80,7 @@ pub fn drawn_step(st: State, p: usize, d: Drawn) -> Stepped
     }
 }
 
-// 03, 08, 09 of the chosen stream.
+// 03, 08, 09 where a stream is chosen.
 pub fn heard_step(st: State, p: usize, h: Heard) -> Stepped
     ensures { λ r. ⌜ steppedAs r ≡ heardStep st p (heardAs h) ⌝ }
 {

@@ -108,3 +108,14 @@ silence-kept s body room =
     let w = silence-counted s stereo wide compressed (wordAt body 4) (length room) in
     omega (arith, w .count t bytes e, w .fits t bytes e))
     s (wordAt body 2))
+
+-- ---- of the opcodes: the count word of the body and the format that is kept
+
+module _ (s : Sound) (body : List ℕ) (room : ℕ) (stereo wide compressed : Bool) (m : masked (s .stream) (wordAt body 2) ≡ true) (f : s .format ≡ Known stereo wide compressed) where
+  pub audio-counted : Counted (audioData s body room) (wordAt body 4 * sampleBytes wide compressed) room
+  unfolding audioData ofMask ofFormat
+  audio-counted = rw (m, f) (data-counted s stereo wide compressed (wordAt body 4) (drop 6 body) room)
+
+  pub silent-counted : Counted (audioSilence s body room) (wordAt body 4 * sampleBytes wide compressed) room
+  unfolding audioSilence ofMask ofFormat
+  silent-counted = rw (m, f) (silence-counted s stereo wide compressed (wordAt body 4) room)

@@ -63,7 +63,7 @@ unfoldable pub mapped : State → ℕ → Map → State
 mapped st p map =
     record { cursor = cursorBehind (st .cursor) p; width = st .width; height = st .height; front = st .front; map = map; unsent = st .unsent; sound = st .sound }
 
--- 03, 08, 09 of the chosen stream: with the sound that comes of them
+-- 03, 08, 09 where a stream is chosen: with the sound that comes of them
 unfoldable pub heard : State → ℕ → Sound → State
 heard st p sound =
     record { cursor = cursorBehind (st .cursor) p; width = st .width; height = st .height; front = st .front; map = st .map; unsent = st .unsent; sound = sound }

@@ -166,7 +166,7 @@ impl State {
         }
     }
 
-    // 03, 08, 09 of the chosen stream: with the sound that comes of them.
+    // 03, 08, 09 where a stream is chosen: with the sound that comes of them.
     pub fn heard(self, p: usize, sound: Sound) -> State
         ensures { λ r. ⌜ r ≡ heard self p sound ⌝ }
     {

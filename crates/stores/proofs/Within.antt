@@ -2,13 +2,13 @@
 -- place (`after-within`). The two plans differ in their values alone, since each has the other pictures that it reads within it.
 use mathlib.Core.Path.{_≡_, refl, sym, ap, _∙_}
 use mathlib.Core.List.{List}
-use Prim.Native.Nat.{ℕ, zero, suc, _-_, _≤_, _<_, min}
+use Prim.Native.Nat.{ℕ, zero, suc, _+_, _-_, _≤_, _<_, min}
 use native.Mathlib.Decide.{ℕ-discrete, decLt}
 use native.Mathlib.Omega.{arith}
 use borrow.Author.Tests.{lt-ltb, le-ltb}
 use lib.Dec.{ltb}
-use lib.ListN.{length, getD, set, take, length-set, length-take}
-use lib.Seq.{getD-set-same, getD-set-other, getD-take, ext-getD, take-all, take-take}
+use lib.ListN.{length, getD, set, take, drop, length-set, length-take, length-drop}
+use lib.Seq.{getD-set-same, getD-set-other, getD-take, getD-drop, ext-getD, take-all, take-take}
 use Rattle.stores.specs.Stores.{Plan, due, Memory, memory, run, firstPixels, after}
 use Rattle.stores.specs.Calls.{Call, refused, allowed, leaveCut}
 use Rattle.stores.proofs.Steps.{after-end, after-part, after-block, by-blocks}
@@ -49,6 +49,12 @@ take-short n a b e = by (decLt (length a) n)
         let y : n ≤ length a = omega arith in
         let z : n ≤ length b = omega (arith, least) in
         le-ltb (length a) n y ∙ sym (le-ltb (length b) n z)
+
+-- two lists of one length that agree from n on have one rest
+pub drop-same : (n : ℕ) (a b : List ℕ) → length a ≡ length b → ((t : ℕ) → n ≤ t → getD a t 0 ≡ getD b t 0) → drop n a ≡ drop n b
+drop-same n a b l f =
+    ext-getD 0 (drop n a) (drop n b) (length-drop n a ∙ ap (λ (x : ℕ). x - n) l ∙ sym (length-drop n b))
+    (λ t h. getD-drop n a t 0 ∙ f (n + t) (omega arith) ∙ sym (getD-drop n b t 0))
 
 -- one store on both
 agree-set : (n : ℕ) (a b : List ℕ) (t v : ℕ) → AgreeTo n a b → AgreeTo n (set a t v) (set b t v)

@@ -4,15 +4,15 @@
 use mathlib.Core.Path.{_≡_, refl, sym, ap, _∙_}
 use mathlib.Core.Bool.{Bool, true, false, cond}
 use mathlib.Core.List.{List}
-use Prim.Native.Nat.{ℕ, _+_, _*_, _≤_}
+use Prim.Native.Nat.{ℕ, _+_, _*_}
 use lib.Dec.{eqb}
-use lib.ListN.{length, getD, take}
+use lib.ListN.{length, take, drop}
 use Rattle.refusal.specs.Number.{Verdict, refuse}
 use Rattle.packet.specs.Verdict.{legalSize}
 use Rattle.stores.specs.Stores.{Memory, memory}
-use Rattle.stores.specs.Calls.{refusal, Outcome as Drawn, returns, callOf, leave, outcome, happens, step, reply}
+use Rattle.stores.specs.Calls.{refusal, returns, cut, callOf, leave, leaveCut, outcome, happens, step, reply}
 use Rattle.stores.proofs.Within.{take-short}
-use Rattle.draw.specs.Call.{Request, request, Reason, reason, comes, calling}
+use Rattle.draw.specs.Call.{Request, request, reason, comes, calling}
 use Rattle.draw.proofs.Judged.{judged-6}
 use Rattle.book.specs.Beyond.{showing, SameCalls}
 use Rattle.book.specs.Beyond.{SameTo as SameMemory}
@@ -44,17 +44,22 @@ module _ (q : Request) (m : Memory) (e : legalSize (q .width) (q .height) ≡ fa
   unfolding leave comes
   refused-leaves = rw (← judged-6 (q .width) (q .height) (q .map) (q .bytes) (length (q .front)) (length (m .picture)) (m .place) e) refl
 
+  refused-cuts : (j : ℕ) → happens calling m (cut q j) ≡ m
+  unfolding happens leaveCut comes
+  refused-cuts j = rw (← judged-6 (q .width) (q .height) (q .map) (q .bytes) (length (q .front)) (length (m .picture)) (m .place) e) refl
+
   refused-says : reply calling m q ≡ record { answer = refusal (reason 6 0); count = 0 }
   unfolding outcome comes
   refused-says = rw (← judged-6 (q .width) (q .height) (q .map) (q .bytes) (length (q .front)) (length (m .picture)) (m .place) e) refl
 
-draw-kept : (q : Request) (m : Memory) (t : ℕ) → area (q .width) (q .height) ≤ t → getD (step calling m q .picture) t 0 ≡ getD (m .picture) t 0
+draw-kept : (q : Request) (m : Memory) → drop (area (q .width) (q .height)) (step calling m q .picture) ≡ drop (area (q .width) (q .height)) (m .picture)
 unfolding area callOf happens
-draw-kept q m t h = by (legalSize (q .width) (q .height)) refl h
+draw-kept q m = by (legalSize (q .width) (q .height)) refl
   where
-    by : (b : Bool) → legalSize (q .width) (q .height) ≡ b → cond b (q .width * q .height) 0 ≤ t → getD (step calling m q .picture) t 0 ≡ getD (m .picture) t 0
-    by true e l = beyond-unwritten m (returns q) t l
-    by false e l = rw (refused-leaves q m e) refl
+    by : (b : Bool) → legalSize (q .width) (q .height) ≡ b
+        → drop (cond b (q .width * q .height) 0) (step calling m q .picture) ≡ drop (cond b (q .width * q .height) 0) (m .picture)
+    by true e = beyond-unwritten m (returns q)
+    by false e = ap (λ (x : Memory). drop 0 (x .picture)) (refused-leaves q m e)
 
 draw-same : (q : Request) (front : List ℕ) (m m′ : Memory) → take (area (q .width) (q .height)) (q .front) ≡ take (area (q .width) (q .height)) front
     → SameMemory (area (q .width) (q .height)) m m′ → SameCalls (area (q .width) (q .height)) q front m m′
@@ -68,13 +73,14 @@ draw-same q front m m′ f s = by (legalSize (q .width) (q .height)) refl f s
         record {
           answers = refused-says q m e ∙ sym (refused-says (showing q front) m′ e);
           leaves = rw (refused-leaves q m e, refused-leaves (showing q front) m′ e) s;
+          cuts = λ j. rw (refused-cuts q m e j, refused-cuts (showing q front) m′ e j) s;
         }
 
 -- ---- none is written
 
 -- a step that stores no pixel
 kept : (n : ℕ) (l : Lent) (o : Outcome) → o .lent .first ≡ l .first → o .lent .second ≡ l .second → KeptFrom n l o
-kept n l o e e′ = record { first = λ t h. ap (λ (a : List ℕ). getD a t 0) e; second = λ t h. ap (λ (a : List ℕ). getD a t 0) e′ }
+kept n l o e e′ = record { first = ap (drop n) e; second = ap (drop n) e′ }
 
 kept-by : (n : ℕ) (l : Lent) (b : Bool) (x y : Outcome) → KeptFrom n l x → KeptFrom n l y → KeptFrom n l (cond b x y)
 kept-by n l true x y p q = p
@@ -88,7 +94,7 @@ module _ (film : List ℕ) (st : State) (allowed : ℕ) where
   unfolding called
   kept-drawn p map packet l =
       record {
-        first = λ t h. refl;
+        first = refl;
         second = draw-kept (request (st .width) (st .height) map packet (l .first) allowed) (memory (l .second) (l .place));
       }
 

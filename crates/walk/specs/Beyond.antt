@@ -3,8 +3,8 @@
 -- Assumes nothing.
 use mathlib.Core.Path.{_≡_}
 use mathlib.Core.List.{List}
-use Prim.Native.Nat.{ℕ, _-_, _≤_}
-use lib.ListN.{getD, take}
+use Prim.Native.Nat.{ℕ, _-_}
+use lib.ListN.{take, drop}
 use Rattle.state.specs.declared.State.{State}
 use Rattle.state.specs.State.{area}
 use Rattle.film.specs.Film.{Lent, Outcome, stepOf}
@@ -15,8 +15,8 @@ bytes st = area (st .width) (st .height)
 
 -- after a step that was lent l the pictures are as they were from byte n on
 pub record KeptFrom (n : ℕ) (l : Lent) (o : Outcome) : Type 0 where
-  pub first : (t : ℕ) → n ≤ t → getD (o .lent .first) t 0 ≡ getD (l .first) t 0
-  pub second : (t : ℕ) → n ≤ t → getD (o .lent .second) t 0 ≡ getD (l .second) t 0
+  pub first : drop n (o .lent .first) ≡ drop n (l .first)
+  pub second : drop n (o .lent .second) ≡ drop n (l .second)
 
 -- a step writes no byte beyond the size
 abbrev pub Unwritten : List ℕ → State → ℕ → Lent → Type 0
