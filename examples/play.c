@@ -1,17 +1,20 @@
-/* play.c - an example player: a film to numbered pictures, through stops
+/* play.c - an example player: a film to numbered pictures and its sound to WAV files, through stops
 
-    play FILM FOLDER ALLOWANCE
+    play FILM FOLDER ALLOWANCE [STREAM [EVERY]]
 
-Writes each picture that the film sends to FOLDER, as 000000.ppm, 000001.ppm and so on. FOLDER must be there and hold no
-name that ends in .ppm. Every step is allowed ALLOWANCE stores; when they do not suffice, the player is stopped as a
-watchdog would stop it, and goes on. Exits with 0 where the film ended, 1 where it was refused or a file or the folder
-failed, 2 on bad arguments. host/play is the same player in Rust.
+Writes each picture that the film sends to FOLDER, as 000000.ppm, 000001.ppm and so on, and the sound of stream STREAM
+(0 to 15, 0 if it is not given; above 15 none) as 000000.wav; where format or rate changes 000001.wav begins, and so on.
+FOLDER must be there and hold no name that ends in .ppm or .wav. Every step is allowed ALLOWANCE stores; when they do
+not suffice, the player is stopped as a watchdog would stop it, and goes on. If EVERY is given, it is also stopped at
+every so many opcodes of sound, when what they give is written and the state is not saved yet. Exits with 0 where the
+film ended, 1 where it was refused or a file or the folder failed, 2 on bad arguments. host/play is the same player in
+Rust.
 
     rt staticlib mve
     cc -std=c11 -Iinclude examples/play.c target/staticlib/libmve.a -o play
 */
 
-#define _POSIX_C_SOURCE 200809L /* for dirent.h */
+#define _POSIX_C_SOURCE 200809L /* for dirent.h and truncate */
 
 #include "mve.h"
 
@@ -23,16 +26,35 @@ failed, 2 on bad arguments. host/play is the same player in Rust.
 #include <stdio.h>
 #include <stdlib.h>
 #include <string.h>
+#include <unistd.h>
 
 enum {
     LARGEST_PICTURE = 640 * 480,
     LEAST_ALLOWANCE = 65, /* the stores of a block with pixels: a step that is allowed fewer never finishes one */
-    PICTURE_NAME = 32     /* room for a slash and the name of a picture */
+    LEAST_EVERY = 2,      /* a player that is stopped at every opcode of sound never gets on */
+    FILE_NAME = 32,       /* room for a slash and the name of a picture or a sound file */
+    WAV_HEADER = 44
 };
 
-/* All that a stop leaves. In a real player it lies in memory that outlives the stop. */
+/* The sound files: how many were begun, and of the last one, which is being written, the bytes of samples and what its
+   header says. */
+struct sound {
+    size_t files;
+    size_t bytes;
+    size_t stereo;
+    size_t wide;
+    size_t rate;
+};
+
+/* Where a player is: what it must not lose at a stop. */
+struct saved {
+    struct mve_state state;
+    struct sound sound;
+};
+
+/* All that a stop leaves, beside the files. In a real player it lies in memory that outlives the stop. */
 struct kept {
-    struct mve_state states[2];
+    struct saved slots[2];
     atomic_size_t saved; /* which of the two is the saved one */
     uint8_t palette[768];
     uint8_t a[LARGEST_PICTURE];
@@ -45,6 +67,14 @@ struct arguments {
     const char *film;
     const char *folder;
     size_t allowance;
+    size_t stream;
+    size_t every; /* 0: no stop at opcodes of sound */
+};
+
+/* What stops a run. It outlives the runs and knows nothing of the film. */
+struct watchdog {
+    size_t stops;
+    size_t sounds; /* opcodes of sound; one that is taken again counts again */
 };
 
 struct film {
@@ -54,15 +84,16 @@ struct film {
 
 enum outcome { STOPPED, ENDED, FAILED };
 
-static struct mve_state saved_state(const struct kept *kept) {
-    return kept->states[atomic_load(&kept->saved)];
+static struct saved load(const struct kept *kept) {
+    return kept->slots[atomic_load(&kept->saved)];
 }
 
-/* The new state is written in full beside the old one; then one store makes it the saved one, an atomic one, which stays
-   behind the others. A stop in between leaves the old state, and the step that gave the new one is taken again. */
-static void save(struct kept *kept, struct mve_state state) {
+/* The new state is written in full beside the old one, with the sound that belongs to it; then one store makes it the
+   saved one, an atomic one, which stays behind the others. A stop in between leaves the old state, and the step that
+   gave the new one is taken again. */
+static void save(struct kept *kept, struct saved next) {
     size_t spare = 1 - atomic_load(&kept->saved);
-    kept->states[spare] = state;
+    kept->slots[spare] = next;
     atomic_store(&kept->saved, spare);
 }
 
@@ -75,9 +106,13 @@ static void picture_path(char *path, size_t room, const char *folder, size_t num
     snprintf(path, room, "%s/%06zu.ppm", folder, number);
 }
 
-static bool is_picture_name(const char *name) {
+static void sound_path(char *path, size_t room, const char *folder, size_t number) {
+    snprintf(path, room, "%s/%06zu.wav", folder, number);
+}
+
+static bool is_output_name(const char *name) {
     size_t length = strlen(name);
-    return length >= 4 && strcmp(name + length - 4, ".ppm") == 0;
+    return length >= 4 && (strcmp(name + length - 4, ".ppm") == 0 || strcmp(name + length - 4, ".wav") == 0);
 }
 
 static bool has_picture(const char *folder, size_t number) {
@@ -90,8 +125,8 @@ static bool has_picture(const char *folder, size_t number) {
     return file != NULL;
 }
 
-/* Looks for a name that ends in .ppm in the folder, whatever its number. False where the folder cannot be read. */
-static bool find_pictures(const char *folder, bool *found) {
+/* Looks for a name that ends in .ppm or .wav in the folder. False where the folder cannot be read. */
+static bool find_output(const char *folder, bool *found) {
     DIR *names = opendir(folder);
     if (names == NULL) {
         return false;
@@ -100,7 +135,7 @@ static bool find_pictures(const char *folder, bool *found) {
     do {
         errno = 0;
         entry = readdir(names);
-    } while (entry != NULL && !is_picture_name(entry->d_name));
+    } while (entry != NULL && !is_output_name(entry->d_name));
     *found = entry != NULL;
     int error = errno;
     closedir(names);
@@ -195,7 +230,116 @@ static bool write_picture(const struct kept *kept, struct mve_state state, const
     return true;
 }
 
-static void tell_refusal(struct mve_stepped refused, const struct arguments *arguments) {
+static void put_number(uint8_t *bytes, size_t length, size_t number) {
+    for (size_t i = 0; i < length; i++) {
+        bytes[i] = (uint8_t)(number >> 8 * i);
+    }
+}
+
+/* The header of a WAV file with so many bytes of samples; where they are odd, a byte is to follow them. */
+static void wav_header(uint8_t *header, struct sound sound, size_t bytes) {
+    size_t channels = sound.stereo ? 2 : 1, sample = sound.wide ? 2 : 1;
+    memcpy(header, "RIFF", 4);
+    memcpy(header + 8, "WAVEfmt ", 8);
+    memcpy(header + 36, "data", 4);
+    put_number(header + 4, 4, WAV_HEADER - 8 + bytes + bytes % 2);
+    put_number(header + 16, 4, 16);
+    put_number(header + 20, 2, 1); /* samples as they are */
+    put_number(header + 22, 2, channels);
+    put_number(header + 24, 4, sound.rate);
+    put_number(header + 28, 4, sound.rate * channels * sample);
+    put_number(header + 32, 2, channels * sample);
+    put_number(header + 34, 2, 8 * sample);
+    put_number(header + 40, 4, bytes);
+}
+
+/* Writes bytes to a sound file, from an offset on. Flushed: a stop loses nothing of what was written. */
+static bool write_at(const char *path, const char *mode, size_t offset, const uint8_t *bytes, size_t length) {
+    FILE *file = fopen(path, mode);
+    bool written = file != NULL && fseek(file, (long)offset, SEEK_SET) == 0 && fwrite(bytes, 1, length, file) == length;
+    if (file != NULL && fclose(file) != 0) {
+        written = false;
+    }
+    return written;
+}
+
+/* Fills in the lengths of the last sound file, if there is one. Doing it twice changes nothing. */
+static bool finish_sound(struct sound sound, const struct arguments *arguments) {
+    char path[FILENAME_MAX];
+    uint8_t header[WAV_HEADER], pad = 0;
+    if (sound.files == 0) {
+        return true;
+    }
+    sound_path(path, sizeof path, arguments->folder, sound.files - 1);
+    wav_header(header, sound, sound.bytes);
+    if (!write_at(path, "r+b", 0, header, WAV_HEADER) ||
+        !write_at(path, "r+b", WAV_HEADER + sound.bytes, &pad, sound.bytes % 2)) {
+        tell_error(arguments->film, "write", path);
+        return false;
+    }
+    return true;
+}
+
+/* After a taken 03 of this rate: goes on with the last sound file where format and rate are the same, else finishes it
+   and begins the next. */
+static bool take_format(struct saved *next, size_t rate, const struct arguments *arguments) {
+    struct sound *sound = &next->sound;
+    size_t stereo = next->state.stereo, wide = next->state.wide;
+    char path[FILENAME_MAX];
+    uint8_t header[WAV_HEADER];
+    if (sound->files != 0 && sound->stereo == stereo && sound->wide == wide && sound->rate == rate) {
+        return true;
+    }
+    if (!finish_sound(*sound, arguments)) {
+        return false;
+    }
+    *sound = (struct sound){.files = sound->files + 1, .bytes = 0, .stereo = stereo, .wide = wide, .rate = rate};
+    sound_path(path, sizeof path, arguments->folder, sound->files - 1);
+    wav_header(header, *sound, 0);
+    if (!write_at(path, "wb", 0, header, WAV_HEADER)) {
+        tell_error(arguments->film, "write", path);
+        return false;
+    }
+    return true;
+}
+
+/* Writes the samples of a packet behind those that the saved state knows of, and not behind all that are in the file: a
+   packet that is written again stands where it stood. */
+static bool write_samples(struct sound *sound, const uint8_t *samples, size_t bytes,
+                          const struct arguments *arguments) {
+    char path[FILENAME_MAX];
+    sound_path(path, sizeof path, arguments->folder, sound->files - 1);
+    if (bytes > UINT32_MAX - WAV_HEADER - sound->bytes) { /* no WAV file is longer */
+        errno = EFBIG;
+    } else if (write_at(path, "r+b", WAV_HEADER + sound->bytes, samples, bytes)) {
+        sound->bytes += bytes;
+        return true;
+    }
+    tell_error(arguments->film, "write", path);
+    return false;
+}
+
+/* At the start of a run: cuts the last sound file back to the samples that the saved state knows of, and removes one
+   that was begun behind it. */
+static bool cut_sound(struct sound sound, const struct arguments *arguments) {
+    char path[FILENAME_MAX];
+    sound_path(path, sizeof path, arguments->folder, sound.files);
+    if (remove(path) != 0 && errno != ENOENT) {
+        tell_error(arguments->film, "write", path);
+        return false;
+    }
+    if (sound.files == 0) {
+        return true;
+    }
+    sound_path(path, sizeof path, arguments->folder, sound.files - 1);
+    if (truncate(path, (off_t)(WAV_HEADER + sound.bytes)) != 0) {
+        tell_error(arguments->film, "write", path);
+        return false;
+    }
+    return true;
+}
+
+static void tell_refusal(struct mve_stepped refused, size_t sounds, const struct arguments *arguments) {
     static const char *const reasons[] = {
         [MVE_HEADER] = "film header wrong or short",
         [MVE_CHUNK] = "a chunk or its head passes the end of the film",
@@ -213,48 +357,88 @@ static void tell_refusal(struct mve_stepped refused, const struct arguments *arg
         [MVE_COPY_OUTSIDE] = "copied from outside the picture",
         [MVE_DATA_LEFT] = "data bytes left over",
         [MVE_STATE] = "a state that no film gives",
+        [MVE_SOUND_FORMAT] = "sound before its format, or a format both 8-bit and compressed",
+        [MVE_SOUND_LENGTH] = "sound data or sample count of a wrong length",
+        [MVE_ROOM] = "room too small for the samples",
     };
     fprintf(stderr, "\r%s: refused %zu", arguments->film, refused.number);
     if (refused.number >= MVE_CODE_6 && refused.number <= MVE_COPY_OUTSIDE) {
         fprintf(stderr, " in block %zu", refused.block);
     }
-    fprintf(stderr, ": %s, at byte %zu, pictures: %zu\n", reasons[refused.number], refused.state.position,
-            count_pictures(arguments->folder));
+    fprintf(stderr, ": %s, at byte %zu, pictures: %zu, sound files: %zu\n", reasons[refused.number],
+            refused.state.position, count_pictures(arguments->folder), sounds);
 }
 
-/* Steps over the film from the saved state on. A picture is sent by the step that leaves no frame unsent where one was
-   (opcode 07). It is written before the state is saved: a stop in between would write it twice, but lose none. */
-static enum outcome play(const struct film *film, struct kept *kept, const struct arguments *arguments) {
+/* Whether the opcode that a state stands at, which was taken, is a 03 that gave the format of the sound. */
+static bool is_format(const struct film *film, struct mve_state state) {
+    return state.position != state.chunk_end && film->bytes[state.position + 2] == 0x03 && state.stream <= 15;
+}
+
+/* The rate in a 03: the third word of its body. */
+static size_t rate_of(const struct film *film, struct mve_state state) {
+    const uint8_t *body = film->bytes + state.position + 4;
+    return body[4] + 256u * body[5];
+}
+
+/* Writes what a step that was taken or whole gave: samples, the beginning of a sound file, a picture. A picture is sent
+   by the step that leaves no frame unsent where one was (opcode 07). */
+static bool write_output(const struct film *film, const struct kept *kept, struct mve_state before, struct saved *next,
+                         const uint8_t *room, size_t bytes, const struct arguments *arguments) {
+    if (is_format(film, before) && !take_format(next, rate_of(film, before), arguments)) {
+        return false;
+    }
+    if (bytes > 0 && !write_samples(&next->sound, room, bytes, arguments)) {
+        return false;
+    }
+    return before.unsent == 0 || next->state.unsent != 0 || write_picture(kept, next->state, arguments, film->length);
+}
+
+/* Whether the watchdog stops a run that has just written what an opcode of sound gave. */
+static bool stops_at_sound(struct watchdog *watchdog, const struct arguments *arguments) {
+    watchdog->sounds += 1;
+    return arguments->every != 0 && watchdog->sounds % arguments->every == 0;
+}
+
+/* Steps over the film from the saved state on. What a step gives is written before the state is saved: a stop in
+   between writes a picture twice, but loses none; samples go to the same place of the file again. */
+static enum outcome play(const struct film *film, struct kept *kept, const struct arguments *arguments,
+                         struct watchdog *watchdog) {
+    static uint8_t room[MVE_ROOM_BYTES]; /* need not outlive a stop */
     for (;;) {
-        struct mve_state state = saved_state(kept);
+        struct saved saved = load(kept);
         struct mve_stepped step =
-            mve_step(film->bytes, film->length, state, kept->palette, sizeof kept->palette, kept->a, sizeof kept->a,
-                     kept->b, sizeof kept->b, &kept->place, arguments->allowance);
+            mve_step(film->bytes, film->length, saved.state, kept->palette, sizeof kept->palette, kept->a,
+                     sizeof kept->a, kept->b, sizeof kept->b, &kept->place, room, sizeof room, arguments->allowance);
+        struct saved next = {step.state, saved.sound};
         switch (step.kind) {
         case MVE_UNFINISHED:
             return STOPPED;
         case MVE_ENDED:
-            return ENDED;
+            return finish_sound(saved.sound, arguments) ? ENDED : FAILED;
         case MVE_REFUSED:
-            tell_refusal(step, arguments);
+            if (finish_sound(saved.sound, arguments)) {
+                tell_refusal(step, saved.sound.files, arguments);
+            }
             return FAILED;
         default: /* MVE_TAKEN, MVE_WHOLE */
-            if (state.unsent != 0 && step.state.unsent == 0 &&
-                !write_picture(kept, step.state, arguments, film->length)) {
+            if (!write_output(film, kept, saved.state, &next, room, step.bytes, arguments)) {
                 return FAILED;
             }
-            save(kept, step.state);
+            if ((is_format(film, saved.state) || step.bytes > 0) && stops_at_sound(watchdog, arguments)) {
+                return STOPPED;
+            }
+            save(kept, next);
         }
     }
 }
 
 /* A run of the player, up to its stop. All that it knows besides `kept` it finds out anew, the film included. */
-static enum outcome run(struct kept *kept, const struct arguments *arguments) {
+static enum outcome run(struct kept *kept, const struct arguments *arguments, struct watchdog *watchdog) {
     struct film film;
-    if (!read_film(arguments->film, &film)) {
+    if (!cut_sound(load(kept).sound, arguments) || !read_film(arguments->film, &film)) {
         return FAILED;
     }
-    enum outcome outcome = play(&film, kept, arguments);
+    enum outcome outcome = play(&film, kept, arguments, watchdog);
     free(film.bytes);
     return outcome;
 }
@@ -263,59 +447,72 @@ static enum outcome run(struct kept *kept, const struct arguments *arguments) {
 static bool begin(struct kept *kept, const struct arguments *arguments) {
     struct film film;
     bool found;
-    if (!find_pictures(arguments->folder, &found)) {
+    if (!find_output(arguments->folder, &found)) {
         tell_error(arguments->film, "read the folder", arguments->folder);
         return false;
     }
     if (found) {
-        fprintf(stderr, "\r%s: %s has pictures already: give a folder without\n", arguments->film, arguments->folder);
+        fprintf(stderr, "\r%s: %s has pictures or sound already: give a folder without\n", arguments->film,
+                arguments->folder);
         return false;
     }
     if (!read_film(arguments->film, &film)) {
         return false;
     }
-    struct mve_stepped opened = mve_open(film.bytes, film.length);
+    struct mve_stepped opened = mve_open(film.bytes, film.length, arguments->stream);
     free(film.bytes);
     if (opened.kind == MVE_REFUSED) {
-        tell_refusal(opened, arguments);
+        tell_refusal(opened, 0, arguments);
         return false;
     }
-    save(kept, opened.state);
+    save(kept, (struct saved){.state = opened.state});
     return true;
 }
 
-static bool read_allowance(const char *text, size_t *allowance) {
+static bool read_number(const char *text, size_t least, size_t *number) {
     char *end;
     errno = 0;
-    *allowance = strtoull(text, &end, 10);
-    return isdigit((unsigned char)text[0]) && *end == '\0' && errno == 0 && *allowance >= LEAST_ALLOWANCE;
+    *number = strtoull(text, &end, 10);
+    return isdigit((unsigned char)text[0]) && *end == '\0' && errno == 0 && *number >= least;
 }
 
-static bool read_arguments(int count, char **words, struct arguments *arguments) {
-    if (count != 4) {
-        fputs("usage: play FILM FOLDER ALLOWANCE\n", stderr);
-        return false;
-    }
-    arguments->film = words[1];
-    arguments->folder = words[2];
-    if (strlen(arguments->folder) + PICTURE_NAME > FILENAME_MAX) {
-        fputs("play: the folder's name is too long\n", stderr);
-        return false;
-    }
-    if (!read_allowance(words[3], &arguments->allowance)) {
+static bool read_numbers(int count, char **words, struct arguments *arguments) {
+    if (!read_number(words[3], LEAST_ALLOWANCE, &arguments->allowance)) {
         fprintf(stderr,
                 "play: allowance %s: give a number of stores, %d or more, or no block with pixels is ever finished\n",
                 words[3], LEAST_ALLOWANCE);
         return false;
     }
+    if (count > 4 && !read_number(words[4], 0, &arguments->stream)) {
+        fprintf(stderr, "play: stream %s: give a number, 0 to 15, or more for no sound\n", words[4]);
+        return false;
+    }
+    if (count > 5 && !read_number(words[5], LEAST_EVERY, &arguments->every)) {
+        fprintf(stderr, "play: every %s: give a number of opcodes, %d or more, or the first one is never saved\n",
+                words[5], LEAST_EVERY);
+        return false;
+    }
     return true;
+}
+
+static bool read_arguments(int count, char **words, struct arguments *arguments) {
+    if (count < 4 || count > 6) {
+        fputs("usage: play FILM FOLDER ALLOWANCE [STREAM [EVERY]]\n", stderr);
+        return false;
+    }
+    *arguments = (struct arguments){.film = words[1], .folder = words[2]};
+    if (strlen(arguments->folder) + FILE_NAME > FILENAME_MAX) {
+        fputs("play: the folder's name is too long\n", stderr);
+        return false;
+    }
+    return read_numbers(count, words, arguments);
 }
 
 /* The watchdog: it starts a run after every stop. */
 int main(int count, char **words) {
     static struct kept kept;
     struct arguments arguments;
-    size_t stops = 0;
+    struct watchdog watchdog = {0, 0};
     if (!read_arguments(count, words, &arguments)) {
         return 2;
     }
@@ -323,13 +520,13 @@ int main(int count, char **words) {
         return 1;
     }
     enum outcome outcome;
-    while ((outcome = run(&kept, &arguments)) == STOPPED) {
-        stops += 1;
+    while ((outcome = run(&kept, &arguments, &watchdog)) == STOPPED) {
+        watchdog.stops += 1;
     }
     if (outcome == FAILED) {
         return 1;
     }
-    fprintf(stderr, "\r%s: ended at byte %zu, pictures: %zu, stops: %zu\n", arguments.film,
-            saved_state(&kept).position, count_pictures(arguments.folder), stops);
+    fprintf(stderr, "\r%s: ended at byte %zu, pictures: %zu, sound files: %zu, stops: %zu\n", arguments.film,
+            load(&kept).state.position, count_pictures(arguments.folder), load(&kept).sound.files, watchdog.stops);
     return 0;
 }

@@ -1,19 +1,21 @@
-/* mve.h - a player core for Interplay MVE films, 8-bit pictures
+/* mve.h - a player core for Interplay MVE films, 8-bit pictures and sound
 
 SYNOPSIS
 
     #include "mve.h"
 
-    struct mve_stepped s = mve_open(film, film_length);
+    static uint8_t room[MVE_ROOM_BYTES];
+    struct mve_stepped s = mve_open(film, film_length, 0);
     size_t place = 0;
     while (s.kind != MVE_ENDED && s.kind != MVE_REFUSED) {
-        s = mve_step(film, film_length, s.state, palette, 768, a, a_length, b, b_length, &place, 1000);
+        s = mve_step(film, film_length, s.state, palette, 768, a, a_length, b, b_length, &place, room, sizeof room, 1000);
         size_t shown = mve_shown(s.state, a, a_length, b, b_length);
         ... show the first `shown` bytes of s.state.front ? b : a ...
+        ... play the first s.bytes bytes of the room ...
     }
 
-mve_open   the first state of a film
-mve_step   one step: a chunk's head, or one opcode with its palette change or its drawing
+mve_open   the first state of a film, for one stream of its sound or for none
+mve_step   one step: a chunk's head, or one opcode with its palette change, its drawing or its samples
 mve_shown  how many bytes of the front picture are to be shown
 mve_check  whether a packet is accepted, without drawing
 mve_draw   the drawing of a packet, without a film
@@ -24,7 +26,7 @@ MEMORY
 
 Nothing is allocated and nothing is kept between calls; all memory is lent by the caller. (The library calls memset, to
 set lent bytes, and nothing else.) What is lent must be private to the call while it runs: nobody else writes it, and
-nobody else reads what is lent for writing (palette, pictures, place). What is lent for writing shares no byte with
+nobody else reads what is lent for writing (palette, pictures, place, room). What is lent for writing shares no byte with
 anything else that is lent. Every address comes with its length and is not null, also where the length is 0. Nothing
 else is asked: any bytes, state, place and number are answered.
 
@@ -41,7 +43,10 @@ the picture is the same.
 A watchdog may therefore stop the program inside mve_step or mve_draw, between any two stores. To go on, call again
 with the same film, the state last given back, and the palette, pictures and place as the stop left them. Keep those
 in memory that outlives the stop, and the old state until the new one is saved in full. A step that was stopped while
-it changed the palette stores the same entries again.
+it changed the palette stores the same entries again. One that was stopped while it wrote samples writes the same
+samples again, since the state has the last samples before them: the room need not outlive the stop. So that no sample
+is played twice, take those of a step as played where its new state is saved, and not before (examples/play.c keeps the
+length of its file with the state, and cuts the file back to it after a stop).
 
 This holds on a machine that keeps two things. Stores reach that memory in program order, as the restarted program sees
 it: a store is there only with all that were made before it. So a write-back cache must not be lost at the stop, or must
@@ -63,17 +68,44 @@ Numbers are little-endian, a word is 16 bits.
     type  version  body
     00    0        none, last in its chunk; ends the film
     01    0        none, last in its chunk; ends the chunk
+    03    0, 1     8, 10 bytes: the format of the sound
     05    0 to 2   4, 6, 8 bytes: words width and height in pixels, a count, and in version 2 the true-colour word 0.
                    Multiples of 8, width 8 to 640, height 8 to 480, once in a film.
     07    0, 1     4, 6 bytes, not read: sends the frame. If one is finished and unsent, front and back change roles.
+    08    0        6 bytes or more: sound
+    09    0        6 bytes: silence
     0B    0        6 bytes: two gradients of the palette, red-blue and red-green: base, rows, columns of each
     0C    0        words start and count, then 3 bytes an entry
     0D    0        32 groups: a mask byte, lowest bit first, and 3 bytes for each bit that is one
     0F    0        the map for the next 11; the place becomes 0
     11    0        14 bytes that are skipped, then the packet
-    02 to 04, 08 to 0A, 12 to 15: passed over unread. Other types are refused.
+    02, 04, 0A, 12 to 15: passed over unread; 03, 08 and 09, too, where the stream is above 15. Other types are refused.
 
 The palette is 256 entries of red, green and blue, 0 to 63: 768 bytes.
+
+THE SOUND
+
+A film has up to 16 streams of sound, 0 to 15; mve_open is told which is wanted. A number above 15 is none: 03, 08 and 09
+are then passed over, whatever their version and length.
+
+    03       a word that is not read; word of flags: bit 0 stereo, bit 1 16-bit, bit 2 compressed (in version 1 alone);
+             word of the rate, in samples of a channel a second, and the length of a buffer, which the library does not
+             read; a host finds the rate in the body's third word (bytes 4 and 5, counted from 0). A later 03 starts
+             afresh.
+    08, 09   word of an index that is not read; word of a mask, which has bit n for stream n; word of the count of
+             samples, of both channels together; of 08 then the data. A packet whose mask lacks the stream's bit is passed over.
+
+A step that takes an 08 or 09 of the stream writes its samples at the room's front and answers how many bytes in `bytes`;
+the rest of the room stays. Samples of 16 bits are signed, with the low byte first; those of 8 bits are unsigned. Left and
+right come in turn. state.stereo and state.wide tell the format.
+
+    08, uncompressed   the data: one byte a sample, or two
+    08, compressed     16-bit. The first one behind a 03 has a start word for each channel, which are its first samples;
+                       then, as in all later ones, a byte a sample, which picks one of 256 steps from the last sample of
+                       its channel, added with wrap-around. The state carries the last samples from packet to packet.
+    09                 zero samples (of 8 bits 128); the last samples stay
+
+MVE_ROOM_BYTES are always room enough. After MVE_ROOM call again with more: nothing has changed.
 
 THE PACKET
 
@@ -104,6 +136,13 @@ frames old that is drawn on. A copied 8x8 lies inside its picture.
 extern "C" {
 #endif
 
+/* The version of this interface. It changes with every change that a program must be compiled anew for; CHANGELOG.md says
+   what changed. 1 was without sound, and without this number. */
+#define MVE_VERSION 2
+
+/* A room that is always enough: a word counts a packet's samples, and each has two bytes at most. */
+#define MVE_ROOM_BYTES 131070
+
 /* What a call answers. */
 enum mve_kind {
     MVE_ACCEPTED = 0,   /* mve_check: the packet gives a picture and is used up */
@@ -117,7 +156,7 @@ enum mve_kind {
 /* Numbers of refusal. Where more than one is met the first in this order is given; of blocks the lowest speaks.
    mve_draw alone tests the size before the lengths lent. */
 enum mve_refusal {
-    MVE_STATE = 16,          /* a state with position, chunk end, map, front or size out of bounds */
+    MVE_STATE = 16,          /* a state with position, chunk end, map, front, size or sound format out of bounds */
     MVE_LENT_LENGTH = 8,     /* palette not 768 bytes, or a picture shorter than the frame */
     MVE_HEADER = 1,          /* film header wrong or short (mve_open alone) */
     MVE_CHUNK = 2,           /* a chunk or its head passes the end of the film */
@@ -132,7 +171,11 @@ enum mve_refusal {
     MVE_CODE_6 = 12,         /* code 6 is not taken in 8-bit films */
     MVE_DATA_SHORT = 13,     /* too few data bytes */
     MVE_COPY_OUTSIDE = 14,   /* copied from outside the picture */
-    MVE_DATA_LEFT = 15       /* data bytes left over */
+    MVE_DATA_LEFT = 15,      /* data bytes left over */
+    MVE_SOUND_FORMAT = 17,   /* 08 or 09 of the stream before a 03, or a 03 both 8-bit and compressed */
+    MVE_SOUND_LENGTH = 18,   /* data not as long as the count of samples says, a count that is odd in stereo, or below the
+                                channels in the first compressed 08 */
+    MVE_ROOM = 19            /* room too small for the samples */
 };
 
 /* Where a walk over a film is. It goes into a step and comes back; keep it as it came. */
@@ -146,6 +189,14 @@ struct mve_state {
     size_t map_start;  /* the pending map's part of the film */
     size_t map_length;
     size_t unsent;     /* 0: no frame is finished and unsent */
+    size_t stream;     /* of sound; above 15: none */
+    size_t has_format; /* 0: no 03 was taken yet; where it is 0, nothing below is read */
+    size_t stereo;     /* 0: one channel */
+    size_t wide;       /* 0: 8-bit samples, else 16-bit */
+    size_t compressed;
+    size_t begun;      /* 0: no compressed 08 was taken since the last 03 */
+    uint16_t left;     /* the last samples of compressed sound; of one channel, left */
+    uint16_t right;
 };
 
 /* number and block: of a refusal, else 0; block only for 12 to 14. stores: how many the call made. */
@@ -156,24 +207,28 @@ struct mve_answer {
     size_t stores;
 };
 
+/* bytes: how many the step wrote at the room's front; 0 but for an 08 or 09 of the stream that is taken. */
 struct mve_stepped {
     size_t kind;
     size_t number;
     size_t block;
     size_t stores;
+    size_t bytes;
     struct mve_state state;
 };
 
-/* The first state of a film: MVE_TAKEN, or MVE_REFUSED by MVE_HEADER with a state of zeros. Reads the film alone. */
-struct mve_stepped mve_open(const uint8_t *film, size_t film_length);
+/* The first state of a film, for this stream of its sound: MVE_TAKEN, or MVE_REFUSED by MVE_HEADER with a state of zeros.
+   Reads the film alone. */
+struct mve_stepped mve_open(const uint8_t *film, size_t film_length, size_t stream);
 
 /* One step. MVE_TAKEN: a chunk's head or an opcode but 11. MVE_WHOLE, MVE_UNFINISHED: opcode 11, by at most `allowed`
    stores; while it is unfinished the position stays. a and b are the two pictures, each at least width times height
-   bytes once the size is known. The place starts at 0. Every number of refusal but 1
+   bytes once the size is known. The place starts at 0. The room is written by sound alone. Every number of refusal but 1
    can be met. */
 struct mve_stepped mve_step(const uint8_t *film, size_t film_length, struct mve_state state,
-                         uint8_t *palette, size_t palette_length, uint8_t *a, size_t a_length,
-                         uint8_t *b, size_t b_length, size_t *place, size_t allowed);
+                            uint8_t *palette, size_t palette_length, uint8_t *a, size_t a_length,
+                            uint8_t *b, size_t b_length, size_t *place, uint8_t *room, size_t room_length,
+                            size_t allowed);
 
 /* How many bytes of the front picture (a where state.front is 0, b where it is 1) are shown: width times height, or 0
    where no size is known yet, front is above 1, the size is not one that 05 may give, or that picture is shorter. */

@@ -2,7 +2,7 @@
 -- Assumes nothing.
 use mathlib.Core.Path.{_≡_, refl, sym, ap, _∙_, subst}
 use mathlib.Core.Bool.{Bool, true, false, cond}
-use mathlib.Core.List.{List}
+use mathlib.Core.List.{List, []}
 use Prim.Native.Nat.{ℕ, _+_, _-_, _≤_}
 use borrow.Author.Tests.{eq-eqb, ne-eqb, leb-true}
 use lib.Dec.{eqb}
@@ -18,6 +18,14 @@ use Rattle.palette.specs.Update.{Update, told, verdictOn, paletteAfter}
 use Rattle.palette.specs.Gradient.{createGradient}
 use Rattle.palette.specs.Entries.{setPalette}
 use Rattle.palette.specs.Mask.{setPaletteCompressed}
+use Rattle.words.specs.Word.{wordAt}
+use Rattle.room.specs.Room.{written}
+use Rattle.sound.specs.declared.Sound.{Sound}
+use Rattle.sound.specs.declared.Heard.{Heard}
+use Rattle.sound.specs.Format.{chosen, formatOf, possibleFormat, afresh}
+use Rattle.sound.specs.Step.{roomAfter}
+use Rattle.sound.specs.Step as sound
+use Rattle.sound.specs.Sound.{heardAs, answer, initializeAudio, audioData, audioSilence}
 use Rattle.state.specs.declared.Cursor.{Cursor}
 use Rattle.state.specs.declared.Map.{Map}
 use Rattle.state.specs.declared.Map.the-variants.{Missing, Part}
@@ -25,12 +33,13 @@ use Rattle.state.specs.declared.State.{State}
 use Rattle.state.specs.Moves.{behind, into, mapped}
 use Rattle.state.specs.State.{mapInside}
 use Rattle.heads.specs.declared.Opcode.{Opcode}
+use Rattle.heads.specs.Heads.{hears}
 use Rattle.next.specs.declared.Next.{Next}
 use Rattle.next.specs.declared.Next.the-variants as found
 use Rattle.next.specs.Next.{nextAs, nextOf, Possible, Ready}
 use Rattle.next.proofs.Standing.{found-ready}
-use Rattle.opcodes.specs.Opcodes.{Step, taken, ended, refused, quiet, quietAnswer, paletteAnswer, drawnStep}
-use Rattle.film.specs.Film.{Lent, lent, withPalette, withPictures, swap, Outcome, after, called, drawSecond, drawOn, part, drawBy, act, actOn, standing, stepOf}
+use Rattle.opcodes.specs.Opcodes.{Step, taken, ended, refused, quiet, quietAnswer, heardStep, paletteAnswer, drawnStep}
+use Rattle.film.specs.Film.{Lent, lent, withPalette, withPictures, withRoom, swap, Outcome, after, called, drawSecond, drawOn, part, drawBy, act, actOn, heardBy, hear, takeOn, standing, stepOf}
 
 -- ---- 11
 
@@ -124,6 +133,42 @@ module _ (film : List ℕ) (st : State) (kind version s : ℕ) (body : List ℕ)
   unfolding act
   act-quiet x n11 n12 n13 n15 n17 f = rw (ne-eqb _ _ n15, ne-eqb _ _ n17, ne-eqb _ _ n11, ne-eqb _ _ n12, ne-eqb _ _ n13, f)
 
+-- ---- sound
+
+-- 03 writes nothing
+silent : (s : Sound) (version : ℕ) (body room : List ℕ) → roomAfter (initializeAudio s version body) room ≡ room
+unfolding initializeAudio roomAfter written
+silent s version body room = by (possibleFormat (formatOf version (wordAt body 2)))
+  where
+    by : (b : Bool) → roomAfter (cond b (sound.taken (afresh s (formatOf version (wordAt body 2))) []) (sound.refused 17 0)) room ≡ room
+    by true = refl
+    by false = refl
+
+module _ (st : State) (kind version : ℕ) (body : List ℕ) (p : ℕ) (l : Lent) (x : Step) (h : Heard) (f : x ≡ heardStep st p (heardAs h)) where
+  pub hears-format : kind ≡ 3 → heardAs h ≡ answer (initializeAudio (st .sound) version body) → after x l ≡ hear st kind version body p l
+  unfolding hear heardBy
+  hears-format e q = rw (e, f, q, silent (st .sound) version body (l .room))
+
+  pub hears-data : (r : List ℕ) → kind ≡ 8 → heardAs h ≡ answer (audioData (st .sound) body (length (l .room)))
+      → r ≡ roomAfter (audioData (st .sound) body (length (l .room))) (l .room) → after x (withRoom l r) ≡ hear st kind version body p l
+  unfolding hear heardBy
+  hears-data r e q g = rw (e, f, q, g)
+
+  pub hears-silence : (r : List ℕ) → (kind ≡ 3 → ⊥) → (kind ≡ 8 → ⊥) → heardAs h ≡ answer (audioSilence (st .sound) body (length (l .room)))
+      → r ≡ roomAfter (audioSilence (st .sound) body (length (l .room))) (l .room) → after x (withRoom l r) ≡ hear st kind version body p l
+  unfolding hear heardBy
+  hears-silence r n m q g = rw (ne-eqb _ _ n, ne-eqb _ _ m, f, q, g)
+
+module _ (film : List ℕ) (st : State) (o : Opcode) (allowed : ℕ) (l : Lent) (b c : Bool) (e : b ≡ chosen (st .sound .stream)) (q : c ≡ hears b (o .kind)) where
+  pub takes-sound : (x : Outcome) → c ≡ true → x ≡ hear st (o .kind) (o .version) (part film (o .start) (o .start + o .long)) (o .start + o .long) l
+      → x ≡ takeOn film st o allowed l
+  unfolding takeOn
+  takes-sound x t f = rw (← e, ← q, t) f
+
+  pub takes-other : (x : Outcome) → c ≡ false → x ≡ actOn film st o allowed l → x ≡ takeOn film st o allowed l
+  unfolding takeOn
+  takes-other x t f = rw (← e, ← q, t) f
+
 -- ---- a step
 
 module _ (film : List ℕ) (st : State) (allowed : ℕ) (l : Lent) (n : Next) (e : nextAs n ≡ nextOf film st (length (l .palette)) (length (l .first)) (length (l .second))) where
@@ -139,7 +184,7 @@ module _ (film : List ℕ) (st : State) (allowed : ℕ) (l : Lent) (n : Next) (e
   unfolding stepOf standing
   step-chunk c x q f = rw (← e, q, f)
 
-  pub step-opcode : (o : Opcode) (x : Outcome) → n ≡ found.Opcode o → x ≡ actOn film st o allowed l → x ≡ stepOf film st allowed l
+  pub step-opcode : (o : Opcode) (x : Outcome) → n ≡ found.Opcode o → x ≡ takeOn film st o allowed l → x ≡ stepOf film st allowed l
   unfolding stepOf standing
   step-opcode o x q f = rw (← e, q) f
 

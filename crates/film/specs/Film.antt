@@ -16,29 +16,38 @@ use Rattle.state.specs.declared.Map.{Map}
 use Rattle.state.specs.declared.Map.the-variants.{Missing, Part}
 use Rattle.state.specs.declared.State.{State}
 use Rattle.state.specs.Moves.{into, mapped}
+use Rattle.sound.specs.declared.Sound.{Sound}
+use Rattle.sound.specs.Format.{chosen}
+use Rattle.sound.specs.Step as sound
+use Rattle.sound.specs.Sound.{answer, initializeAudio, audioData, audioSilence}
 use Rattle.heads.specs.declared.Opcode.{Opcode}
+use Rattle.heads.specs.Heads.{hears}
 use Rattle.next.specs.Next.{Standing, nextOf}
 use Rattle.next.specs.Next as found
-use Rattle.opcodes.specs.Opcodes.{Step, taken, ended, refused, quiet, quietAnswer, paletteAnswer, drawnStep}
+use Rattle.opcodes.specs.Opcodes.{Step, taken, ended, refused, quiet, quietAnswer, heardStep, paletteAnswer, drawnStep}
 
 -- ---- what is lent
 
--- all that is lent to a step for writing: the palette, the two pictures, and the place, which is the number of the next block to draw
+-- all that is lent to a step for writing: the palette, the two pictures, the place, which is the number of the next block to draw, and the room for sound
 pub record Lent : Type 0 where
   pub palette : List ℕ
   pub first : List ℕ
   pub second : List ℕ
   pub place : ℕ
+  pub room : List ℕ
 
-abbrev pub lent : List ℕ → List ℕ → List ℕ → ℕ → Lent
-lent palette a b place = record { palette = palette; first = a; second = b; place = place }
+abbrev pub lent : List ℕ → List ℕ → List ℕ → ℕ → List ℕ → Lent
+lent palette a b place room = record { palette = palette; first = a; second = b; place = place; room = room }
 
--- with another palette, or with other pictures and place; all else as it was
+-- with another palette, with other pictures and place, or with another room; all else as it was
 abbrev pub withPalette : Lent → List ℕ → Lent
-withPalette l palette = record { palette = palette; first = l .first; second = l .second; place = l .place }
+withPalette l palette = record { palette = palette; first = l .first; second = l .second; place = l .place; room = l .room }
 
 abbrev pub withPictures : Lent → List ℕ → List ℕ → ℕ → Lent
-withPictures l a b place = record { palette = l .palette; first = a; second = b; place = place }
+withPictures l a b place = record { palette = l .palette; first = a; second = b; place = place; room = l .room }
+
+abbrev pub withRoom : Lent → List ℕ → Lent
+withRoom l room = record { palette = l .palette; first = l .first; second = l .second; place = l .place; room = room }
 
 -- the pictures the other way round
 abbrev pub swap : Lent → Lent
@@ -80,7 +89,7 @@ drawBy Missing film st body p allowed l = after (quiet (refused 9 0)) l
 drawBy (Part start long) film st body p allowed l =
     cond (eqb (st .width) 0) (after (quiet (refused 9 0)) l) (drawOn st p (part film start (start + long)) (part body 14 (length body)) allowed l)
 
--- ---- an opcode that is taken
+-- ---- an opcode that is taken and is no sound
 
 -- 0B, 0C, 0D
 abbrev pub update : State → ℕ → Update → Lent → Outcome
@@ -100,6 +109,25 @@ abbrev pub actOn : List ℕ → State → Opcode → ℕ → Lent → Outcome
 actOn film st o allowed l =
     act film st (o .kind) (o .version) (o .start) (part film (o .start) (o .start + o .long)) (o .start + o .long) allowed l
 
+-- ---- sound: 03, 08 and 09 where a stream is chosen
+
+-- what comes of it, by the room's length
+unfoldable pub heardBy : Sound → ℕ → ℕ → List ℕ → ℕ → sound.Step
+heardBy s kind version body room =
+    cond (eqb kind 3) (initializeAudio s version body) (cond (eqb kind 8) (audioData s body room) (audioSilence s body room))
+
+unfoldable pub hear : State → ℕ → ℕ → List ℕ → ℕ → Lent → Outcome
+hear st kind version body p l =
+    after (heardStep st p (answer (heardBy (st .sound) kind version body (length (l .room)))))
+    (withRoom l (sound.roomAfter (heardBy (st .sound) kind version body (length (l .room))) (l .room)))
+
+-- an opcode that is taken: sound that is acted on, or any other
+unfoldable pub takeOn : List ℕ → State → Opcode → ℕ → Lent → Outcome
+takeOn film st o allowed l =
+    cond (hears (chosen (st .sound .stream)) (o .kind))
+    (hear st (o .kind) (o .version) (part film (o .start) (o .start + o .long)) (o .start + o .long) l)
+    (actOn film st o allowed l)
+
 -- ---- a step
 
 -- by what stands where the state is
@@ -107,7 +135,7 @@ unfoldable pub standing : Standing → List ℕ → State → ℕ → Lent → O
 standing (found.refused n k) film st allowed l = after (quiet (refused n k)) l
 standing found.ended film st allowed l = after (quiet (ended st)) l
 standing (found.chunk c) film st allowed l = after (quiet (taken (into st c))) l
-standing (found.opcode o) film st allowed l = actOn film st o allowed l
+standing (found.opcode o) film st allowed l = takeOn film st o allowed l
 
 unfoldable pub stepOf : List ℕ → State → ℕ → Lent → Outcome
 stepOf film st allowed l = standing (nextOf film st (length (l .palette)) (length (l .first)) (length (l .second))) film st allowed l

@@ -1,10 +1,12 @@
 // One step over a film: a chunk's head or one opcode.
 use draw::draw;
 use heads::Opcode;
+use heads::is_heard;
 use next::Next;
 use next::find;
 use opcodes::Stepped;
 use opcodes::drawn_step;
+use opcodes::heard_step;
 use opcodes::quiet_step;
 use paint::set_place;
 use palette::Updated;
@@ -12,17 +14,22 @@ use palette::create_gradient;
 use palette::set_palette;
 use palette::set_palette_compressed;
 use refusal::Refusal;
+use sound::audio_data;
+use sound::audio_silence;
+use sound::initialize_audio;
+use sound::is_chosen;
 use state::Map;
 use state::State;
 ghost use mathlib.Core.Path.{_≡_};
 ghost use mathlib.Core.Bool.{true};
-ghost use Prim.Native.Nat.{_≤_};
+ghost use Prim.Native.Nat.{ℕ, _≤_};
+ghost use mathlib.Core.List.{List};
 ghost use lib.ListN.{length};
 ghost use Rattle.palette.specs.Update.{told};
 ghost use Rattle.state.specs.State.{mapInside};
 ghost use Rattle.next.specs.Next.{Ready};
 ghost use Rattle.opcodes.specs.Opcodes.{quiet, steppedAs, paletteAnswer};
-ghost use Rattle.film.specs.Film.{Lent, lent, withPictures, after, drawOn, drawBy, actOn, stepOf};
+ghost use Rattle.film.specs.Film.{Lent, lent, withPictures, withRoom, after, drawOn, drawBy, actOn, hear, takeOn, stepOf};
 
 // 11 on back, the picture that is not front. Whatever else is lent stays as it is.
 fn draw_on(
@@ -102,7 +109,7 @@ fn palette_step(st: State, p: usize, u: Updated) -> Stepped
     }
 }
 
-// An opcode that is taken.
+// An opcode that is taken and is no sound. The room stays as it is.
 fn act_on(
     film: &[u8],
     st: State,
@@ -115,7 +122,7 @@ fn act_on(
 ) -> Stepped
     requires { ⌜ Ready (length (now film)) (st .cursor) o ⌝ }
     requires { ⌜ mapInside (st .map) (length (now film)) ≡ true ⌝ }
-    ensures { λ r. ⌜ after (steppedAs r) (lent (now (palette .exit)) (now (a .exit)) (now (b .exit)) (now (place .exit))) ≡ actOn (now (film .entry)) st o allowed (lent (now (palette .entry)) (now (a .entry)) (now (b .entry)) (now (place .entry))) ⌝ }
+    ensures { λ r. ⌜ ((room : List ℕ) → after (steppedAs r) (lent (now (palette .exit)) (now (a .exit)) (now (b .exit)) (now (place .exit)) room) ≡ actOn (now (film .entry)) st o allowed (lent (now (palette .entry)) (now (a .entry)) (now (b .entry)) (now (place .entry)) room)) ⌝ }
 {
     let s = o.start;
     let p = s + o.long;
@@ -134,6 +141,50 @@ fn act_on(
     }
 }
 
+// 03, 08, 09 where a stream is chosen. Whatever else is lent stays as it is.
+fn hear_sound(
+    st: State,
+    kind: usize,
+    version: usize,
+    body: &[u8],
+    p: usize,
+    room: &mut [u8],
+) -> Stepped
+    ensures { λ r. ⌜ ((l : Lent) → after (steppedAs r) (withRoom l (now (room .exit))) ≡ hear st kind version (now (body .entry)) p (withRoom l (now (room .entry)))) ⌝ }
+{
+    let sound = st.sound;
+    match kind {
+        3 => heard_step(st, p, initialize_audio(sound, version, body)),
+        8 => heard_step(st, p, audio_data(sound, body, room)),
+        _ => heard_step(st, p, audio_silence(sound, body, room)),
+    }
+}
+
+// An opcode that is taken.
+fn take_on(
+    film: &[u8],
+    st: State,
+    o: Opcode,
+    palette: &mut [u8],
+    a: &mut [u8],
+    b: &mut [u8],
+    place: &mut usize,
+    room: &mut [u8],
+    allowed: usize,
+) -> Stepped
+    requires { ⌜ Ready (length (now film)) (st .cursor) o ⌝ }
+    requires { ⌜ mapInside (st .map) (length (now film)) ≡ true ⌝ }
+    ensures { λ r. ⌜ after (steppedAs r) (lent (now (palette .exit)) (now (a .exit)) (now (b .exit)) (now (place .exit)) (now (room .exit))) ≡ takeOn (now (film .entry)) st o allowed (lent (now (palette .entry)) (now (a .entry)) (now (b .entry)) (now (place .entry)) (now (room .entry))) ⌝ }
+{
+    let sound = st.sound;
+    if is_heard(is_chosen(sound.stream), o.kind) {
+        let s = o.start;
+        let p = s + o.long;
+        return hear_sound(st, o.kind, o.version, &film[s..p], p, room);
+    }
+    act_on(film, st, o, palette, a, b, place, allowed)
+}
+
 // One step: a chunk's head where position and chunk end are equal, else one opcode. Every test is made again; a refused step changes nothing.
 pub fn step(
     film: &[u8],
@@ -142,14 +193,15 @@ pub fn step(
     a: &mut [u8],
     b: &mut [u8],
     place: &mut usize,
+    room: &mut [u8],
     allowed: usize,
 ) -> Stepped
-    ensures { λ r. ⌜ after (steppedAs r) (lent (now (palette .exit)) (now (a .exit)) (now (b .exit)) (now (place .exit))) ≡ stepOf (now (film .entry)) st allowed (lent (now (palette .entry)) (now (a .entry)) (now (b .entry)) (now (place .entry))) ⌝ }
+    ensures { λ r. ⌜ after (steppedAs r) (lent (now (palette .exit)) (now (a .exit)) (now (b .exit)) (now (place .exit)) (now (room .exit))) ≡ stepOf (now (film .entry)) st allowed (lent (now (palette .entry)) (now (a .entry)) (now (b .entry)) (now (place .entry)) (now (room .entry))) ⌝ }
 {
     match find(film, st, palette.len(), a.len(), b.len()) {
         Next::Refused(r) => Stepped::Refused(r),
         Next::Ended => Stepped::Ended(st),
         Next::Chunk(c) => Stepped::Taken(st.into_chunk(c)),
-        Next::Opcode(o) => act_on(film, st, o, palette, a, b, place, allowed),
+        Next::Opcode(o) => take_on(film, st, o, palette, a, b, place, room, allowed),
     }
 }

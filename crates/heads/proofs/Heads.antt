@@ -5,13 +5,14 @@ use mathlib.Core.Bool.{Bool, true, false, cond}
 use mathlib.Core.List.{List}
 use Prim.Native.Nat.{ℕ, _+_, _≤_, _<_}
 use borrow.Author.Tests.{lt-ltb, le-ltb, ne-eqb}
+use lib.Dec.{eqb}
 use lib.ListN.{length, getD}
 use Rattle.words.specs.Word.{wordAt}
 use Rattle.refusal.specs.Number.{Verdict, accept, refuse}
 use Rattle.state.specs.declared.Cursor.{Cursor}
 use Rattle.state.specs.Moves.{cursorInto}
 use Rattle.heads.specs.declared.Opcode.{Opcode}
-use Rattle.heads.specs.Heads.{Head, gives, chunkOf, chunkAt, opcodeOf, opcodeAt, exactly, passedOver, shapeVerdict}
+use Rattle.heads.specs.Heads.{Head, gives, chunkOf, chunkAt, opcodeOf, opcodeAt, exactly, passedOver, shapeVerdict, isSound, hears, soundVerdict, takenVerdict}
 
 pub chunk-inside : (film : ℕ) (c : Cursor) (long : ℕ) (x : Cursor) → c .«chunk_end» + 4 ≤ film → c .«chunk_end» + 4 + long ≤ film → x ≡ cursorInto c long
     → gives x ≡ chunkOf film c long
@@ -37,3 +38,30 @@ module _ (kind version n : ℕ) (v : Verdict) where
   unfolding shapeVerdict
   shape-other h a b c d e f g q =
       rw (le-ltb _ _ h, ne-eqb _ _ a, ne-eqb _ _ b, ne-eqb _ _ c, ne-eqb _ _ d, ne-eqb _ _ e, ne-eqb _ _ f, ne-eqb _ _ g) q
+
+-- ---- sound
+
+pub not-sound : (kind : ℕ) → (kind ≡ 3 → ⊥) → (kind ≡ 8 → ⊥) → eqb kind 9 ≡ isSound kind
+unfolding isSound
+not-sound kind a b = rw (ne-eqb kind 3 a, ne-eqb kind 8 b) refl
+
+pub not-heard : (c : Bool) (kind : ℕ) → c ≡ false → false ≡ hears c kind
+unfolding hears
+not-heard c kind e = rw e
+
+pub may-be-heard : (c : Bool) (kind : ℕ) (r : Bool) → c ≡ true → r ≡ isSound kind → r ≡ hears c kind
+unfolding hears
+may-be-heard c kind r e q = rw e q
+
+module _ (kind version n : ℕ) (v : Verdict) where
+  pub sound-9 : (kind ≡ 3 → ⊥) → (kind ≡ 8 → ⊥) → v ≡ exactly 0 6 version n → v ≡ soundVerdict kind version n
+  unfolding soundVerdict
+  sound-9 a b q = rw (ne-eqb kind 3 a, ne-eqb kind 8 b) q
+
+  pub heard-taken : (c : Bool) → hears c kind ≡ true → v ≡ soundVerdict kind version n → v ≡ takenVerdict c kind version n
+  unfolding takenVerdict
+  heard-taken c e q = rw e q
+
+  pub else-taken : (c : Bool) → hears c kind ≡ false → v ≡ shapeVerdict kind version n → v ≡ takenVerdict c kind version n
+  unfolding takenVerdict
+  else-taken c e q = rw e q

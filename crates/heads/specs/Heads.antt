@@ -64,9 +64,9 @@ opcodeAt film c =
 unfoldable pub exactly : ℕ → ℕ → ℕ → ℕ → Verdict
 exactly most long version n = cond (ltb most version) (refuse 4 0) (cond (eqb n long) accept (refuse 5 0))
 
--- a version up to most, and two words and one more for each version after 0
-unfoldable pub byVersion : ℕ → ℕ → ℕ → Verdict
-byVersion most version n = cond (ltb most version) (refuse 4 0) (cond (eqb n (4 + 2 * version)) accept (refuse 5 0))
+-- a version up to most, and a body this long and one word longer for each version after 0
+unfoldable pub byVersion : ℕ → ℕ → ℕ → ℕ → Verdict
+byVersion most long version n = cond (ltb most version) (refuse 4 0) (cond (eqb n (long + 2 * version)) accept (refuse 5 0))
 
 -- version 0, and a body at least this long
 unfoldable pub atLeast : ℕ → ℕ → ℕ → Verdict
@@ -81,15 +81,32 @@ passedOver kind =
     (cond (ltb kind 11) true
     (cond (ltb kind 18) false (ltb kind 22)))))
 
--- a type, a version and a body this long; the lengths of 0C and 0D are judged with their content
+-- a type, a version and a body this long, where sound is passed over; the lengths of 0C and 0D are judged with their content
 unfoldable pub shapeVerdict : ℕ → ℕ → ℕ → Verdict
 shapeVerdict kind version n =
     cond (ltb kind 2) (exactly 0 0 version n)
-    (cond (eqb kind 5) (byVersion 2 version n)
-    (cond (eqb kind 7) (byVersion 1 version n)
+    (cond (eqb kind 5) (byVersion 2 4 version n)
+    (cond (eqb kind 7) (byVersion 1 4 version n)
     (cond (eqb kind 11) (exactly 0 6 version n)
     (cond (eqb kind 12) (atLeast 0 version n)
     (cond (eqb kind 13) (atLeast 0 version n)
     (cond (eqb kind 15) (atLeast 0 version n)
     (cond (eqb kind 17) (atLeast 14 version n)
     (cond (passedOver kind) accept (refuse 4 0)))))))))
+
+-- ---- opcodes of sound
+
+-- 03, 08 and 09
+unfoldable pub isSound : ℕ → Bool
+isSound kind = cond (eqb kind 3) true (cond (eqb kind 8) true (eqb kind 9))
+
+-- they are acted on where a stream is chosen
+unfoldable pub hears : Bool → ℕ → Bool
+hears chosen kind = cond chosen (isSound kind) false
+
+unfoldable pub soundVerdict : ℕ → ℕ → ℕ → Verdict
+soundVerdict kind version n = cond (eqb kind 3) (byVersion 1 8 version n) (cond (eqb kind 8) (atLeast 6 version n) (exactly 0 6 version n))
+
+-- whether an opcode is taken, by whether a stream is chosen
+unfoldable pub takenVerdict : Bool → ℕ → ℕ → ℕ → Verdict
+takenVerdict chosen kind version n = cond (hears chosen kind) (soundVerdict kind version n) (shapeVerdict kind version n)

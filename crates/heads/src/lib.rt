@@ -11,7 +11,7 @@ ghost use lib.ListN.{length};
 ghost use mathlib.Core.Bool.{cond};
 ghost use Rattle.refusal.specs.Number.{accept, refuse};
 ghost use Rattle.packet.specs.Verdict.{told};
-ghost use Rattle.heads.specs.Heads.{chunkAs, opcodeAs, chunkOf, chunkAt, opcodeOf, opcodeAt, exactly, byVersion, atLeast, passedOver, shapeVerdict};
+ghost use Rattle.heads.specs.Heads.{chunkAs, opcodeAs, chunkOf, chunkAt, opcodeOf, opcodeAt, exactly, byVersion, atLeast, passedOver, shapeVerdict, isSound, hears, soundVerdict, takenVerdict};
 
 // An opcode: its type and version, and the part of the film that is its body.
 pub struct Opcode {
@@ -107,14 +107,14 @@ fn judge_exactly(most: usize, long: usize, version: usize, n: usize) -> Checked
     Checked::Refused(Refusal::BodyLength)
 }
 
-fn judge_by_version(most: usize, version: usize, n: usize) -> Checked
-    requires { ⌜ most < 256 ⌝ }
-    ensures { λ r. ⌜ told r ≡ byVersion most version n ⌝ }
+fn judge_by_version(most: usize, long: usize, version: usize, n: usize) -> Checked
+    requires { ⌜ (most < 256) × (long < 256) ⌝ }
+    ensures { λ r. ⌜ told r ≡ byVersion most long version n ⌝ }
 {
     if most < version {
         return Checked::Refused(Refusal::Opcode);
     }
-    if n == 4 + 2 * version {
+    if n == long + 2 * version {
         return Checked::Accepted;
     }
     Checked::Refused(Refusal::BodyLength)
@@ -154,16 +154,16 @@ pub fn is_passed_over(kind: usize) -> bool
     kind < 22
 }
 
-// Whether an opcode of this type and version with a body of n bytes is taken.
-pub fn judge_shape(kind: usize, version: usize, n: usize) -> Checked
+// Whether an opcode of this type and version with a body of n bytes is taken where sound is passed over.
+fn judge_shape(kind: usize, version: usize, n: usize) -> Checked
     ensures { λ r. ⌜ told r ≡ shapeVerdict kind version n ⌝ }
 {
     if kind < 2 {
         return judge_exactly(0, 0, version, n);
     }
     match kind {
-        5 => judge_by_version(2, version, n),
-        7 => judge_by_version(1, version, n),
+        5 => judge_by_version(2, 4, version, n),
+        7 => judge_by_version(1, 4, version, n),
         11 => judge_exactly(0, 6, version, n),
         12 => judge_at_least(0, version, n),
         13 => judge_at_least(0, version, n),
@@ -180,4 +180,44 @@ fn judge_other(kind: usize) -> Checked
         return Checked::Accepted;
     }
     Checked::Refused(Refusal::Opcode)
+}
+
+fn is_sound(kind: usize) -> bool
+    ensures { λ r. ⌜ r ≡ isSound kind ⌝ }
+{
+    match kind {
+        3 => true,
+        8 => true,
+        _ => kind == 9,
+    }
+}
+
+// Whether an opcode of this type is sound that is acted on, by whether a stream is chosen.
+pub fn is_heard(chosen: bool, kind: usize) -> bool
+    ensures { λ r. ⌜ r ≡ hears chosen kind ⌝ }
+{
+    if chosen {
+        return is_sound(kind);
+    }
+    false
+}
+
+fn judge_sound(kind: usize, version: usize, n: usize) -> Checked
+    ensures { λ r. ⌜ told r ≡ soundVerdict kind version n ⌝ }
+{
+    match kind {
+        3 => judge_by_version(1, 8, version, n),
+        8 => judge_at_least(6, version, n),
+        _ => judge_exactly(0, 6, version, n),
+    }
+}
+
+// Whether an opcode of this type and version with a body of n bytes is taken, by whether a stream is chosen.
+pub fn judge_opcode(chosen: bool, kind: usize, version: usize, n: usize) -> Checked
+    ensures { λ r. ⌜ told r ≡ takenVerdict chosen kind version n ⌝ }
+{
+    if is_heard(chosen, kind) {
+        return judge_sound(kind, version, n);
+    }
+    judge_shape(kind, version, n)
 }

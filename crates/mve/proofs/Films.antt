@@ -9,6 +9,10 @@ use lib.Dec.{eqb}
 use lib.ListN.{length}
 use Rattle.refusal.specs.declared.Refusal.{Refusal}
 use Rattle.refusal.specs.Number.{number, block}
+use Rattle.sound.specs.declared.Format.{Format}
+use Rattle.sound.specs.declared.Format.the-variants.{Unknown, Known}
+use Rattle.sound.specs.declared.Sound.{Sound}
+use Rattle.sound.specs.Format.{firstSound}
 use Rattle.state.specs.declared.Map.{Map}
 use Rattle.state.specs.declared.Map.the-variants.{Missing, Part}
 use Rattle.state.specs.declared.State.{State}
@@ -20,9 +24,10 @@ use Rattle.opcodes.specs.declared.Stepped.{Stepped}
 use Rattle.opcodes.specs.declared.Stepped.the-variants as step
 use Rattle.opcodes.specs.Opcodes.{Step, steppedAs}
 use Rattle.film.specs.Film.{Lent, after, stepOf}
+use Rattle.mve.specs.declared.MveSound.{MveSound}
 use Rattle.mve.specs.declared.MveState.{MveState}
 use Rattle.mve.specs.declared.MveStep.{MveStep}
-use Rattle.mve.specs.Film.{mapOf, stateOf, numbers, withMap, ofState, stepped, ofAnswer, ofStep, ofOpening, exported, ofOutcome}
+use Rattle.mve.specs.Film.{flagOf, numberOf, soundOf, sounds, withFormat, ofSound, mapOf, stateOf, numbers, withMap, ofState, stepped, ofAnswer, ofStep, ofOpening, exported, ofOutcome}
 
 pub no-map : (has start long : ℕ) → has ≡ 0 → Missing ≡ mapOf has start long
 unfolding mapOf
@@ -32,19 +37,44 @@ pub a-map : (has start long : ℕ) → (has ≡ 0 → ⊥) → Part start long �
 unfolding mapOf
 a-map has start long n = rw (ne-eqb _ _ n)
 
+-- ---- sound
+
+pub no-format : (m : MveSound) (s : Sound) → m .«has_format» ≡ 0 → s ≡ firstSound (m .stream) → s ≡ soundOf m
+unfolding soundOf
+no-format m s e q = rw (eq-eqb _ _ e) q
+
+pub a-format : (m : MveSound) (a b c d : Bool) → (m .«has_format» ≡ 0 → ⊥) → a ≡ flagOf (m .stereo) → b ≡ flagOf (m .wide) → c ≡ flagOf (m .compressed) → d ≡ flagOf (m .begun)
+    → _≡_ {A = Sound} (record { stream = m .stream; format = Known a b c; begun = d; left = m .left; right = m .right }) (soundOf m)
+unfolding soundOf
+a-format m a b c d n e f g h = rw (ne-eqb _ _ n, e, f, g, h)
+
+pub format-numbers : (s : Sound) (stereo wide compressed : Bool) (a b c d : ℕ) → a ≡ numberOf stereo → b ≡ numberOf wide → c ≡ numberOf compressed → d ≡ numberOf (s .begun)
+    → sounds (s .stream) 1 a b c d (s .left) (s .right)
+    ≡ sounds (s .stream) 1 (numberOf stereo) (numberOf wide) (numberOf compressed) (numberOf (s .begun)) (s .left) (s .right)
+format-numbers s stereo wide compressed a b c d e f g h = rw (e, f, g, h)
+
+module _ (s : Sound) (f : Format) (r : MveSound) where
+  pub without-format : f ≡ Unknown → r ≡ withFormat s Unknown → r ≡ withFormat s f
+  without-format e q = rw e q
+
+  pub with-format : (a b c : Bool) → f ≡ Known a b c → r ≡ withFormat s (Known a b c) → r ≡ withFormat s f
+  with-format a b c e q = rw e q
+
+-- ---- states
+
 -- a state as code builds it
-abbrev pub state : ℕ → ℕ → ℕ → ℕ → ℕ → Map → Bool → State
-state p e w h f m u = record { cursor = record { position = p; «chunk_end» = e }; width = w; height = h; front = f; map = m; unsent = u }
+abbrev pub state : ℕ → ℕ → ℕ → ℕ → ℕ → Map → Bool → Sound → State
+state p e w h f m u s = record { cursor = record { position = p; «chunk_end» = e }; width = w; height = h; front = f; map = m; unsent = u; sound = s }
 
-pub state-is : (m : MveState) (map : Map) (unsent : Bool) → map ≡ mapOf (m .«has_map») (m .«map_start») (m .«map_length») → unsent ≡ cond (eqb (m .unsent) 0) false true
-    → state (m .position) (m .«chunk_end») (m .width) (m .height) (m .front) map unsent ≡ stateOf m
+pub state-is : (m : MveState) (map : Map) (unsent : Bool) (sound : Sound) → map ≡ mapOf (m .«has_map») (m .«map_start») (m .«map_length») → unsent ≡ flagOf (m .unsent)
+    → sound ≡ soundOf (m .sound) → state (m .position) (m .«chunk_end») (m .width) (m .height) (m .front) map unsent sound ≡ stateOf m
 unfolding stateOf
-state-is m map unsent e f = rw (e, f)
+state-is m map unsent sound e f g = rw (e, f, g)
 
-pub numbers-are : (st : State) (has start long u : ℕ) → u ≡ cond (st .unsent) 1 0
-    → numbers (st .cursor .position) (st .cursor .«chunk_end») (st .width) (st .height) (st .front) has start long u
-    ≡ numbers (st .cursor .position) (st .cursor .«chunk_end») (st .width) (st .height) (st .front) has start long (cond (st .unsent) 1 0)
-numbers-are st has start long u e = rw e
+pub numbers-are : (st : State) (has start long u : ℕ) (s : MveSound) → u ≡ numberOf (st .unsent) → s ≡ ofSound (st .sound)
+    → numbers (st .cursor .position) (st .cursor .«chunk_end») (st .width) (st .height) (st .front) has start long u s
+    ≡ numbers (st .cursor .position) (st .cursor .«chunk_end») (st .width) (st .height) (st .front) has start long (numberOf (st .unsent)) (ofSound (st .sound))
+numbers-are st has start long u s e f = rw (e, f)
 
 module _ (st : State) (m : Map) (r : MveState) where
   pub without-map : m ≡ Missing → r ≡ withMap st Missing → r ≡ withMap st m
@@ -53,39 +83,43 @@ module _ (st : State) (m : Map) (r : MveState) where
   pub with-map : (start long : ℕ) → m ≡ Part start long → r ≡ withMap st (Part start long) → r ≡ withMap st m
   with-map start long e q = rw e q
 
-pub step-is : (kind stores : ℕ) (st : State) (s : MveState) → s ≡ ofState st → stepped kind 0 0 stores s ≡ stepped kind 0 0 stores (ofState st)
-step-is kind stores st s e = ap (stepped kind 0 0 stores) e
+pub step-is : (kind stores bytes : ℕ) (st : State) (s : MveState) → s ≡ ofState st → stepped kind 0 0 stores bytes s ≡ stepped kind 0 0 stores bytes (ofState st)
+step-is kind stores bytes st s e = ap (stepped kind 0 0 stores bytes) e
 
-pub refused-step : (r : Refusal) (n m k : ℕ) (s : MveState) → n ≡ number r → m ≡ n → k ≡ block r → stepped 4 m k 0 s ≡ stepped 4 (number r) (block r) 0 s
+pub refused-step : (r : Refusal) (n m k : ℕ) (s : MveState) → n ≡ number r → m ≡ n → k ≡ block r → stepped 4 m k 0 0 s ≡ stepped 4 (number r) (block r) 0 0 s
 refused-step r n m k s e f g = rw (f, e, g)
 
 module _ (m : MveState) (x : Stepped) (a : MveStep) where
-  pub taken-as : (st : State) → x ≡ step.Taken st → a ≡ stepped 0 0 0 0 (ofState st) → a ≡ ofStep m (steppedAs x)
+  pub taken-as : (st : State) → x ≡ step.Taken st → a ≡ stepped 0 0 0 0 0 (ofState st) → a ≡ ofStep m (steppedAs x)
   unfolding ofAnswer
   taken-as st e q = rw e q
 
-  pub whole-as : (st : State) (n : ℕ) → x ≡ step.Whole st n → a ≡ stepped 1 0 0 n (ofState st) → a ≡ ofStep m (steppedAs x)
+  pub heard-as : (st : State) (n : ℕ) → x ≡ step.Heard st n → a ≡ stepped 0 0 0 0 n (ofState st) → a ≡ ofStep m (steppedAs x)
+  unfolding ofAnswer
+  heard-as st n e q = rw e q
+
+  pub whole-as : (st : State) (n : ℕ) → x ≡ step.Whole st n → a ≡ stepped 1 0 0 n 0 (ofState st) → a ≡ ofStep m (steppedAs x)
   unfolding ofAnswer
   whole-as st n e q = rw e q
 
-  pub unfinished-as : (st : State) (n : ℕ) → x ≡ step.Unfinished st n → a ≡ stepped 2 0 0 n m → a ≡ ofStep m (steppedAs x)
+  pub unfinished-as : (st : State) (n : ℕ) → x ≡ step.Unfinished st n → a ≡ stepped 2 0 0 n 0 m → a ≡ ofStep m (steppedAs x)
   unfolding ofAnswer
   unfinished-as st n e q = rw e q
 
-  pub ended-as : (st : State) → x ≡ step.Ended st → a ≡ stepped 3 0 0 0 m → a ≡ ofStep m (steppedAs x)
+  pub ended-as : (st : State) → x ≡ step.Ended st → a ≡ stepped 3 0 0 0 0 m → a ≡ ofStep m (steppedAs x)
   unfolding ofAnswer
   ended-as st e q = rw e q
 
-  pub step-refused-as : (r : Refusal) → x ≡ step.Refused r → a ≡ stepped 4 (number r) (block r) 0 m → a ≡ ofStep m (steppedAs x)
+  pub step-refused-as : (r : Refusal) → x ≡ step.Refused r → a ≡ stepped 4 (number r) (block r) 0 0 m → a ≡ ofStep m (steppedAs x)
   unfolding ofAnswer
   step-refused-as r e q = rw e q
 
 module _ (o : Opening) (x : Opened) (e : openedAs x ≡ o) (a : MveStep) where
-  pub opened-as : (st : State) → x ≡ opened.First st → a ≡ stepped 0 0 0 0 (ofState st) → a ≡ ofOpening o
+  pub opened-as : (st : State) → x ≡ opened.First st → a ≡ stepped 0 0 0 0 0 (ofState st) → a ≡ ofOpening o
   unfolding ofOpening
   opened-as st k q = rw (← e, k) q
 
-  pub not-opened-as : (r : Refusal) → x ≡ opened.Refused r → a ≡ stepped 4 (number r) (block r) 0 (numbers 0 0 0 0 0 0 0 0 0) → a ≡ ofOpening o
+  pub not-opened-as : (r : Refusal) → x ≡ opened.Refused r → a ≡ stepped 4 (number r) (block r) 0 0 (numbers 0 0 0 0 0 0 0 0 0 (sounds 0 0 0 0 0 0 0 0)) → a ≡ ofOpening o
   unfolding ofOpening
   not-opened-as r k q = rw (← e, k) q
 

@@ -4,16 +4,53 @@ use mathlib.Core.Bool.{Bool, true, false, cond}
 use mathlib.Core.List.{List}
 use Prim.Native.Nat.{ℕ}
 use lib.Dec.{eqb}
+use Rattle.sound.specs.declared.Format.{Format}
+use Rattle.sound.specs.declared.Format.the-variants.{Unknown, Known}
+use Rattle.sound.specs.declared.Sound.{Sound}
+use Rattle.sound.specs.Format.{firstSound}
 use Rattle.state.specs.declared.Map.{Map}
 use Rattle.state.specs.declared.Map.the-variants.{Missing, Part}
 use Rattle.state.specs.declared.State.{State}
 use Rattle.opening.specs.Opening.{Opening, started, refuses}
 use Rattle.opcodes.specs.Opcodes.{Answer, Step, taken, whole, unfinished, ended, refused}
 use Rattle.film.specs.Film.{Lent, Outcome}
+use Rattle.mve.specs.declared.MveSound.{MveSound}
 use Rattle.mve.specs.declared.MveState.{MveState}
 use Rattle.mve.specs.declared.MveStep.{MveStep}
 
 -- ---- states
+
+-- a number that is not 0 counts as 1
+abbrev pub flagOf : ℕ → Bool
+flagOf n = cond (eqb n 0) false true
+
+abbrev pub numberOf : Bool → ℕ
+numberOf b = cond b 1 0
+
+-- has-format: 0 before a 03; where it is 0, only the stream is read
+unfoldable pub soundOf : MveSound → Sound
+soundOf m =
+    cond (eqb (m .«has_format») 0) (firstSound (m .stream))
+    (record {
+      stream = m .stream;
+      format = Known (flagOf (m .stereo)) (flagOf (m .wide)) (flagOf (m .compressed));
+      begun = flagOf (m .begun);
+      left = m .left;
+      right = m .right;
+    })
+
+abbrev pub sounds : ℕ → ℕ → ℕ → ℕ → ℕ → ℕ → ℕ → ℕ → MveSound
+sounds stream has stereo wide compressed begun left right =
+    record { stream = stream; «has_format» = has; stereo = stereo; wide = wide; compressed = compressed; begun = begun; left = left; right = right }
+
+-- what is not read before a 03 is 0
+unfoldable pub withFormat : Sound → Format → MveSound
+withFormat s Unknown = sounds (s .stream) 0 0 0 0 0 0 0
+withFormat s (Known stereo wide compressed) =
+    sounds (s .stream) 1 (numberOf stereo) (numberOf wide) (numberOf compressed) (numberOf (s .begun)) (s .left) (s .right)
+
+abbrev pub ofSound : Sound → MveSound
+ofSound s = withFormat s (s .format)
 
 -- has-map: 0 where no map is pending. unsent: 0 where no frame is finished and unsent
 unfoldable pub mapOf : ℕ → ℕ → ℕ → Map
@@ -27,40 +64,41 @@ stateOf m =
       height = m .height;
       front = m .front;
       map = mapOf (m .«has_map») (m .«map_start») (m .«map_length»);
-      unsent = cond (eqb (m .unsent) 0) false true;
+      unsent = flagOf (m .unsent);
+      sound = soundOf (m .sound);
     }
 
-abbrev pub numbers : ℕ → ℕ → ℕ → ℕ → ℕ → ℕ → ℕ → ℕ → ℕ → MveState
-numbers position end width height front has start long unsent =
-    record { position = position; «chunk_end» = end; width = width; height = height; front = front; «has_map» = has; «map_start» = start; «map_length» = long; unsent = unsent }
+abbrev pub numbers : ℕ → ℕ → ℕ → ℕ → ℕ → ℕ → ℕ → ℕ → ℕ → MveSound → MveState
+numbers position end width height front has start long unsent sound =
+    record { position = position; «chunk_end» = end; width = width; height = height; front = front; «has_map» = has; «map_start» = start; «map_length» = long; unsent = unsent; sound = sound }
 
 unfoldable pub withMap : State → Map → MveState
-withMap st Missing = numbers (st .cursor .position) (st .cursor .«chunk_end») (st .width) (st .height) (st .front) 0 0 0 (cond (st .unsent) 1 0)
-withMap st (Part start long) = numbers (st .cursor .position) (st .cursor .«chunk_end») (st .width) (st .height) (st .front) 1 start long (cond (st .unsent) 1 0)
+withMap st Missing = numbers (st .cursor .position) (st .cursor .«chunk_end») (st .width) (st .height) (st .front) 0 0 0 (numberOf (st .unsent)) (ofSound (st .sound))
+withMap st (Part start long) = numbers (st .cursor .position) (st .cursor .«chunk_end») (st .width) (st .height) (st .front) 1 start long (numberOf (st .unsent)) (ofSound (st .sound))
 
 abbrev pub ofState : State → MveState
 ofState st = withMap st (st .map)
 
 -- ---- answers
 
-abbrev pub stepped : ℕ → ℕ → ℕ → ℕ → MveState → MveStep
-stepped kind number block stores state = record { kind = kind; number = number; block = block; stores = stores; state = state }
+abbrev pub stepped : ℕ → ℕ → ℕ → ℕ → ℕ → MveState → MveStep
+stepped kind number block stores bytes state = record { kind = kind; number = number; block = block; stores = stores; bytes = bytes; state = state }
 
 -- kinds: 0 taken, 1 whole, 2 unfinished, 3 ended, 4 refused. Where the state stays, m comes back number by number
-unfoldable pub ofAnswer : MveState → Answer → ℕ → MveStep
-ofAnswer m (taken st) n = stepped 0 0 0 n (ofState st)
-ofAnswer m (whole st) n = stepped 1 0 0 n (ofState st)
-ofAnswer m (unfinished st) n = stepped 2 0 0 n m
-ofAnswer m (ended st) n = stepped 3 0 0 n m
-ofAnswer m (refused number block) n = stepped 4 number block n m
+unfoldable pub ofAnswer : MveState → Answer → ℕ → ℕ → MveStep
+ofAnswer m (taken st) stores bytes = stepped 0 0 0 stores bytes (ofState st)
+ofAnswer m (whole st) stores bytes = stepped 1 0 0 stores bytes (ofState st)
+ofAnswer m (unfinished st) stores bytes = stepped 2 0 0 stores bytes m
+ofAnswer m (ended st) stores bytes = stepped 3 0 0 stores bytes m
+ofAnswer m (refused number block) stores bytes = stepped 4 number block stores bytes m
 
 abbrev pub ofStep : MveState → Step → MveStep
-ofStep m x = ofAnswer m (x .answer) (x .stores)
+ofStep m x = ofAnswer m (x .answer) (x .stores) (x .bytes)
 
 -- kinds: 0 opened, 4 refused, with a state of zeros
 unfoldable pub ofOpening : Opening → MveStep
-ofOpening (started st) = stepped 0 0 0 0 (ofState st)
-ofOpening (refuses number block) = stepped 4 number block 0 (numbers 0 0 0 0 0 0 0 0 0)
+ofOpening (started st) = stepped 0 0 0 0 0 (ofState st)
+ofOpening (refuses number block) = stepped 4 number block 0 0 (numbers 0 0 0 0 0 0 0 0 0 (sounds 0 0 0 0 0 0 0 0))
 
 -- an answer, and what is lent afterwards
 pub record Exported : Type 0 where

@@ -6,13 +6,13 @@ use packet::Checked;
 use refusal::Refusal;
 use refusal::block_of;
 use refusal::number_of;
+use sound::Format;
+use sound::Sound;
 use state::Cursor;
 use state::Map;
 use state::State;
 use words::wide;
 ghost use mathlib.Core.Path.{_≡_};
-ghost use mathlib.Core.Bool.{true, false, cond};
-ghost use lib.Dec.{eqb};
 ghost use lib.ListN.{length};
 ghost use Rattle.refusal.specs.Number.{refusal, block, number as refusalNumber};
 ghost use Rattle.state.specs.State.{shownOf};
@@ -24,7 +24,7 @@ ghost use Rattle.stores.specs.Stores.{memory};
 ghost use Rattle.stores.specs.Calls.{reply};
 ghost use Rattle.draw.specs.Call.{request, calling, pictures, leaves};
 ghost use Rattle.mve.specs.Answer.{ofVerdict, ofOutcome};
-ghost use Rattle.mve.specs.Film.{mapOf, stateOf, numbers, ofState, stepped, ofStep, ofOpening, exported, ofOutcome as ofFilm};
+ghost use Rattle.mve.specs.Film.{flagOf, numberOf, soundOf, sounds, ofSound, mapOf, stateOf, numbers, ofState, stepped, ofStep, ofOpening, exported, ofOutcome as ofFilm};
 
 // kind: 0 accepted, 1 whole, 2 unfinished, 4 refused. number and block: of a refusal, else 0. stores: how many were made.
 #[repr(C)]
@@ -94,6 +94,20 @@ pub extern "C" fn mve_draw(
     }
 }
 
+// The sound that a state keeps. stream: the one that opening was given. has_format: 0 before a 03; where it is 0, nothing below is read. stereo, wide, compressed: what
+// the last 03 said; wide is 16-bit. begun: 0 where no compressed 08 was taken since. left, right: the last sample of each channel.
+#[repr(C)]
+pub struct MveSound {
+    pub stream: usize,
+    pub has_format: usize,
+    pub stereo: usize,
+    pub wide: usize,
+    pub compressed: usize,
+    pub begun: usize,
+    pub left: u16,
+    pub right: u16,
+}
+
 // The state of a walk. has_map: 0 where no map is pending. unsent: 0 where no frame is finished and unsent.
 #[repr(C)]
 pub struct MveState {
@@ -106,15 +120,18 @@ pub struct MveState {
     pub map_start: usize,
     pub map_length: usize,
     pub unsent: usize,
+    pub sound: MveSound,
 }
 
-// kind: 0 taken, 1 whole, 2 unfinished, 3 ended, 4 refused. number and block: of a refusal, else 0. stores: how many drawing made.
+// kind: 0 taken, 1 whole, 2 unfinished, 3 ended, 4 refused. number and block: of a refusal, else 0. stores: how many drawing made. bytes: how many of sound
+// were written at the room's front.
 #[repr(C)]
 pub struct MveStep {
     pub kind: usize,
     pub number: usize,
     pub block: usize,
     pub stores: usize,
+    pub bytes: usize,
     pub state: MveState,
 }
 
@@ -128,7 +145,7 @@ fn map_of(has: usize, start: usize, long: usize) -> Map
 }
 
 fn flag(n: usize) -> bool
-    ensures { λ r. ⌜ r ≡ cond (eqb n 0) false true ⌝ }
+    ensures { λ r. ⌜ r ≡ flagOf n ⌝ }
 {
     if n == 0 {
         return false;
@@ -137,7 +154,7 @@ fn flag(n: usize) -> bool
 }
 
 fn number(b: bool) -> usize
-    ensures { λ r. ⌜ r ≡ cond b 1 0 ⌝ }
+    ensures { λ r. ⌜ r ≡ numberOf b ⌝ }
 {
     if b {
         return 1;
@@ -145,11 +162,74 @@ fn number(b: bool) -> usize
     0
 }
 
+fn sound_of(m: MveSound) -> Sound
+    ensures { λ r. ⌜ r ≡ soundOf m ⌝ }
+{
+    if m.has_format == 0 {
+        return Sound::new(m.stream);
+    }
+    let stereo = flag(m.stereo);
+    let wide = flag(m.wide);
+    let compressed = flag(m.compressed);
+    let begun = flag(m.begun);
+    Sound {
+        stream: m.stream,
+        format: Format::Known {
+            stereo,
+            wide,
+            compressed,
+        },
+        begun,
+        left: m.left,
+        right: m.right,
+    }
+}
+
+fn format_numbers(s: Sound, stereo: bool, wide: bool, compressed: bool) -> MveSound
+    ensures { λ r. ⌜ r ≡ sounds (s .stream) 1 (numberOf stereo) (numberOf wide) (numberOf compressed) (numberOf (s .begun)) (s .left) (s .right) ⌝ }
+{
+    MveSound {
+        stream: s.stream,
+        has_format: 1,
+        stereo: number(stereo),
+        wide: number(wide),
+        compressed: number(compressed),
+        begun: number(s.begun),
+        left: s.left,
+        right: s.right,
+    }
+}
+
+fn of_sound(s: Sound) -> MveSound
+    ensures { λ r. ⌜ r ≡ ofSound s ⌝ }
+{
+    let f = s.format;
+    match f {
+        Format::Unknown => MveSound {
+            stream: s.stream,
+            has_format: 0,
+            stereo: 0,
+            wide: 0,
+            compressed: 0,
+            begun: 0,
+            left: 0,
+            right: 0,
+        },
+        Format::Known {
+            stereo,
+            wide,
+            compressed,
+        } => format_numbers(s, stereo, wide, compressed),
+    }
+}
+
 fn state_of(m: MveState) -> State
     ensures { λ r. ⌜ r ≡ stateOf m ⌝ }
 {
     let map = map_of(m.has_map, m.map_start, m.map_length);
     let unsent = flag(m.unsent);
+    let kept = m.sound;
+    let sound = sound_of(kept);
     State {
         cursor: Cursor {
             position: m.position,
@@ -160,13 +240,16 @@ fn state_of(m: MveState) -> State
         front: m.front,
         map,
         unsent,
+        sound,
     }
 }
 
 fn numbers_of(st: State, has: usize, start: usize, long: usize) -> MveState
-    ensures { λ r. ⌜ r ≡ numbers (st .cursor .position) (st .cursor .«chunk_end») (st .width) (st .height) (st .front) has start long (cond (st .unsent) 1 0) ⌝ }
+    ensures { λ r. ⌜ r ≡ numbers (st .cursor .position) (st .cursor .«chunk_end») (st .width) (st .height) (st .front) has start long (numberOf (st .unsent)) (ofSound (st .sound)) ⌝ }
 {
     let unsent = number(st.unsent);
+    let kept = st.sound;
+    let sound = of_sound(kept);
     let c = st.cursor;
     MveState {
         position: c.position,
@@ -178,6 +261,7 @@ fn numbers_of(st: State, has: usize, start: usize, long: usize) -> MveState
         map_start: start,
         map_length: long,
         unsent,
+        sound,
     }
 }
 
@@ -191,8 +275,8 @@ fn of_state(st: State) -> MveState
     }
 }
 
-fn stepped_with(kind: usize, stores: usize, st: State) -> MveStep
-    ensures { λ r. ⌜ r ≡ stepped kind 0 0 stores (ofState st) ⌝ }
+fn stepped_with(kind: usize, stores: usize, bytes: usize, st: State) -> MveStep
+    ensures { λ r. ⌜ r ≡ stepped kind 0 0 stores bytes (ofState st) ⌝ }
 {
     let state = of_state(st);
     MveStep {
@@ -200,31 +284,34 @@ fn stepped_with(kind: usize, stores: usize, st: State) -> MveStep
         number: 0,
         block: 0,
         stores,
+        bytes,
         state,
     }
 }
 
 // The answer of a step that leaves the state as it came.
 fn kept_with(kind: usize, stores: usize, state: MveState) -> MveStep
-    ensures { λ r. ⌜ r ≡ stepped kind 0 0 stores state ⌝ }
+    ensures { λ r. ⌜ r ≡ stepped kind 0 0 stores 0 state ⌝ }
 {
     MveStep {
         kind,
         number: 0,
         block: 0,
         stores,
+        bytes: 0,
         state,
     }
 }
 
 fn refused_with(r: Refusal, state: MveState) -> MveStep
-    ensures { λ a. ⌜ a ≡ stepped 4 (refusalNumber r) (block r) 0 state ⌝ }
+    ensures { λ a. ⌜ a ≡ stepped 4 (refusalNumber r) (block r) 0 0 state ⌝ }
 {
     MveStep {
         kind: 4,
         number: wide(number_of(r)),
         block: block_of(r),
         stores: 0,
+        bytes: 0,
         state,
     }
 }
@@ -233,21 +320,22 @@ fn of_step(m: MveState, x: Stepped) -> MveStep
     ensures { λ r. ⌜ r ≡ ofStep m (steppedAs x) ⌝ }
 {
     match x {
-        Stepped::Taken(st) => stepped_with(0, 0, st),
-        Stepped::Whole(st, n) => stepped_with(1, n, st),
+        Stepped::Taken(st) => stepped_with(0, 0, 0, st),
+        Stepped::Heard(st, n) => stepped_with(0, 0, n, st),
+        Stepped::Whole(st, n) => stepped_with(1, n, 0, st),
         Stepped::Unfinished(_, n) => kept_with(2, n, m),
         Stepped::Ended(_) => kept_with(3, 0, m),
         Stepped::Refused(r) => refused_with(r, m),
     }
 }
 
-// The first state of a film.
+// The first state of a film, and the stream whose sound is acted on: 0 to 15, or none above that.
 #[no_mangle]
-pub extern "C" fn mve_open(film: &[u8]) -> MveStep
-    ensures { λ r. ⌜ r ≡ ofOpening (openingOf (now (film .entry))) ⌝ }
+pub extern "C" fn mve_open(film: &[u8], stream: usize) -> MveStep
+    ensures { λ r. ⌜ r ≡ ofOpening (openingOf (now (film .entry)) stream) ⌝ }
 {
-    match opening::open(film) {
-        Opened::First(st) => stepped_with(0, 0, st),
+    match opening::open(film, stream) {
+        Opened::First(st) => stepped_with(0, 0, 0, st),
         Opened::Refused(r) => refused_with(
             r,
             MveState {
@@ -260,6 +348,16 @@ pub extern "C" fn mve_open(film: &[u8]) -> MveStep
                 map_start: 0,
                 map_length: 0,
                 unsent: 0,
+                sound: MveSound {
+                    stream: 0,
+                    has_format: 0,
+                    stereo: 0,
+                    wide: 0,
+                    compressed: 0,
+                    begun: 0,
+                    left: 0,
+                    right: 0,
+                },
             },
         ),
     }
@@ -274,12 +372,13 @@ pub extern "C" fn mve_step(
     a: &mut [u8],
     b: &mut [u8],
     place: &mut usize,
+    room: &mut [u8],
     allowed: usize,
 ) -> MveStep
-    ensures { λ r. ⌜ exported r (lent (now (palette .exit)) (now (a .exit)) (now (b .exit)) (now (place .exit))) ≡ ofFilm state (stepOf (now (film .entry)) (stateOf state) allowed (lent (now (palette .entry)) (now (a .entry)) (now (b .entry)) (now (place .entry)))) ⌝ }
+    ensures { λ r. ⌜ exported r (lent (now (palette .exit)) (now (a .exit)) (now (b .exit)) (now (place .exit)) (now (room .exit))) ≡ ofFilm state (stepOf (now (film .entry)) (stateOf state) allowed (lent (now (palette .entry)) (now (a .entry)) (now (b .entry)) (now (place .entry)) (now (room .entry)))) ⌝ }
 {
     let st = state_of(state);
-    let x = film::step(film, st, palette, a, b, place, allowed);
+    let x = film::step(film, st, palette, a, b, place, room, allowed);
     of_step(state, x)
 }
 

@@ -57,6 +57,7 @@ fn walk(film: &[u8], first: State) {
     let mut a = [0u8; 16384];
     let mut b = [0u8; 16384];
     let mut palette = [0u8; 768];
+    let mut room = [0u8; 1];
     let mut place: usize = 0;
     let mut st = first;
     let mut turns: usize = 0;
@@ -65,11 +66,23 @@ fn walk(film: &[u8], first: State) {
         let c = st.cursor;
         let p = c.position;
         let inside = p != c.chunk_end;
-        match film::step(film, st, &mut palette, &mut a, &mut b, &mut place, 312000) {
+        match film::step(
+            film,
+            st,
+            &mut palette,
+            &mut a,
+            &mut b,
+            &mut place,
+            &mut room,
+            312000,
+        ) {
             Stepped::Taken(next) => {
                 if listed(film, p, inside, next) {
                     return;
                 }
+                st = next;
+            }
+            Stepped::Heard(next, _) => {
                 st = next;
             }
             Stepped::Whole(next, _) => {
@@ -91,9 +104,10 @@ fn walk(film: &[u8], first: State) {
     }
 }
 
+// Sound is passed over: no stream is chosen.
 fn list(film: &[u8]) {
     io::write_all(1, b"at type version length\n");
-    match opening::open(film) {
+    match opening::open(film, 16) {
         Opened::First(st) => walk(film, st),
         Opened::Refused(r) => refused(r, 0),
     }

@@ -15,6 +15,7 @@ use Rattle.refusal.specs.Number.{Verdict, accept, refuse, number, block, refusa
 use Rattle.packet.specs.declared.Checked.{Checked}
 use Rattle.packet.specs.declared.Checked.the-variants.{Accepted, Refused}
 use Rattle.packet.specs.Verdict.{told}
+use Rattle.sound.specs.Format.{chosen}
 use Rattle.state.specs.declared.Cursor.{Cursor}
 use Rattle.state.specs.declared.State.{State}
 use Rattle.state.specs.Moves.{cursorInto}
@@ -24,7 +25,7 @@ use Rattle.heads.specs.declared.ChunkHead.{ChunkHead}
 use Rattle.heads.specs.declared.ChunkHead.the-variants.{Chunk, BadChunk}
 use Rattle.heads.specs.declared.OpcodeHead.{OpcodeHead}
 use Rattle.heads.specs.declared.OpcodeHead.the-variants.{Op, BadOp}
-use Rattle.heads.specs.Heads.{Head, chunkAs, opcodeAs, opcode as head, chunkOf, chunkAt, opcodeOf, opcodeAt, atLeast, shapeVerdict}
+use Rattle.heads.specs.Heads.{Head, chunkAs, opcodeAs, opcode as head, chunkOf, chunkAt, opcodeOf, opcodeAt, atLeast, shapeVerdict, isSound, hears as heard, takenVerdict}
 use Rattle.heads.specs.Heads as heads
 use Rattle.next.specs.Next.{Standing, refused, ended, chunk, opcode, on, chunkStanding, opcodeStanding, chunkEnd, standingAt, nextOf, Possible, Ready}
 
@@ -55,18 +56,22 @@ module _ (film : List ℕ) (c : Cursor) where
     unfolding chunkEnd chunkStanding
     no-chunk r k = rw (ne-eqb _ _ n, ← q, k)
 
-  pub at-end : (s : Standing) → c .position ≡ c .«chunk_end» → s ≡ chunkEnd film c → s ≡ standingAt film c
+  pub at-end : (hears : Bool) (s : Standing) → c .position ≡ c .«chunk_end» → s ≡ chunkEnd film c → s ≡ standingAt hears film c
   unfolding standingAt
-  at-end s q h = rw (eq-eqb _ _ q) h
+  at-end hears s q h = rw (eq-eqb _ _ q) h
 
-  module _ (n : c .position ≡ c .«chunk_end» → ⊥) (h : OpcodeHead) (q : opcodeAs h ≡ opcodeAt film c) where
-    pub opcode-here : (o : Opcode) (s : Standing) → h ≡ Op o → s ≡ on (shapeVerdict (o .kind) (o .version) (o .long)) (opcode o) → s ≡ standingAt film c
+  module _ (hears : Bool) (n : c .position ≡ c .«chunk_end» → ⊥) (h : OpcodeHead) (q : opcodeAs h ≡ opcodeAt film c) where
+    pub opcode-here : (o : Opcode) (s : Standing) → h ≡ Op o → s ≡ on (takenVerdict hears (o .kind) (o .version) (o .long)) (opcode o) → s ≡ standingAt hears film c
     unfolding standingAt opcodeStanding
     opcode-here o s k f = rw (ne-eqb _ _ n, ← q, k) f
 
-    pub no-opcode : (r : Refusal) → h ≡ BadOp r → refused (number r) (block r) ≡ standingAt film c
+    pub no-opcode : (r : Refusal) → h ≡ BadOp r → refused (number r) (block r) ≡ standingAt hears film c
     unfolding standingAt opcodeStanding
     no-opcode r k = rw (ne-eqb _ _ n, ← q, k)
+
+-- by a test that code made
+pub by-chosen : (b : Bool) (stream : ℕ) (film : List ℕ) (c : Cursor) (s : Standing) → b ≡ chosen stream → s ≡ standingAt b film c → s ≡ standingAt (chosen stream) film c
+by-chosen b stream film c s e q = rw (← e) q
 
 -- ---- a state and what is lent
 
@@ -80,7 +85,7 @@ short-lent w h palette a b bytes s c r e q k = rw (← e) (stops (lentVerdict by
 
 module _ (film : List ℕ) (st : State) (palette a b : ℕ) (c : Checked) (e : told c ≡ stateVerdict st (length film)) where
   pub found-here : (t : Standing) → c ≡ Accepted
-      → t ≡ on (lentVerdict (area (st .width) (st .height)) palette a b) (standingAt film (st .cursor))
+      → t ≡ on (lentVerdict (area (st .width) (st .height)) palette a b) (standingAt (chosen (st .sound .stream)) film (st .cursor))
       → t ≡ nextOf film st palette a b
   unfolding nextOf
   found-here t k h = goes-on (stateVerdict st (length film)) _ c e t k h
@@ -133,20 +138,26 @@ head-inside p e long k v o h =
     by false true l q = same l (cc)
     by false false l q = absurd (no-head 3 0 o q)
 
+-- 11 is no sound
+pub not-17 : (hears : Bool) → heard hears 17 ≡ false
+unfolding heard isSound
+not-17 true = refl
+not-17 false = refl
+
 -- 11 has at least its 14 bytes
-packet-long : (k v n : ℕ) → shapeVerdict k v n ≡ accept → k ≡ 17 → 14 ≤ n
-unfolding shapeVerdict atLeast
-packet-long k v n h q =
-    let g : atLeast 14 v n ≡ accept = rw q at h in
+packet-long : (hears : Bool) (k v n : ℕ) → takenVerdict hears k v n ≡ accept → k ≡ 17 → 14 ≤ n
+unfolding takenVerdict heard isSound shapeVerdict atLeast
+packet-long hears k v n h q =
+    let g : atLeast 14 v n ≡ accept = rw (not-17 hears) at (rw q at h) in
     let a = not-first (ltb 0 v) (refuse 4 0) (cond (ltb n 14) (refuse 5 0) accept) accept (refuses 4 0) g in
     let b = not-first (ltb n 14) (refuse 5 0) accept accept (refuses 5 0) (a .1) in
     ltb-false _ _ (b .0)
 
-opcode-ready : (film : List ℕ) (c : Cursor) (h : Head Opcode) (o : Opcode) → c .«chunk_end» ≤ length film → opcodeAt film c ≡ h → opcodeStanding h ≡ opcode o
+opcode-ready : (hears : Bool) (film : List ℕ) (c : Cursor) (h : Head Opcode) (o : Opcode) → c .«chunk_end» ≤ length film → opcodeAt film c ≡ h → opcodeStanding hears h ≡ opcode o
     → Ready (length film) c o
 unfolding opcodeStanding opcodeAt
-opcode-ready film c (heads.refused n k) o l q h = absurd (refused-opcode n k o h)
-opcode-ready film c (heads.gives x) o l q h =
+opcode-ready hears film c (heads.refused n k) o l q h = absurd (refused-opcode n k o h)
+opcode-ready hears film c (heads.gives x) o l q h =
     let s = on-opcode _ _ o h in
     let z : x ≡ o = let w = s .1 in cc in
     let i = head-inside (c .position) (c .«chunk_end») (wordAt film (c .position)) (getD film (c .position + 2) 0) (getD film (c .position + 3) 0) x q in
@@ -155,21 +166,21 @@ opcode-ready film c (heads.gives x) o l q h =
       behind = omega (arith, i .0);
       within = i .1;
       inside = omega (arith, i .1);
-      packet = packet-long (x .kind) (x .version) (x .long) (s .0);
+      packet = packet-long hears (x .kind) (x .version) (x .long) (s .0);
     })
 
-standing-ready : (film : List ℕ) (c : Cursor) (o : Opcode) → c .«chunk_end» ≤ length film → standingAt film c ≡ opcode o → Ready (length film) c o
+standing-ready : (hears : Bool) (film : List ℕ) (c : Cursor) (o : Opcode) → c .«chunk_end» ≤ length film → standingAt hears film c ≡ opcode o → Ready (length film) c o
 unfolding standingAt chunkEnd chunkStanding
-standing-ready film c o l h = by (eqb (c .position) (c .«chunk_end»)) (eqb (c .«chunk_end») (length film)) (chunkAt film c) h
+standing-ready hears film c o l h = by (eqb (c .position) (c .«chunk_end»)) (eqb (c .«chunk_end») (length film)) (chunkAt film c) h
   where
     none : (x : Head Cursor) → chunkStanding x ≡ opcode o → ⊥
     none (heads.gives d) q = let z : _≡_ {A = ℕ} 0 1 = cc in omega arith
     none (heads.refused n k) q = refused-opcode n k o q
 
-    by : (t u : Bool) (x : Head Cursor) → cond t (cond u ended (chunkStanding x)) (opcodeStanding (opcodeAt film c)) ≡ opcode o → Ready (length film) c o
+    by : (t u : Bool) (x : Head Cursor) → cond t (cond u ended (chunkStanding x)) (opcodeStanding hears (opcodeAt film c)) ≡ opcode o → Ready (length film) c o
     by true true x q = absurd (let z : _≡_ {A = ℕ} 0 1 = cc in let y : ⊥ = omega arith in y)
     by true false x q = absurd (none x q)
-    by false u x q = opcode-ready film c (opcodeAt film c) o l refl q
+    by false u x q = opcode-ready hears film c (opcodeAt film c) o l refl q
 
 pub found-ready : (film : List ℕ) (st : State) (palette a b : ℕ) (o : Opcode) → nextOf film st palette a b ≡ opcode o → Possible st (length film) × Ready (length film) (st .cursor) o
 unfolding nextOf
@@ -177,7 +188,7 @@ found-ready film st palette a b o h =
     let s = on-opcode _ _ o h in
     let t = on-opcode _ _ o (s .1) in
     let p = possible st (length film) (s .0) in
-    (p, standing-ready film (st .cursor) o (p .inside) (t .1))
+    (p, standing-ready (chosen (st .sound .stream)) film (st .cursor) o (p .inside) (t .1))
 
 -- a chunk's head lies in the film: the cursor in the chunk whose head stands at e
 pub record Opens (film e : ℕ) (c : Cursor) : Type 0 where
@@ -200,15 +211,15 @@ unfolding on
 on-chunk accept s c e = (refl, e)
 on-chunk (refuse n k) s c e = absurd (let z : _≡_ {A = ℕ} 0 1 = cc in let y : ⊥ = omega arith in y)
 
-standing-opens : (film : List ℕ) (c x : Cursor) → standingAt film c ≡ chunk x → (c .position ≡ c .«chunk_end») × Opens (length film) (c .«chunk_end») x
+standing-opens : (hears : Bool) (film : List ℕ) (c x : Cursor) → standingAt hears film c ≡ chunk x → (c .position ≡ c .«chunk_end») × Opens (length film) (c .«chunk_end») x
 unfolding standingAt chunkEnd chunkStanding opcodeStanding chunkAt on
-standing-opens film c x h = by (eqb (c .position) (c .«chunk_end»)) (eqb (c .«chunk_end») (length film)) (chunkAt film c) (opcodeAt film c) refl refl h
+standing-opens hears film c x h = by (eqb (c .position) (c .«chunk_end»)) (eqb (c .«chunk_end») (length film)) (chunkAt film c) (opcodeAt film c) refl refl h
   where
     no : (n k : ℕ) → refused n k ≡ chunk x → ⊥
     no n k q = let z : _≡_ {A = ℕ} 0 1 = cc in omega arith
 
-    none : (o : Head Opcode) → opcodeStanding o ≡ chunk x → ⊥
-    none (heads.gives o) q = shaped (shapeVerdict (o .kind) (o .version) (o .long)) q
+    none : (o : Head Opcode) → opcodeStanding hears o ≡ chunk x → ⊥
+    none (heads.gives o) q = shaped (takenVerdict hears (o .kind) (o .version) (o .long)) q
       where
         shaped : (v : Verdict) → on v (opcode o) ≡ chunk x → ⊥
         shaped accept r = let z : _≡_ {A = ℕ} 0 1 = cc in omega arith
@@ -221,7 +232,7 @@ standing-opens film c x h = by (eqb (c .position) (c .«chunk_end»)) (eqb (c .�
     opens (heads.refused n k) q r = absurd (no n k r)
 
     by : (t u : Bool) (h : Head Cursor) (o : Head Opcode) → eqb (c .position) (c .«chunk_end») ≡ t → chunkAt film c ≡ h
-        → cond t (cond u ended (chunkStanding h)) (opcodeStanding o) ≡ chunk x → (c .position ≡ c .«chunk_end») × Opens (length film) (c .«chunk_end») x
+        → cond t (cond u ended (chunkStanding h)) (opcodeStanding hears o) ≡ chunk x → (c .position ≡ c .«chunk_end») × Opens (length film) (c .«chunk_end») x
     by true true h o t q r = absurd (let z : _≡_ {A = ℕ} 0 1 = cc in let y : ⊥ = omega arith in y)
     by true false h o t q r = (eqb-true _ _ t, opens h q r)
     by false u h o t q r = absurd (none o r)
@@ -232,7 +243,7 @@ unfolding nextOf
 found-chunk film st palette a b c h =
     let s = on-chunk _ _ c h in
     let t = on-chunk _ _ c (s .1) in
-    let o = standing-opens film (st .cursor) c (t .1) in
+    let o = standing-opens (chosen (st .sound .stream)) film (st .cursor) c (t .1) in
     (possible st (length film) (s .0), o .0, o .1)
 
 pub is-possible : (st : State) (film : ℕ) (c : Checked) → told c ≡ stateVerdict st film → c ≡ Accepted → Possible st film

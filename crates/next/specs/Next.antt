@@ -11,8 +11,9 @@ use Rattle.refusal.specs.Number.{Verdict, accept, refuse, number, block}
 use Rattle.state.specs.declared.Cursor.{Cursor}
 use Rattle.state.specs.declared.State.{State}
 use Rattle.state.specs.State.{stateVerdict, area, lentVerdict, mapInside}
+use Rattle.sound.specs.Format.{chosen}
 use Rattle.heads.specs.declared.Opcode.{Opcode}
-use Rattle.heads.specs.Heads.{Head, chunkAt, opcodeAt, shapeVerdict}
+use Rattle.heads.specs.Heads.{Head, chunkAt, opcodeAt, takenVerdict}
 use Rattle.heads.specs.Heads as heads
 use Rattle.next.specs.declared.Next.{Next}
 use Rattle.next.specs.declared.Next.the-variants as found
@@ -40,22 +41,24 @@ unfoldable pub chunkStanding : Head Cursor → Standing
 chunkStanding (heads.gives c) = chunk c
 chunkStanding (heads.refused n k) = refused n k
 
-unfoldable pub opcodeStanding : Head Opcode → Standing
-opcodeStanding (heads.gives o) = on (shapeVerdict (o .kind) (o .version) (o .long)) (opcode o)
-opcodeStanding (heads.refused n k) = refused n k
+-- hears: a stream of sound is chosen
+unfoldable pub opcodeStanding : Bool → Head Opcode → Standing
+opcodeStanding hears (heads.gives o) = on (takenVerdict hears (o .kind) (o .version) (o .long)) (opcode o)
+opcodeStanding hears (heads.refused n k) = refused n k
 
 -- at a chunk's end: the film's end, or a chunk's head
 unfoldable pub chunkEnd : List ℕ → Cursor → Standing
 chunkEnd film c = cond (eqb (c .«chunk_end») (length film)) ended (chunkStanding (chunkAt film c))
 
 -- where a cursor is
-unfoldable pub standingAt : List ℕ → Cursor → Standing
-standingAt film c = cond (eqb (c .position) (c .«chunk_end»)) (chunkEnd film c) (opcodeStanding (opcodeAt film c))
+unfoldable pub standingAt : Bool → List ℕ → Cursor → Standing
+standingAt hears film c = cond (eqb (c .position) (c .«chunk_end»)) (chunkEnd film c) (opcodeStanding hears (opcodeAt film c))
 
 -- where a state is, with a palette and two pictures this long
 unfoldable pub nextOf : List ℕ → State → ℕ → ℕ → ℕ → Standing
 nextOf film st palette a b =
-    on (stateVerdict st (length film)) (on (lentVerdict (area (st .width) (st .height)) palette a b) (standingAt film (st .cursor)))
+    on (stateVerdict st (length film))
+    (on (lentVerdict (area (st .width) (st .height)) palette a b) (standingAt (chosen (st .sound .stream)) film (st .cursor)))
 
 -- what is known of a state that 16 does not refuse
 pub record Possible (st : State) (film : ℕ) : Type 0 where

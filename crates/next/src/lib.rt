@@ -2,10 +2,11 @@
 use heads::ChunkHead;
 use heads::OpcodeHead;
 use heads::chunk_head;
-use heads::judge_shape;
+use heads::judge_opcode;
 use heads::opcode_head;
 use packet::Checked;
 use refusal::Refusal;
+use sound::is_chosen;
 use state::Cursor;
 use state::State;
 use state::area_of;
@@ -15,7 +16,8 @@ ghost use mathlib.Core.Path.{_≡_};
 ghost use Prim.Native.Nat.{_≤_};
 ghost use lib.ListN.{length};
 ghost use Rattle.state.specs.State.{area, lentVerdict};
-ghost use Rattle.heads.specs.Heads.{shapeVerdict};
+ghost use Rattle.sound.specs.Format.{chosen};
+ghost use Rattle.heads.specs.Heads.{takenVerdict};
 ghost use Rattle.next.specs.Next.{nextAs, on, opcode, chunkEnd, standingAt, nextOf, Possible};
 
 pub enum Next {
@@ -25,10 +27,10 @@ pub enum Next {
     Opcode(heads::Opcode),
 }
 
-fn shaped(o: heads::Opcode) -> Next
-    ensures { λ r. ⌜ nextAs r ≡ on (shapeVerdict (o .kind) (o .version) (o .long)) (opcode o) ⌝ }
+fn shaped(o: heads::Opcode, hears: bool) -> Next
+    ensures { λ r. ⌜ nextAs r ≡ on (takenVerdict hears (o .kind) (o .version) (o .long)) (opcode o) ⌝ }
 {
-    match judge_shape(o.kind, o.version, o.long) {
+    match judge_opcode(hears, o.kind, o.version, o.long) {
         Checked::Accepted => Next::Opcode(o),
         Checked::Refused(r) => Next::Refused(r),
     }
@@ -47,28 +49,30 @@ fn chunk_end(film: &[u8], c: Cursor) -> Next
     }
 }
 
-fn standing_at(film: &[u8], c: Cursor) -> Next
+// hears: a stream of sound is chosen.
+fn standing_at(film: &[u8], c: Cursor, hears: bool) -> Next
     requires { ⌜ (c .position ≤ c .«chunk_end») × (c .«chunk_end» ≤ length (now film)) ⌝ }
-    ensures { λ r. ⌜ nextAs r ≡ standingAt (now (film .entry)) c ⌝ }
+    ensures { λ r. ⌜ nextAs r ≡ standingAt hears (now (film .entry)) c ⌝ }
 {
     if c.position == c.chunk_end {
         return chunk_end(film, c);
     }
     match opcode_head(film, c) {
-        OpcodeHead::Op(o) => shaped(o),
+        OpcodeHead::Op(o) => shaped(o, hears),
         OpcodeHead::BadOp(r) => Next::Refused(r),
     }
 }
 
 fn next_with_lent(film: &[u8], st: State, palette: usize, a: usize, b: usize) -> Next
     requires { ⌜ Possible st (length (now film)) ⌝ }
-    ensures { λ r. ⌜ nextAs r ≡ on (lentVerdict (area (st .width) (st .height)) palette a b) (standingAt (now (film .entry)) (st .cursor)) ⌝ }
+    ensures { λ r. ⌜ nextAs r ≡ on (lentVerdict (area (st .width) (st .height)) palette a b) (standingAt (chosen (st .sound .stream)) (now (film .entry)) (st .cursor)) ⌝ }
 {
     let bytes = area_of(st.width, st.height);
     match judge_lent(bytes, palette, a, b) {
         Checked::Accepted => {
             let c = st.cursor;
-            standing_at(film, c)
+            let s = st.sound;
+            standing_at(film, c, is_chosen(s.stream))
         }
         Checked::Refused(r) => Next::Refused(r),
     }

@@ -12,9 +12,13 @@ use Rattle.packet.specs.Verdict.{legalSize}
 use Rattle.draw.specs.declared.Drawn.{Drawn}
 use Rattle.draw.specs.declared.Drawn.the-variants.{Whole, Unfinished, Refused}
 use Rattle.draw.specs.Call.{said}
+use Rattle.sound.specs.declared.Sound.{Sound}
+use Rattle.sound.specs.declared.Heard.{Heard}
+use Rattle.sound.specs.declared.Heard.the-variants as sound
+use Rattle.sound.specs.Sound.{heardAs}
 use Rattle.state.specs.declared.State.{State}
-use Rattle.state.specs.Moves.{behind, atEnd, sized, sent, finished}
-use Rattle.opcodes.specs.Opcodes.{Step, taken, whole, unfinished, refused, drew, quiet, sizeAnswer, colourOf, quietAnswer, drawnAs, drawnStep}
+use Rattle.state.specs.Moves.{behind, atEnd, sized, sent, heard, finished}
+use Rattle.opcodes.specs.Opcodes.{Step, taken, whole, unfinished, refused, drew, quiet, wrote, sizeAnswer, colourOf, quietAnswer, heardStep, drawnAs, drawnStep}
 
 -- ---- 05
 
@@ -79,3 +83,14 @@ module _ (st : State) (p : ℕ) (d : Drawn) where
   pub step-refused : (r : Refusal) → d ≡ Refused r → quiet (refused (number r) (block r)) ≡ drawnStep st p (said d)
   unfolding drawnAs
   step-refused r e = rw e
+
+-- ---- sound
+
+module _ (st : State) (p : ℕ) (h : Heard) where
+  pub step-heard : (s : Sound) (n : ℕ) (x : State) → h ≡ sound.Taken s n → x ≡ heard st p s → wrote (taken x) n ≡ heardStep st p (heardAs h)
+  unfolding heardStep
+  step-heard s n x e f = rw (e, f)
+
+  pub sound-refused : (r : Refusal) → h ≡ sound.Refused r → quiet (refused (number r) (block r)) ≡ heardStep st p (heardAs h)
+  unfolding heardStep
+  sound-refused r e = rw e

@@ -9,10 +9,11 @@ use Rattle.refusal.specs.Number.{Verdict, accept, refuse, number, block}
 use Rattle.packet.specs.Verdict.{legalSize}
 use Rattle.stores.specs.Calls as drawing
 use Rattle.draw.specs.Call.{Reason}
+use Rattle.sound.specs.Sound as sound
 use Rattle.state.specs.declared.State.{State}
-use Rattle.state.specs.Moves.{behind, atEnd, sized, sent, finished}
+use Rattle.state.specs.Moves.{behind, atEnd, sized, sent, heard, finished}
 use Rattle.opcodes.specs.declared.Stepped.{Stepped}
-use Rattle.opcodes.specs.declared.Stepped.the-variants.{Taken, Whole, Unfinished, Ended, Refused}
+use Rattle.opcodes.specs.declared.Stepped.the-variants.{Taken, Heard, Whole, Unfinished, Ended, Refused}
 
 -- ---- answers
 
@@ -22,21 +23,26 @@ pub data Answer : Type 0 where
   taken whole unfinished ended : State → Answer
   refused : ℕ → ℕ → Answer
 
--- an answer, and how many stores the drawing made
+-- an answer, how many stores the drawing made, and how many bytes of sound were written
 pub record Step : Type 0 where
   pub answer : Answer
   pub stores : ℕ
+  pub bytes : ℕ
 
 abbrev pub drew : Answer → ℕ → Step
-drew x n = record { answer = x; stores = n }
+drew x n = record { answer = x; stores = n; bytes = 0 }
 
--- a step that does not draw reports 0 stores
+-- a step that does not draw reports 0 stores, and one that is no sound 0 bytes
 abbrev pub quiet : Answer → Step
 quiet x = drew x 0
+
+abbrev pub wrote : Answer → ℕ → Step
+wrote x n = record { answer = x; stores = 0; bytes = n }
 
 -- document 01's values of each answer
 abbrev pub steppedAs : Stepped → Step
 steppedAs (Taken st) = quiet (taken st)
+steppedAs (Heard st n) = wrote (taken st) n
 steppedAs (Whole st n) = drew (whole st) n
 steppedAs (Unfinished st n) = drew (unfinished st) n
 steppedAs (Ended st) = quiet (ended st)
@@ -60,7 +66,11 @@ quietAnswer film st kind version body p =
     (cond (eqb kind 5) (sizeAnswer st p (wordAt body 0) (wordAt body 2) (colourOf body version))
     (cond (eqb kind 7) (taken (sent st p)) (taken (behind st p))))
 
--- ---- the palette opcodes and the drawing, by what they came to
+-- ---- sound, the palette opcodes and the drawing, by what they came to
+
+unfoldable pub heardStep : State → ℕ → sound.Answer → Step
+heardStep st p (sound.heard s n) = wrote (taken (heard st p s)) n
+heardStep st p (sound.refusal n k) = quiet (refused n k)
 
 unfoldable pub paletteAnswer : State → ℕ → Verdict → Answer
 paletteAnswer st p accept = taken (behind st p)

@@ -2,15 +2,18 @@
 use draw::Drawn;
 use packet::is_legal_size;
 use refusal::Refusal;
+use sound::Heard;
 use state::State;
 use words::word_at;
 ghost use mathlib.Core.Path.{_≡_};
 ghost use Rattle.draw.specs.Call.{said};
-ghost use Rattle.opcodes.specs.Opcodes.{quiet, steppedAs, sizeAnswer, colourOf, quietAnswer, drawnStep};
+ghost use Rattle.sound.specs.Sound.{heardAs};
+ghost use Rattle.opcodes.specs.Opcodes.{quiet, steppedAs, sizeAnswer, colourOf, quietAnswer, heardStep, drawnStep};
 
-// What a step answers, with the state that it gives back and the stores that drawing made.
+// What a step answers, with the state that it gives back, the bytes of sound that it wrote or the stores that drawing made.
 pub enum Stepped {
     Taken(State),
+    Heard(State, usize),
     Whole(State, usize),
     Unfinished(State, usize),
     Ended(State),
@@ -74,5 +77,15 @@ pub fn drawn_step(st: State, p: usize, d: Drawn) -> Stepped
         Drawn::Whole(n) => Stepped::Whole(st.finished(p), n),
         Drawn::Unfinished(n) => Stepped::Unfinished(st, n),
         Drawn::Refused(r) => Stepped::Refused(r),
+    }
+}
+
+// 03, 08, 09 where a stream is chosen.
+pub fn heard_step(st: State, p: usize, h: Heard) -> Stepped
+    ensures { λ r. ⌜ steppedAs r ≡ heardStep st p (heardAs h) ⌝ }
+{
+    match h {
+        Heard::Taken(s, n) => Stepped::Heard(st.heard(p, s), n),
+        Heard::Refused(r) => Stepped::Refused(r),
     }
 }

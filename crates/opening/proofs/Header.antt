@@ -11,6 +11,9 @@ use native.Mathlib.Nat.{eq-or-lt-of-le}
 use borrow.Author.Tests.{lt-ltb, le-ltb, eq-eqb, ne-eqb}
 use lib.Dec.{eqb}
 use lib.ListN.{length, getD}
+use Rattle.sound.specs.declared.Sound.{Sound}
+use Rattle.sound.specs.Format.{firstSound}
+use Rattle.state.specs.declared.Map.the-variants.{Missing}
 use Rattle.opening.specs.Opening.{header, begins, firstState, Opening, started, refuses, openingOf}
 
 pub begins-none : (film : List ℕ) → true ≡ begins film 0
@@ -40,14 +43,16 @@ begins-not film i b (suc n) e f h =
     here : i ≡ n → getD film n 0 ≡ getD header n 0 → getD film i 0 ≡ b
     here z x = rw (z, e) (rw z x)
 
-pub opens-short : (film : List ℕ) → length film < 26 → refuses 1 0 ≡ openingOf film
+pub opens-short : (film : List ℕ) (stream : ℕ) → length film < 26 → refuses 1 0 ≡ openingOf film stream
 unfolding openingOf
-opens-short film h = rw (lt-ltb _ _ h)
+opens-short film stream h = rw (lt-ltb _ _ h)
 
-pub opens : (film : List ℕ) → 26 ≤ length film → begins film 26 ≡ true → started firstState ≡ openingOf film
-unfolding openingOf
-opens film h e = rw (le-ltb _ _ h, e)
+pub opens : (film : List ℕ) (stream : ℕ) (sound : Sound) → 26 ≤ length film → begins film 26 ≡ true → sound ≡ firstSound stream
+    → started (record { cursor = record { position = 26; «chunk_end» = 26 }; width = 0; height = 0; front = 0; map = Missing; unsent = false; sound = sound })
+    ≡ openingOf film stream
+unfolding openingOf firstState
+opens film stream sound h e q = rw (le-ltb _ _ h, e, q)
 
-pub opens-not : (film : List ℕ) → 26 ≤ length film → begins film 26 ≡ false → refuses 1 0 ≡ openingOf film
+pub opens-not : (film : List ℕ) (stream : ℕ) → 26 ≤ length film → begins film 26 ≡ false → refuses 1 0 ≡ openingOf film stream
 unfolding openingOf
-opens-not film h e = rw (le-ltb _ _ h, e)
+opens-not film stream h e = rw (le-ltb _ _ h, e)

@@ -6,6 +6,7 @@ use Prim.Native.Nat.{ℕ, zero, suc}
 use lib.Dec.{eqb, ltb}
 use lib.ListN.{length, getD}
 use Rattle.refusal.specs.Number.{number, block}
+use Rattle.sound.specs.Format.{firstSound}
 use Rattle.state.specs.declared.Map.the-variants.{Missing}
 use Rattle.state.specs.declared.State.{State}
 use Rattle.opening.specs.declared.Opened.{Opened}
@@ -21,10 +22,10 @@ unfoldable pub begins : List ℕ → ℕ → Bool
 begins film zero = true
 begins film (suc n) = cond (eqb (getD film n 0) (getD header n 0)) (begins film n) false
 
--- position and chunk end behind the header, no size, the first lent picture shown, no map, nothing unsent
-unfoldable pub firstState : State
-firstState =
-    record { cursor = record { position = 26; «chunk_end» = 26 }; width = 0; height = 0; front = 0; map = Missing; unsent = false }
+-- position and chunk end behind the header, no size, the first lent picture shown, no map, nothing unsent, and the stream of sound that is given
+unfoldable pub firstState : ℕ → State
+firstState stream =
+    record { cursor = record { position = 26; «chunk_end» = 26 }; width = 0; height = 0; front = 0; map = Missing; unsent = false; sound = firstSound stream }
 
 -- what opening comes to: a state, or a refusal's number and block
 pub data Opening : Type 0 where
@@ -36,5 +37,5 @@ abbrev pub openedAs : Opened → Opening
 openedAs (First st) = started st
 openedAs (Refused r) = refuses (number r) (block r)
 
-unfoldable pub openingOf : List ℕ → Opening
-openingOf film = cond (ltb (length film) 26) (refuses 1 0) (cond (begins film 26) (started firstState) (refuses 1 0))
+unfoldable pub openingOf : List ℕ → ℕ → Opening
+openingOf film stream = cond (ltb (length film) 26) (refuses 1 0) (cond (begins film 26) (started (firstState stream)) (refuses 1 0))

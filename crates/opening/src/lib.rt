@@ -1,5 +1,6 @@
 // Opening a film: its header gives the first state.
 use refusal::Refusal;
+use sound::Sound;
 use state::Cursor;
 use state::Map;
 use state::State;
@@ -63,14 +64,15 @@ fn has_header(film: &[u8]) -> bool
     true
 }
 
-// The first state of a film, or refusal 1.
-pub fn open(film: &[u8]) -> Opened
-    ensures { λ r. ⌜ openedAs r ≡ openingOf (now (film .entry)) ⌝ }
+// The first state of a film, or refusal 1. The stream is that whose sound is acted on; above 15 it is passed over.
+pub fn open(film: &[u8], stream: usize) -> Opened
+    ensures { λ r. ⌜ openedAs r ≡ openingOf (now (film .entry)) stream ⌝ }
 {
     if film.len() < 26 {
         return Opened::Refused(Refusal::Header);
     }
     if has_header(film) {
+        let sound = Sound::new(stream);
         return Opened::First(State {
             cursor: Cursor {
                 position: 26,
@@ -81,6 +83,7 @@ pub fn open(film: &[u8]) -> Opened
             front: 0,
             map: Map::Missing,
             unsent: false,
+            sound,
         });
     }
     Opened::Refused(Refusal::Header)

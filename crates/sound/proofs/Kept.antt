@@ -108,3 +108,22 @@ silence-kept s body room =
     let w = silence-counted s stereo wide compressed (wordAt body 4) (length room) in
     omega (arith, w .count t bytes e, w .fits t bytes e))
     s (wordAt body 2))
+
+-- ---- of the opcodes: the count word of the body and the format that is kept
+
+of-format : (f : Format) (a b c : Bool) (step : Bool → Bool → Bool → Step) (n room : ℕ) → f ≡ Known a b c → Counted (step a b c) n room → Counted (ofFormat f step) n room
+unfolding ofFormat
+of-format f a b c step n room e k = rw e k
+
+module _ (s : Sound) (body : List ℕ) (room : ℕ) (stereo wide compressed : Bool) (m : masked (s .stream) (wordAt body 2) ≡ true) (f : s .format ≡ Known stereo wide compressed) where
+  pub audio-counted : Counted (audioData s body room) (wordAt body 4 * sampleBytes wide compressed) room
+  unfolding audioData ofMask
+  audio-counted =
+      rw m
+      (of-format (s .format) stereo wide compressed _ _ room f (data-counted s stereo wide compressed (wordAt body 4) (drop 6 body) room))
+
+  pub silent-counted : Counted (audioSilence s body room) (wordAt body 4 * sampleBytes wide compressed) room
+  unfolding audioSilence ofMask
+  silent-counted =
+      rw m
+      (of-format (s .format) stereo wide compressed _ _ room f (silence-counted s stereo wide compressed (wordAt body 4) room))

@@ -1,4 +1,5 @@
--- Rows of packets (document 02, W5): later packets go on from the last sample of each channel.
+-- Rows of packets (document 02, W5): later packets go on from the last sample of each channel. The packets are those of 08 in one format, by their count
+-- and data; what stands between them and leaves the sound as it was (09, packets for other streams) is left out.
 -- Assumes nothing.
 use mathlib.Core.Path.{_≡_}
 use mathlib.Core.Bool.{Bool}

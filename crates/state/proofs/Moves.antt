@@ -7,34 +7,39 @@ use borrow.Author.Tests.{eq-eqb, ne-eqb}
 use Rattle.state.specs.declared.Cursor.{Cursor}
 use Rattle.state.specs.declared.Map.{Map}
 use Rattle.state.specs.declared.Map.the-variants.{Missing}
+use Rattle.sound.specs.declared.Sound.{Sound}
 use Rattle.state.specs.declared.State.{State}
-use Rattle.state.specs.Moves.{cursorBehind, at, sized, shownNext, sent, mapped, finished}
+use Rattle.state.specs.Moves.{cursorBehind, at, sized, shownNext, sent, mapped, heard, finished}
 
 pub at-is : (st : State) (c d : Cursor) (r : State) → c ≡ d → r ≡ at st c → r ≡ at st d
 at-is st c d r e h = h ∙ ap (at st) e
 
 -- a state as code builds it
-abbrev pub state : Cursor → ℕ → ℕ → ℕ → Map → Bool → State
-state c w h front map unsent = record { cursor = c; width = w; height = h; front = front; map = map; unsent = unsent }
+abbrev pub state : Cursor → ℕ → ℕ → ℕ → Map → Bool → Sound → State
+state c w h front map unsent sound = record { cursor = c; width = w; height = h; front = front; map = map; unsent = unsent; sound = sound }
 
 module _ (st : State) (p : ℕ) (c : Cursor) (e : c ≡ cursorBehind (st .cursor) p) where
-  pub sized-is : (w h : ℕ) → state c w h (st .front) (st .map) (st .unsent) ≡ sized st p w h
+  pub sized-is : (w h : ℕ) → state c w h (st .front) (st .map) (st .unsent) (st .sound) ≡ sized st p w h
   unfolding sized
-  sized-is w h = ap (λ (x : Cursor). state x w h (st .front) (st .map) (st .unsent)) e
+  sized-is w h = ap (λ (x : Cursor). state x w h (st .front) (st .map) (st .unsent) (st .sound)) e
 
-  pub sent-is : (f : ℕ) → f ≡ shownNext (st .unsent) (st .front) → state c (st .width) (st .height) f (st .map) false ≡ sent st p
+  pub sent-is : (f : ℕ) → f ≡ shownNext (st .unsent) (st .front) → state c (st .width) (st .height) f (st .map) false (st .sound) ≡ sent st p
   unfolding sent
   sent-is f q =
-      ap (λ (x : Cursor). state x (st .width) (st .height) f (st .map) false) e
-      ∙ ap (λ (x : ℕ). state (cursorBehind (st .cursor) p) (st .width) (st .height) x (st .map) false) q
+      ap (λ (x : Cursor). state x (st .width) (st .height) f (st .map) false (st .sound)) e
+      ∙ ap (λ (x : ℕ). state (cursorBehind (st .cursor) p) (st .width) (st .height) x (st .map) false (st .sound)) q
 
-  pub mapped-is : (map : Map) → state c (st .width) (st .height) (st .front) map (st .unsent) ≡ mapped st p map
+  pub mapped-is : (map : Map) → state c (st .width) (st .height) (st .front) map (st .unsent) (st .sound) ≡ mapped st p map
   unfolding mapped
-  mapped-is map = ap (λ (x : Cursor). state x (st .width) (st .height) (st .front) map (st .unsent)) e
+  mapped-is map = ap (λ (x : Cursor). state x (st .width) (st .height) (st .front) map (st .unsent) (st .sound)) e
 
-  pub finished-is : state c (st .width) (st .height) (st .front) Missing true ≡ finished st p
+  pub heard-is : (sound : Sound) → state c (st .width) (st .height) (st .front) (st .map) (st .unsent) sound ≡ heard st p sound
+  unfolding heard
+  heard-is sound = ap (λ (x : Cursor). state x (st .width) (st .height) (st .front) (st .map) (st .unsent) sound) e
+
+  pub finished-is : state c (st .width) (st .height) (st .front) Missing true (st .sound) ≡ finished st p
   unfolding finished
-  finished-is = ap (λ (x : Cursor). state x (st .width) (st .height) (st .front) Missing true) e
+  finished-is = ap (λ (x : Cursor). state x (st .width) (st .height) (st .front) Missing true (st .sound)) e
 
 pub turned-0 : (u : Bool) (f : ℕ) → u ≡ true → f ≡ 0 → 1 ≡ shownNext u f
 unfolding shownNext

@@ -9,10 +9,11 @@ use borrow.Author.Tests.{lt-leb, le-leb, eq-eqb, ne-eqb}
 use lib.Dec.{eqb, leb}
 use Rattle.refusal.specs.Number.{Verdict}
 use Rattle.packet.specs.Verdict.{legalSize}
+use Rattle.sound.specs.Format.{possibleSound}
 use Rattle.state.specs.declared.Map.{Map}
 use Rattle.state.specs.declared.Map.the-variants.{Missing, Part}
 use Rattle.state.specs.declared.State.{State}
-use Rattle.state.specs.State.{possibleSize, mapInside, boundsVerdict, stateVerdict, area, chosen, shownOf}
+use Rattle.state.specs.State.{possibleSize, possible, mapInside, boundsVerdict, stateVerdict, area, chosen, shownOf}
 
 -- a part by its start and length, tested without a sum
 pub starts-past : (start long n : ℕ) → n < start → false ≡ leb (start + long) n
@@ -40,10 +41,18 @@ pub some-size : (w h : ℕ) (r : Bool) → (w ≡ 0 → ⊥) → r ≡ legalSize
 unfolding possibleSize
 some-size w h r n q = rw (ne-eqb w 0 n) q
 
-pub state-judged : (st : State) (film : ℕ) (map size : Bool) (v : Verdict) → map ≡ mapInside (st .map) film → size ≡ possibleSize (st .width) (st .height)
-    → v ≡ boundsVerdict (st .cursor .position) (st .cursor .«chunk_end») film map (st .front) size → v ≡ stateVerdict st film
+pub both-possible : (st : State) (r : Bool) → possibleSize (st .width) (st .height) ≡ true → r ≡ possibleSound (st .sound) → r ≡ possible st
+unfolding possible
+both-possible st r e q = rw e q
+
+pub no-possible : (st : State) → possibleSize (st .width) (st .height) ≡ false → false ≡ possible st
+unfolding possible
+no-possible st e = rw e
+
+pub state-judged : (st : State) (film : ℕ) (map kept : Bool) (v : Verdict) → map ≡ mapInside (st .map) film → kept ≡ possible st
+    → v ≡ boundsVerdict (st .cursor .position) (st .cursor .«chunk_end») film map (st .front) kept → v ≡ stateVerdict st film
 unfolding stateVerdict
-state-judged st film map size v e f q = rw (← e, ← f) q
+state-judged st film map kept v e f q = rw (← e, ← f) q
 
 pub area-legal : (w h : ℕ) → legalSize w h ≡ true → w * h ≡ area w h
 unfolding area

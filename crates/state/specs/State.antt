@@ -7,6 +7,7 @@ use lib.Dec.{eqb, leb, ltb}
 use lib.ListN.{length, take}
 use Rattle.refusal.specs.Number.{Verdict, accept, refuse}
 use Rattle.packet.specs.Verdict.{legalSize}
+use Rattle.sound.specs.Format.{possibleSound}
 use Rattle.state.specs.declared.Cursor.{Cursor}
 use Rattle.state.specs.declared.Map.{Map}
 use Rattle.state.specs.declared.Map.the-variants.{Missing, Part}
@@ -23,17 +24,20 @@ unfoldable pub mapInside : Map → ℕ → Bool
 mapInside Missing film = true
 mapInside (Part start long) film = leb (start + long) film
 
--- a position, a chunk end, a film this long, whether the map lies inside, front, and whether the size is possible
+-- the size and the sound that a state keeps: no format that is both 8-bit and compressed
+unfoldable pub possible : State → Bool
+possible st = cond (possibleSize (st .width) (st .height)) (possibleSound (st .sound)) false
+
+-- a position, a chunk end, a film this long, whether the map lies inside, front, and whether what is kept is possible
 unfoldable pub boundsVerdict : ℕ → ℕ → ℕ → Bool → ℕ → Bool → Verdict
-boundsVerdict position end film map front size =
+boundsVerdict position end film map front kept =
     cond (ltb end position) (refuse 16 0)
     (cond (ltb film end) (refuse 16 0)
-    (cond map (cond (ltb 1 front) (refuse 16 0) (cond size accept (refuse 16 0))) (refuse 16 0)))
+    (cond map (cond (ltb 1 front) (refuse 16 0) (cond kept accept (refuse 16 0))) (refuse 16 0)))
 
 unfoldable pub stateVerdict : State → ℕ → Verdict
 stateVerdict st film =
-    boundsVerdict (st .cursor .position) (st .cursor .«chunk_end») film (mapInside (st .map) film) (st .front)
-    (possibleSize (st .width) (st .height))
+    boundsVerdict (st .cursor .position) (st .cursor .«chunk_end») film (mapInside (st .map) film) (st .front) (possible st)
 
 -- ---- 8
 

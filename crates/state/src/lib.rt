@@ -2,12 +2,13 @@
 use packet::Checked;
 use packet::is_legal_size;
 use refusal::Refusal;
+use sound::Sound;
 ghost use mathlib.Core.Path.{_≡_};
 ghost use Prim.Native.Nat.{_+_, _<_, _^_};
 ghost use lib.Dec.{leb};
 ghost use Rattle.packet.specs.Verdict.{told};
-ghost use Rattle.state.specs.Moves.{cursorBehind, cursorInto, cursorAtEnd, at, behind, into, atEnd, sized, shownNext, sent, mapped, finished};
-ghost use Rattle.state.specs.State.{possibleSize, mapInside, boundsVerdict, stateVerdict, area, lentVerdict, leading, chosen, shownOf};
+ghost use Rattle.state.specs.Moves.{cursorBehind, cursorInto, cursorAtEnd, at, behind, into, atEnd, sized, shownNext, sent, mapped, heard, finished};
+ghost use Rattle.state.specs.State.{possibleSize, possible, mapInside, boundsVerdict, stateVerdict, area, lentVerdict, leading, chosen, shownOf};
 
 // Where the next head stands, and where the chunk around it ends.
 pub struct Cursor {
@@ -21,7 +22,7 @@ pub enum Map {
     Part(usize, usize),
 }
 
-// front: which lent picture is shown, 0 or 1. unsent: a frame is finished and not yet sent.
+// front: which lent picture is shown, 0 or 1. unsent: a frame is finished and not yet sent. sound: the chosen stream, its format and its last samples.
 pub struct State {
     pub cursor: Cursor,
     pub width: usize,
@@ -29,6 +30,7 @@ pub struct State {
     pub front: usize,
     pub map: Map,
     pub unsent: bool,
+    pub sound: Sound,
 }
 
 // Every move over a film is one of these methods: the value goes in, the moved one comes back.
@@ -72,6 +74,7 @@ impl State {
         ensures { λ r. ⌜ r ≡ at self cursor ⌝ }
     {
         let map = self.map;
+        let sound = self.sound;
         State {
             cursor,
             width: self.width,
@@ -79,6 +82,7 @@ impl State {
             front: self.front,
             map,
             unsent: self.unsent,
+            sound,
         }
     }
 
@@ -112,6 +116,7 @@ impl State {
         let c = self.cursor;
         let cursor = c.behind(p);
         let map = self.map;
+        let sound = self.sound;
         State {
             cursor,
             width: w,
@@ -119,6 +124,7 @@ impl State {
             front: self.front,
             map,
             unsent: self.unsent,
+            sound,
         }
     }
 
@@ -130,6 +136,7 @@ impl State {
         let cursor = c.behind(p);
         let front = shown_next(self.unsent, self.front);
         let map = self.map;
+        let sound = self.sound;
         State {
             cursor,
             width: self.width,
@@ -137,6 +144,7 @@ impl State {
             front,
             map,
             unsent: false,
+            sound,
         }
     }
 
@@ -146,6 +154,7 @@ impl State {
     {
         let c = self.cursor;
         let cursor = c.behind(p);
+        let sound = self.sound;
         State {
             cursor,
             width: self.width,
@@ -153,6 +162,25 @@ impl State {
             front: self.front,
             map,
             unsent: self.unsent,
+            sound,
+        }
+    }
+
+    // 03, 08, 09 where a stream is chosen: with the sound that comes of them.
+    pub fn heard(self, p: usize, sound: Sound) -> State
+        ensures { λ r. ⌜ r ≡ heard self p sound ⌝ }
+    {
+        let c = self.cursor;
+        let cursor = c.behind(p);
+        let map = self.map;
+        State {
+            cursor,
+            width: self.width,
+            height: self.height,
+            front: self.front,
+            map,
+            unsent: self.unsent,
+            sound,
         }
     }
 
@@ -162,6 +190,7 @@ impl State {
     {
         let c = self.cursor;
         let cursor = c.behind(p);
+        let sound = self.sound;
         State {
             cursor,
             width: self.width,
@@ -169,6 +198,7 @@ impl State {
             front: self.front,
             map: Map::Missing,
             unsent: true,
+            sound,
         }
     }
 }
@@ -193,6 +223,17 @@ fn is_possible_size(w: usize, h: usize) -> bool
         return h == 0;
     }
     is_legal_size(w, h)
+}
+
+// Whether the size and the sound that a state keeps are possible.
+fn is_possible(st: State) -> bool
+    ensures { λ r. ⌜ r ≡ possible st ⌝ }
+{
+    if is_possible_size(st.width, st.height) {
+        let s = st.sound;
+        return s.is_possible();
+    }
+    false
 }
 
 // Whether a pending map lies inside a film of n bytes.
@@ -223,9 +264,9 @@ fn judge_bounds(
     film: usize,
     map: bool,
     front: usize,
-    size: bool,
+    kept: bool,
 ) -> Checked
-    ensures { λ r. ⌜ told r ≡ boundsVerdict position end film map front size ⌝ }
+    ensures { λ r. ⌜ told r ≡ boundsVerdict position end film map front kept ⌝ }
 {
     if end < position {
         return Checked::Refused(Refusal::State);
@@ -237,7 +278,7 @@ fn judge_bounds(
         if 1 < front {
             return Checked::Refused(Refusal::State);
         }
-        if size {
+        if kept {
             return Checked::Accepted;
         }
         return Checked::Refused(Refusal::State);
@@ -252,8 +293,8 @@ pub fn judge_state(st: State, n: usize) -> Checked
     let c = st.cursor;
     let m = st.map;
     let map = is_map_inside(m, n);
-    let size = is_possible_size(st.width, st.height);
-    judge_bounds(c.position, c.chunk_end, n, map, st.front, size)
+    let kept = is_possible(st);
+    judge_bounds(c.position, c.chunk_end, n, map, st.front, kept)
 }
 
 // The bytes of a picture, 0 where the size is not a legal one.

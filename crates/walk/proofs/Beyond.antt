@@ -25,11 +25,15 @@ use Rattle.state.specs.declared.Map.{Map}
 use Rattle.state.specs.declared.Map.the-variants.{Missing, Part}
 use Rattle.state.specs.declared.State.{State}
 use Rattle.state.specs.State.{area, lentVerdict}
+use Rattle.sound.specs.Format.{chosen}
+use Rattle.sound.specs.Step as sound
+use Rattle.sound.specs.Sound.{answer}
 use Rattle.heads.specs.declared.Opcode.{Opcode}
+use Rattle.heads.specs.Heads.{hears}
 use Rattle.next.specs.Next.{Standing, nextOf}
 use Rattle.next.specs.Next as found
-use Rattle.opcodes.specs.Opcodes.{quiet, paletteAnswer, drawnStep}
-use Rattle.film.specs.Film.{Lent, withPalette, swap, Outcome, after, called, drawSecond, drawOn, part, drawBy, update, act, actOn, standing, stepOf}
+use Rattle.opcodes.specs.Opcodes.{quiet, heardStep, paletteAnswer, drawnStep}
+use Rattle.film.specs.Film.{Lent, withPalette, swap, Outcome, after, called, drawSecond, drawOn, part, drawBy, update, act, actOn, heardBy, hear, takeOn, standing, stepOf}
 use Rattle.walk.specs.Beyond.{bytes, KeptFrom, Unwritten, SameTo, SameSteps, Unread}
 
 -- ---- a drawing call of any size
@@ -115,11 +119,13 @@ module _ (film : List ℕ) (st : State) (allowed : ℕ) where
       (kept-by (bytes st) l (eqb kind 13) _ _ (kept (bytes st) l _ refl refl) (kept (bytes st) l _ refl refl)))))
 
   kept-standing : (s : Standing) (l : Lent) → KeptFrom (bytes st) l (standing s film st allowed l)
-  unfolding standing
+  unfolding standing takeOn hear
   kept-standing (found.refused n k) l = kept (bytes st) l _ refl refl
   kept-standing found.ended l = kept (bytes st) l _ refl refl
   kept-standing (found.chunk c) l = kept (bytes st) l _ refl refl
-  kept-standing (found.opcode o) l = kept-act (o .kind) (o .version) (o .start) (part film (o .start) (o .start + o .long)) (o .start + o .long) l
+  kept-standing (found.opcode o) l =
+      kept-by (bytes st) l (hears (chosen (st .sound .stream)) (o .kind)) _ _ (kept (bytes st) l _ refl refl)
+      (kept-act (o .kind) (o .version) (o .start) (part film (o .start) (o .start + o .long)) (o .start + o .long) l)
 
   pub step-unwritten : (l : Lent) → Unwritten film st allowed l
   unfolding stepOf
@@ -132,7 +138,7 @@ same-by n true x x′ y y′ p q = p
 same-by n false x x′ y y′ p q = q
 
 same-swapped : (n : ℕ) (l m : Lent) → SameTo n l m → SameTo n (swap l) (swap m)
-same-swapped n l m s = record { palette = s .palette; first = s .second; second = s .first; place = s .place }
+same-swapped n l m s = record { palette = s .palette; first = s .second; second = s .first; place = s .place; room = s .room }
 
 module _ (film : List ℕ) (st : State) (allowed : ℕ) where
   same-drawn : (p : ℕ) (map packet : List ℕ) (l m : Lent) → SameTo (bytes st) l m
@@ -144,7 +150,7 @@ module _ (film : List ℕ) (st : State) (allowed : ℕ) where
       (s .first) (record { picture = s .second; place = s .place }) in
       record {
         step = ap (drawnStep st p) (c .answers);
-        lent = record { palette = s .palette; first = s .first; second = c .leaves .picture; place = c .leaves .place };
+        lent = record { palette = s .palette; first = s .first; second = c .leaves .picture; place = c .leaves .place; room = s .room };
       }
 
   same-on : (p : ℕ) (map packet : List ℕ) (l m : Lent) → SameTo (bytes st) l m → SameSteps (bytes st) (drawOn st p map packet allowed l) (drawOn st p map packet allowed m)
@@ -165,7 +171,7 @@ module _ (film : List ℕ) (st : State) (allowed : ℕ) where
   same-update p u l m s =
       record {
         step = ap (λ (x : List ℕ). quiet (paletteAnswer st p (verdictOn u x))) (s .palette);
-        lent = record { palette = ap (paletteAfter u) (s .palette); first = s .first; second = s .second; place = s .place };
+        lent = record { palette = ap (paletteAfter u) (s .palette); first = s .first; second = s .second; place = s .place; room = s .room };
       }
 
   same-act : (kind version a : ℕ) (body : List ℕ) (p : ℕ) (l m : Lent) → SameTo (bytes st) l m
@@ -173,20 +179,32 @@ module _ (film : List ℕ) (st : State) (allowed : ℕ) where
   unfolding act
   same-act kind version a body p l m s =
       same-by (bytes st) (eqb kind 15) _ _ _ _
-      (record { step = refl; lent = record { palette = s .palette; first = s .first; second = s .second; place = refl } })
+      (record { step = refl; lent = record { palette = s .palette; first = s .first; second = s .second; place = refl; room = s .room } })
       (same-by (bytes st) (eqb kind 17) _ _ _ _ (same-map (st .map) body p l m s)
       (same-by (bytes st) (eqb kind 11) _ _ _ _ (same-update p (createGradient body) l m s)
       (same-by (bytes st) (eqb kind 12) _ _ _ _ (same-update p (setPalette body) l m s)
       (same-by (bytes st) (eqb kind 13) _ _ _ _ (same-update p (setPaletteCompressed body) l m s)
       (record { step = refl; lent = s })))))
 
+  same-heard : (kind version : ℕ) (body : List ℕ) (p : ℕ) (l m : Lent) → SameTo (bytes st) l m
+      → SameSteps (bytes st) (hear st kind version body p l) (hear st kind version body p m)
+  unfolding hear
+  same-heard kind version body p l m s =
+      let x : List ℕ → sound.Step = λ room. heardBy (st .sound) kind version body (length room) in
+      record {
+        step = ap (λ (room : List ℕ). heardStep st p (answer (x room))) (s .room);
+        lent = record { palette = s .palette; first = s .first; second = s .second; place = s .place; room = ap (λ (room : List ℕ). sound.roomAfter (x room) room) (s .room) };
+      }
+
   same-standing : (x : Standing) (l m : Lent) → SameTo (bytes st) l m → SameSteps (bytes st) (standing x film st allowed l) (standing x film st allowed m)
-  unfolding standing
+  unfolding standing takeOn
   same-standing (found.refused n k) l m s = record { step = refl; lent = s }
   same-standing found.ended l m s = record { step = refl; lent = s }
   same-standing (found.chunk c) l m s = record { step = refl; lent = s }
   same-standing (found.opcode o) l m s =
-      same-act (o .kind) (o .version) (o .start) (part film (o .start) (o .start + o .long)) (o .start + o .long) l m s
+      same-by (bytes st) (hears (chosen (st .sound .stream)) (o .kind)) _ _ _ _
+      (same-heard (o .kind) (o .version) (part film (o .start) (o .start + o .long)) (o .start + o .long) l m s)
+      (same-act (o .kind) (o .version) (o .start) (part film (o .start) (o .start + o .long)) (o .start + o .long) l m s)
 
   -- the tests see the palette's length, and whether a picture is shorter than the size
   same-next : (l m : Lent) → SameTo (bytes st) l m

@@ -23,15 +23,20 @@ use Rattle.state.specs.declared.Map.{Map}
 use Rattle.state.specs.declared.Map.the-variants.{Missing, Part}
 use Rattle.state.specs.declared.State.{State}
 use Rattle.state.specs.State.{area, lentVerdict}
-use Rattle.state.specs.Moves.{behind, atEnd, sized, sent, mapped}
+use Rattle.state.specs.Moves.{behind, atEnd, sized, sent, mapped, heard}
+use Rattle.sound.specs.Format.{chosen}
+use Rattle.sound.specs.Step as sound
+use Rattle.sound.specs.Sound.{answer}
 use Rattle.heads.specs.declared.Opcode.{Opcode}
+use Rattle.heads.specs.Heads.{hears}
+use Rattle.next.proofs.Standing.{not-17}
 use Rattle.next.specs.Next.{Standing, on, nextOf}
 use Rattle.next.specs.Next as found
 use Rattle.palette.specs.Gradient.{createGradient}
 use Rattle.palette.specs.Entries.{setPalette}
 use Rattle.palette.specs.Mask.{setPaletteCompressed}
-use Rattle.opcodes.specs.Opcodes.{Answer, taken, whole, unfinished, ended, refused, quiet, sizeAnswer, colourOf, quietAnswer, paletteAnswer, drawnAs, drawnStep}
-use Rattle.film.specs.Film.{Lent, withPictures, swap, Outcome, after, called, drawSecond, drawOn, part, drawBy, update, act, standing, stepOf}
+use Rattle.opcodes.specs.Opcodes.{Answer, taken, whole, unfinished, ended, refused, quiet, sizeAnswer, colourOf, quietAnswer, heardStep, paletteAnswer, drawnAs, drawnStep}
+use Rattle.film.specs.Film.{Lent, withPictures, swap, Outcome, after, called, drawSecond, drawOn, part, drawBy, update, act, actOn, heardBy, hear, takeOn, standing, stepOf}
 use Rattle.walk.specs.Draws.{bodyOf, packetOf, Draws, Drew}
 
 -- ---- a drawing call that is not refused
@@ -165,6 +170,26 @@ module _ (film : List ℕ) (st : State) (allowed : ℕ) where
   unfolding act
   drew-act kind version s body p l e d = rw e d
 
+  -- 11 is no sound
+  drew-taken : (o : Opcode) (l : Lent) → o .kind ≡ 17 → Drew (actOn film st o allowed l .step .answer) → Drew (takeOn film st o allowed l .step .answer)
+  unfolding takeOn
+  drew-taken o l e d = rw (ap (hears (chosen (st .sound .stream))) e ∙ not-17 (chosen (st .sound .stream))) d
+
+  not-heard : (p : ℕ) (x : sound.Step) → Drew (heardStep st p (answer x) .answer) → ⊥
+  unfolding heardStep answer
+  not-heard p (sound.taken s bytes) = not-taken (heard st p s)
+  not-heard p (sound.refused n k) = not-refused n k
+
+  taken-drew : (o : Opcode) (l : Lent) → Drew (takeOn film st o allowed l .step .answer) → Drew (actOn film st o allowed l .step .answer)
+  unfolding takeOn hear
+  taken-drew o l = by (hears (chosen (st .sound .stream)) (o .kind))
+    where
+      by : (b : Bool)
+          → Drew (cond b (hear st (o .kind) (o .version) (bodyOf film o) (o .start + o .long) l) (actOn film st o allowed l) .step .answer)
+          → Drew (actOn film st o allowed l .step .answer)
+      by true d = absurd (not-heard (o .start + o .long) (heardBy (st .sound) (o .kind) (o .version) (bodyOf film o) (length (l .room))) d)
+      by false d = d
+
   -- a pending map, with which the packet in a body is accepted
   record Mapped (map : Map) (body : List ℕ) (l : Lent) : Type 0 where
     start : ℕ
@@ -212,9 +237,10 @@ module _ (film : List ℕ) (st : State) (allowed : ℕ) where
         let r = long-enough film st (length (l .palette)) (length (l .first)) (length (l .second)) o (d .stands) in
         let n : eqb (st .width) 0 ≡ false = ne-eqb (st .width) 0 (λ z. let y : ⊥ = omega (arith, a .wide .least, z) in y) in
         rw (d .stands)
+        (drew-taken o l (d .is-11)
         (drew-act (o .kind) (o .version) (o .start) (bodyOf film o) (o .start + o .long) l (d .is-11)
         (drew-by (st .map) (d .start) (d .long) (d .mapped) n (bodyOf film o) (o .start + o .long) l
-        (record { accepted = a; front-long = rw e at (r .0); back-long = rw e at (r .1); within = d .within }))),
+        (record { accepted = a; front-long = rw e at (r .0); back-long = rw e at (r .1); within = d .within })))),
     λ x. by (nextOf film st (length (l .palette)) (length (l .first)) (length (l .second))) refl x,
   )
     where
@@ -223,7 +249,7 @@ module _ (film : List ℕ) (st : State) (allowed : ℕ) where
       by found.ended e d = absurd (not-ended st d)
       by (found.chunk c) e d = absurd (not-taken _ d)
       by (found.opcode o) e d =
-          let x = act-drew (o .kind) (o .version) (o .start) (bodyOf film o) (o .start + o .long) l d in
+          let x = act-drew (o .kind) (o .version) (o .start) (bodyOf film o) (o .start + o .long) l (taken-drew o l d) in
           let m = x .1 in
           record {
             found = o;

@@ -22,13 +22,18 @@ use Rattle.palette.specs.Mask.{setPaletteCompressed}
 use Rattle.state.specs.declared.Map.{Map}
 use Rattle.state.specs.declared.Map.the-variants.{Missing, Part}
 use Rattle.state.specs.declared.State.{State}
-use Rattle.state.specs.Moves.{cursorBehind, cursorAtEnd, at, behind, into, atEnd, sized, sent, mapped, finished}
+use Rattle.state.specs.Moves.{cursorBehind, cursorAtEnd, at, behind, into, atEnd, sized, sent, mapped, heard, finished}
+use Rattle.sound.specs.declared.Sound.{Sound}
+use Rattle.sound.specs.Format.{chosen}
+use Rattle.sound.specs.Step as sound
+use Rattle.sound.specs.Sound.{answer}
 use Rattle.heads.specs.declared.Opcode.{Opcode}
+use Rattle.heads.specs.Heads.{hears}
 use Rattle.next.specs.Next.{Standing, nextOf}
 use Rattle.next.specs.Next as found
 use Rattle.next.proofs.Standing.{found-ready, found-chunk}
-use Rattle.opcodes.specs.Opcodes.{Answer, Step, taken, whole, unfinished, ended, refused, quiet, sizeAnswer, colourOf, quietAnswer, paletteAnswer, drawnAs}
-use Rattle.film.specs.Film.{Lent, withPalette, withPictures, swap, Outcome, after, called, drawSecond, drawOn, part, drawBy, update, act, standing, stepOf}
+use Rattle.opcodes.specs.Opcodes.{Answer, Step, taken, whole, unfinished, ended, refused, quiet, sizeAnswer, colourOf, quietAnswer, heardStep, paletteAnswer, drawnAs}
+use Rattle.film.specs.Film.{Lent, withPalette, withPictures, withRoom, swap, Outcome, after, called, drawSecond, drawOn, part, drawBy, update, act, heardBy, hear, takeOn, standing, stepOf}
 use Rattle.walk.specs.Walk.{Forward, Moves, Still, Keeps, GoesTo, Walked, none, more}
 
 -- what holds of a step
@@ -62,6 +67,10 @@ module _ (film : List ℕ) (st : State) (p : ℕ) (rises : st .cursor .position 
   on-finished : Forward (length film) st (finished st p)
   unfolding finished cursorBehind
   on-finished = record { rises = rises; ordered = within; inside = inside }
+
+  on-heard : (s : Sound) → Forward (length film) st (heard st p s)
+  unfolding heard cursorBehind
+  on-heard s = record { rises = rises; ordered = within; inside = inside }
 
   size-moves : (w h c : ℕ) → Moves (length film) st (sizeAnswer st p w h c)
   unfolding sizeAnswer Moves
@@ -158,11 +167,25 @@ module _ (film : List ℕ) (st : State) (p : ℕ) (rises : st .cursor .position 
       by false false false false true = update-good (setPaletteCompressed body) l
       by false false false false false = quiet-good l (quietAnswer (length film) st kind version body p) (quiet-moves kind version body)
 
+  -- sound
+  heard-good : (x : sound.Step) (l : Lent) → Good (length film) st l (after (heardStep st p (answer x)) (withRoom l (sound.roomAfter x (l .room))))
+  unfolding heardStep answer sound.roomAfter Moves Still
+  heard-good (sound.taken s bytes) l = record { moves = on-heard s; keeps = λ s. absurd s }
+  heard-good (sound.refused n k) l = quiet-good l (refused n k) tt
+
+  hear-good : (kind version : ℕ) (body : List ℕ) (l : Lent) → Good (length film) st l (hear st kind version body p l)
+  unfolding hear
+  hear-good kind version body l = heard-good (heardBy (st .sound) kind version body (length (l .room))) l
+
 -- ---- a step
 
 module _ (film : List ℕ) (st : State) (n : ℕ) (l : Lent) where
+  by-sound : (b : Bool) {x y : Outcome} → Good (length film) st l x → Good (length film) st l y → Good (length film) st l (cond b x y)
+  by-sound true g h = g
+  by-sound false g h = h
+
   standing-good : (s : Standing) → nextOf film st (length (l .palette)) (length (l .first)) (length (l .second)) ≡ s → Good (length film) st l (standing s film st n l)
-  unfolding standing Moves Still at
+  unfolding standing takeOn Moves Still at
   standing-good (found.refused i k) e = record { moves = tt; keeps = λ s. refl }
   standing-good found.ended e = record { moves = refl; keeps = λ s. refl }
   standing-good (found.chunk c) e =
@@ -170,8 +193,11 @@ module _ (film : List ℕ) (st : State) (n : ℕ) (l : Lent) where
       record { moves = record { rises = omega (arith, f .1, f .2 .behind); ordered = f .2 .ordered; inside = f .2 .inside }; keeps = λ s. refl }
   standing-good (found.opcode o) e =
       let f = found-ready film st (length (l .palette)) (length (l .first)) (length (l .second)) o e in
-      act-good film st (o .start + o .long) (omega (arith, f .1 .behind)) (f .1 .within) (f .0 .inside) (o .kind) (o .version) (o .start)
-      (part film (o .start) (o .start + o .long)) n l
+      let r : st .cursor .position + 4 ≤ o .start + o .long = omega (arith, f .1 .behind) in
+      by-sound (hears (chosen (st .sound .stream)) (o .kind))
+      (hear-good film st (o .start + o .long) r (f .1 .within) (f .0 .inside) (o .kind) (o .version) (part film (o .start) (o .start + o .long)) l)
+      (act-good film st (o .start + o .long) r (f .1 .within) (f .0 .inside) (o .kind) (o .version) (o .start)
+      (part film (o .start) (o .start + o .long)) n l)
 
   step-good : Good (length film) st l (stepOf film st n l)
   unfolding stepOf

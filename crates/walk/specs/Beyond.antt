@@ -28,6 +28,7 @@ pub record SameTo (n : ℕ) (l m : Lent) : Type 0 where
   pub first : take n (l .first) ≡ take n (m .first)
   pub second : take n (l .second) ≡ take n (m .second)
   pub place : l .place ≡ m .place
+  pub room : l .room ≡ m .room
 
 -- one answer and count, and what is left is the same up to n
 pub record SameSteps (n : ℕ) (x y : Outcome) : Type 0 where

@@ -1,3 +1,4 @@
 pub mod Walk
 pub mod Draws
 pub mod Beyond
+pub mod Apart

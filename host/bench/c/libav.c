@@ -1,4 +1,5 @@
-/* libavcodec's decoder of Interplay video, as the bench calls it: 8-bit pictures of one size, one thread. */
+/* libavcodec's decoders of Interplay video and sound, as the bench calls them: 8-bit pictures of one size, compressed
+   sound of one or two channels; one thread. */
 
 #include <libavcodec/avcodec.h>
 #include <limits.h>
@@ -10,8 +11,9 @@
 struct libav {
     AVCodecContext *context;
     AVFrame *frame; /* decoded last */
-    int width;
+    int width;      /* of a decoder of pictures */
     int height;
+    int channels; /* of a decoder of sound */
 };
 
 unsigned libav_version(void)
@@ -28,10 +30,10 @@ void libav_close(struct libav *decoder)
     free(decoder);
 }
 
-/* Null where libavcodec has no such decoder or cannot open it. */
-struct libav *libav_open(int width, int height)
+/* A decoder to be set up; null where libavcodec has none such. */
+static struct libav *new_decoder(enum AVCodecID id)
 {
-    const AVCodec *codec = avcodec_find_decoder(AV_CODEC_ID_INTERPLAY_VIDEO);
+    const AVCodec *codec = avcodec_find_decoder(id);
     struct libav *decoder = calloc(1, sizeof *decoder);
     if (!codec || !decoder)
         goto failed;
@@ -40,16 +42,48 @@ struct libav *libav_open(int width, int height)
     decoder->frame = av_frame_alloc();
     if (!decoder->context || !decoder->frame)
         goto failed;
-    decoder->width = decoder->context->width = width;
-    decoder->height = decoder->context->height = height;
-    decoder->context->bits_per_coded_sample = 8;
     decoder->context->thread_count = 1;
-    if (avcodec_open2(decoder->context, codec, NULL) < 0)
-        goto failed;
     return decoder;
 failed:
     libav_close(decoder);
     return NULL;
+}
+
+/* The decoder that was set up; null where libavcodec cannot open it. */
+static struct libav *opened(struct libav *decoder)
+{
+    if (avcodec_open2(decoder->context, NULL, NULL) == 0)
+        return decoder;
+    libav_close(decoder);
+    return NULL;
+}
+
+/* Null where libavcodec has no such decoder or cannot open it. */
+struct libav *libav_open(int width, int height)
+{
+    struct libav *decoder = new_decoder(AV_CODEC_ID_INTERPLAY_VIDEO);
+    if (!decoder)
+        return NULL;
+    decoder->width = decoder->context->width = width;
+    decoder->height = decoder->context->height = height;
+    decoder->context->bits_per_coded_sample = 8;
+    return opened(decoder);
+}
+
+/* Null where libavcodec has no such decoder or cannot open it. */
+struct libav *libav_open_sound(int channels)
+{
+    struct libav *decoder = new_decoder(AV_CODEC_ID_INTERPLAY_DPCM);
+    if (!decoder)
+        return NULL;
+    decoder->channels = channels;
+    decoder->context->sample_rate = 22050;
+#if LIBAVCODEC_VERSION_INT >= AV_VERSION_INT(59, 24, 100)
+    av_channel_layout_default(&decoder->context->ch_layout, channels);
+#else
+    decoder->context->channels = channels;
+#endif
+    return opened(decoder);
 }
 
 void libav_packet_free(AVPacket *packet)
@@ -69,7 +103,7 @@ AVPacket *libav_packet(const uint8_t *bytes, size_t length)
     return packet;
 }
 
-/* What the bench times. 0, or libavcodec's number of an error. */
+/* Decodes a packet of pictures or of sound: what the bench times. 0, or libavcodec's number of an error. */
 int libav_decode(struct libav *decoder, const AVPacket *packet)
 {
     int sent = avcodec_send_packet(decoder->context, packet);
@@ -86,4 +120,17 @@ int libav_picture(const struct libav *decoder, uint8_t *picture)
     for (int y = 0; y < height; y++)
         memcpy(picture + (size_t)y * width, frame->data[0] + (ptrdiff_t)y * frame->linesize[0], width);
     return 1;
+}
+
+/* Writes the samples of the frame decoded last, left and right in turn, where there is room for so many. Their number; -1
+   where it is not a frame of packed 16-bit samples. */
+int libav_samples(const struct libav *decoder, int16_t *samples, size_t room)
+{
+    const AVFrame *frame = decoder->frame;
+    size_t count = (size_t)frame->nb_samples * (size_t)decoder->channels;
+    if (!frame->data[0] || frame->format != AV_SAMPLE_FMT_S16 || count > INT_MAX)
+        return -1;
+    if (count <= room)
+        memcpy(samples, frame->data[0], count * sizeof *samples);
+    return (int)count;
 }

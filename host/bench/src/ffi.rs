@@ -1,5 +1,5 @@
-//! libavcodec's decoder of Interplay video, by the functions of `c/libav.c`. All unsafe code is
-//! here.
+//! libavcodec's decoders of Interplay video and sound, by the functions of `c/libav.c`. All unsafe
+//! code is here.
 
 #![allow(unsafe_code)]
 
@@ -22,11 +22,13 @@ struct RawPacket {
 unsafe extern "C" {
     fn libav_version() -> c_uint;
     fn libav_open(width: c_int, height: c_int) -> *mut RawDecoder;
+    fn libav_open_sound(channels: c_int) -> *mut RawDecoder;
     fn libav_close(decoder: *mut RawDecoder);
     fn libav_packet(bytes: *const u8, length: usize) -> *mut RawPacket;
     fn libav_packet_free(packet: *mut RawPacket);
     fn libav_decode(decoder: *mut RawDecoder, packet: *const RawPacket) -> c_int;
     fn libav_picture(decoder: *const RawDecoder, picture: *mut u8) -> c_int;
+    fn libav_samples(decoder: *const RawDecoder, samples: *mut i16, room: usize) -> c_int;
 }
 
 /// The version of the library that runs: major, minor, micro.
@@ -56,9 +58,30 @@ impl Drop for Packet {
     }
 }
 
-/// An open decoder.
+/// An open decoder of either kind.
+struct Open(NonNull<RawDecoder>);
+
+impl Open {
+    fn decode(&mut self, packet: &Packet) -> Result<(), i32> {
+        // SAFETY: decoder and packet are open, the decoder is borrowed by this call alone, and the
+        // packet is only read.
+        match unsafe { libav_decode(self.0.as_ptr(), packet.0.as_ptr()) } {
+            0 => Ok(()),
+            error => Err(error),
+        }
+    }
+}
+
+impl Drop for Open {
+    fn drop(&mut self) {
+        // SAFETY: the decoder came from one of the opening functions and is closed once.
+        unsafe { libav_close(self.0.as_ptr()) }
+    }
+}
+
+/// An open decoder of pictures.
 pub struct Decoder {
-    raw: NonNull<RawDecoder>,
+    open: Open,
     size: Size,
 }
 
@@ -68,17 +91,12 @@ impl Decoder {
         let (width, height) = (size.width().try_into().ok()?, size.height().try_into().ok()?);
         // SAFETY: it takes two numbers.
         let raw = NonNull::new(unsafe { libav_open(width, height) })?;
-        Some(Decoder { raw, size })
+        Some(Decoder { open: Open(raw), size })
     }
 
     /// Decodes the next packet; libavcodec's number of an error.
     pub fn decode(&mut self, packet: &Packet) -> Result<(), i32> {
-        // SAFETY: decoder and packet are open, the decoder is borrowed by this call alone, and the
-        // packet is only read.
-        match unsafe { libav_decode(self.raw.as_ptr(), packet.0.as_ptr()) } {
-            0 => Ok(()),
-            error => Err(error),
-        }
+        self.open.decode(packet)
     }
 
     /// Writes the picture decoded last, row by row; false where there is none of the size.
@@ -86,13 +104,34 @@ impl Decoder {
         assert_eq!(picture.len(), self.size.pixels(), "a byte a pixel");
         // SAFETY: the decoder is open; it writes a byte for each pixel of the size that it was
         // opened with, which is the length of the slice.
-        unsafe { libav_picture(self.raw.as_ptr(), picture.as_mut_ptr()) == 1 }
+        unsafe { libav_picture(self.open.0.as_ptr(), picture.as_mut_ptr()) == 1 }
     }
 }
 
-impl Drop for Decoder {
-    fn drop(&mut self) {
-        // SAFETY: the decoder came from `libav_open` and is closed once.
-        unsafe { libav_close(self.raw.as_ptr()) }
+/// An open decoder of compressed sound.
+pub struct SoundDecoder(Open);
+
+impl SoundDecoder {
+    /// `None` where libavcodec has no such decoder or cannot open it.
+    pub fn open(channels: usize) -> Option<SoundDecoder> {
+        let channels = channels.try_into().ok()?;
+        // SAFETY: it takes a number.
+        let raw = NonNull::new(unsafe { libav_open_sound(channels) })?;
+        Some(SoundDecoder(Open(raw)))
+    }
+
+    /// Decodes the next packet; libavcodec's number of an error.
+    pub fn decode(&mut self, packet: &Packet) -> Result<(), i32> {
+        self.0.decode(packet)
+    }
+
+    /// Writes the samples decoded last, left and right in turn. Gives their number, also where the
+    /// slice is too short and nothing is written; `None` where there are none of 16 bits.
+    pub fn samples(&self, samples: &mut [i16]) -> Option<usize> {
+        // SAFETY: the decoder is open; address and length are those of a slice that is borrowed by
+        // this call alone.
+        let count =
+            unsafe { libav_samples(self.0 .0.as_ptr(), samples.as_mut_ptr(), samples.len()) };
+        count.try_into().ok()
     }
 }

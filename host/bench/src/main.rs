@@ -1,22 +1,25 @@
 //! Times of the proved drawing call beside libavcodec's decoder, the second decoder and a copy of
-//! the picture, all on the same frames, whose pictures are compared.
+//! the picture, all on the same frames, whose pictures are compared; and of the film step on packets
+//! of sound beside the same, with every sample compared.
 
 mod allowance;
 mod blocks;
 mod fault;
 #[cfg(libavcodec)]
 mod ffi;
+mod hearing;
 mod kind;
 mod libav;
 mod measure;
 mod mirror;
 mod program;
 mod report;
+mod sound;
 mod table;
 
 use allowance::Cuts;
 use blocks::{Line, Series};
-use fault::Fault;
+use hearing::Hearing;
 use kind::{frames, Kind, KINDS, MIX, PRIMERS, SAME};
 use measure::Bench;
 use program::{programs, Program};
@@ -100,28 +103,32 @@ struct Run {
     benches: Vec<Bench>,
     cuts: Vec<Cuts>,
     series: Vec<Series>,
+    hearings: Vec<Hearing>,
 }
 
 impl Run {
     /// So many rounds, each of everything in turn: a slow time of the machine meets all alike.
-    fn new(seed: u64, rounds: usize) -> Result<Run, Fault> {
+    fn new(seed: u64, rounds: usize) -> Result<Run, String> {
         let benches: Result<Vec<_>, _> =
             KINDS.map(|kind| Bench::new(kind, seed)).into_iter().collect();
         let cuts: Result<Vec<_>, _> =
             [SAME, MIX].map(|kind| Cuts::new(kind, seed)).into_iter().collect();
-        let mut run = Run { benches: benches?, cuts: cuts?, series: Series::all(seed)? };
+        let (benches, cuts) = (benches?, cuts?);
+        let (series, hearings) = (Series::all(seed)?, Hearing::all(seed)?);
+        let mut run = Run { benches, cuts, series, hearings };
         for round in 0..rounds {
             run.benches.iter_mut().try_for_each(|bench| bench.round(round))?;
             run.cuts.iter_mut().try_for_each(|cuts| cuts.round(round))?;
             run.series.iter_mut().for_each(Series::round);
+            run.hearings.iter_mut().try_for_each(|hearing| hearing.round(round))?;
         }
         Ok(run)
     }
 }
 
-/// Compares the pictures of everything that is measured.
+/// Compares the pictures of everything that is measured, and the sound.
 fn quick(seed: u64, rounds: usize) -> Result<(), String> {
-    let Run { benches, cuts, series } = Run::new(seed, rounds)?;
+    let Run { benches, cuts, series, hearings: _ } = Run::new(seed, rounds)?;
     let (kinds, lists, sizes) = (benches.len(), cuts.len() * cuts[0].pieces.len(), series.len());
     println!(
         "bench: seed {seed}: {kinds} kinds of frames, {lists} lists of calls, {sizes} sizes: \
@@ -131,21 +138,31 @@ fn quick(seed: u64, rounds: usize) -> Result<(), String> {
         Ok(version) => println!("bench: libavcodec {version} draws the same of every kind"),
         Err(why) => println!("bench: not compared with libavcodec: {why}"),
     }
+    match sound::compare(seed)? {
+        Some(sound::Compared { packets, samples }) => {
+            println!(
+                "bench: it decodes the same {samples} samples of {packets} packets of sound as the \
+                 proved library"
+            );
+        }
+        None => println!("bench: sound is not compared: libavcodec's decoder of it is not there"),
+    }
     Ok(())
 }
 
 /// Measures everything and prints it.
 fn tables(markdown: bool, seed: u64, rounds: usize) -> Result<(), String> {
-    let Run { benches, cuts, series } = Run::new(seed, rounds)?;
+    let Run { benches, cuts, series, hearings } = Run::new(seed, rounds)?;
     let measured: Vec<_> = benches.iter().map(Bench::measured).collect();
     let pieces = cuts.into_iter().flat_map(|cuts| cuts.pieces).collect::<Vec<_>>();
     let points: Vec<_> = series.iter().map(Series::point).collect();
     let line = Line::through(&points);
     let blocks = report::blocks(&points, line).text(markdown);
-    let targets = report::targets(&measured).text(markdown);
+    let targets = report::targets(&measured, &hearings).text(markdown);
     for (title, text) in [
         ("Machine and run", report::run(seed, rounds)),
         ("Nanoseconds a pixel", report::kinds(&measured).text(markdown)),
+        ("Nanoseconds a sample", report::sounds(&hearings).text(markdown)),
         ("Targets", format!("The project's targets:\n\n{targets}")),
         ("By the stores that a call is allowed", report::allowances(&pieces).text(markdown)),
         ("By the number of blocks", format!("{blocks}\n\n{}", report::line(&points, line))),

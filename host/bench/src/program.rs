@@ -12,6 +12,8 @@ pub const MEMCPY: &str = "memcpy";
 pub const CHECK: &str = "check";
 /// The drawing call of the proved library, which checks, too.
 pub const DRAW: &str = "draw";
+/// The film step of the proved library, which takes a packet of sound.
+pub const STEP: &str = "step";
 /// libavcodec's decoder.
 pub const LIBAV: &str = "libavcodec";
 /// The second decoder.

@@ -2,10 +2,11 @@
 
 use crate::allowance::Pieces;
 use crate::blocks::{Line, Point};
+use crate::hearing::Hearing;
 use crate::kind::MIX;
 use crate::libav;
 use crate::measure::Measured;
-use crate::program::{CHECK, DRAW, LIBAV, MEMCPY};
+use crate::program::{CHECK, DRAW, LIBAV, MEMCPY, STEP};
 use crate::table::{number, Table};
 use maker::Size;
 use std::fs;
@@ -36,8 +37,34 @@ pub fn kinds(measured: &[Measured]) -> Table {
     table
 }
 
+/// Nanoseconds a sample of every program, mono and stereo, and the step's by libavcodec's.
+pub fn sounds(hearings: &[Hearing]) -> Table {
+    let programs = hearings[0].measured().into_iter().map(|(name, _)| name.to_owned());
+    let ratio = step_ratio(&hearings[0]).map(|_| format!("{STEP}/{LIBAV}"));
+    let heading = ["sound", "samples a packet"].map(str::to_owned).into_iter();
+    let mut table = Table::new(heading.chain(programs).chain(ratio).collect());
+    for hearing in hearings {
+        let mut row = vec![channels_text(hearing), hearing.samples_a_packet().to_string()];
+        row.extend(hearing.measured().into_iter().map(|(_, time)| number(time, 3)));
+        row.extend(step_ratio(hearing).map(|ratio| number(ratio, 2)));
+        table.row(row);
+    }
+    table
+}
+
+fn channels_text(hearing: &Hearing) -> String {
+    if hearing.channels == 1 { "mono" } else { "stereo" }.to_owned()
+}
+
+/// The time of a film step over a packet of sound by that of libavcodec.
+fn step_ratio(hearing: &Hearing) -> Option<f64> {
+    let measured = hearing.measured();
+    let of = |program| measured.iter().find(|(name, _)| *name == program).map(|&(_, time)| time);
+    Some(of(STEP)? / of(LIBAV)?)
+}
+
 /// The targets, what was measured of each, and whether it is met.
-pub fn targets(measured: &[Measured]) -> Table {
+pub fn targets(measured: &[Measured], hearings: &[Hearing]) -> Table {
     let mix = |found: &&Measured| found.kind.name == MIX.name;
     let below = |found: &&Measured| BELOW.contains(&found.kind.name);
     let mut table = Table::new(["target", "measured", "met"].map(str::to_owned).into());
@@ -57,6 +84,13 @@ pub fn targets(measured: &[Measured]) -> Table {
     add("draw/libavcodec of B and 7 to A below 1", of(&below), |ratio| ratio < 1.0);
     let check = worst(measured.iter().filter(mix), CHECK, MEMCPY);
     add("check/memcpy of the mix at most 7.5 (0.15 ns / 0.02)", check, |ratio| ratio <= 7.5);
+    let sounds: Vec<_> = hearings
+        .iter()
+        .filter_map(|hearing| Some((step_ratio(hearing)?, channels_text(hearing))))
+        .collect();
+    let sound = sounds.iter().max_by(|a, b| a.0.total_cmp(&b.0));
+    let sound = sound.map(|(ratio, channels)| (*ratio, &**channels));
+    add("step/libavcodec of sound at most 1", sound, |ratio| ratio <= 1.0);
     table
 }
 

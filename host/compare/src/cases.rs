@@ -1,12 +1,14 @@
-//! The cases: packets, lists of calls and films, each made from a seed and a number of its own, so
-//! that any one can be made again by itself.
+//! The cases: packets, lists of calls, films and films with sound, each made from a seed and a number
+//! of its own, so that any one can be made again by itself.
 
 use maker::calls::{self, Call, CallList};
+use maker::film::Film;
 use maker::packet::{self, Draft};
 use maker::packet_damage::{damaged, Damage};
 use maker::states::{self, Start};
-use maker::{film_damage, Form, Packet, Profile, Seeded, Size};
+use maker::{film_damage, sound_damage, Form, Packet, Profile, Seeded, Size};
 use reference::film::{State, Stepped};
+use reference::sound::NO_STREAM;
 
 /// The packet of a case: valid, damaged or hostile.
 pub fn packet(seed: u64, number: u64) -> Packet {
@@ -47,6 +49,8 @@ const STEPS: usize = 300;
 pub struct Walk {
     /// The film.
     pub film: Vec<u8>,
+    /// The stream of its sound that it is opened for.
+    pub stream: usize,
     /// Where to start; at the opening if none.
     pub state: Option<State>,
     /// The lent palette.
@@ -57,6 +61,9 @@ pub struct Walk {
     pub place: usize,
     /// The stores allowed, step by step; as many steps are taken at most.
     pub allowances: Vec<usize>,
+    /// By how much each step's room is longer than what the step writes; -1 is a byte short. Where
+    /// there is no number, no room is lent.
+    pub spare: Vec<isize>,
 }
 
 /// The film of a case. Most are walked from the opening: valid, damaged in an opcode or in a byte,
@@ -82,8 +89,46 @@ pub fn film(seed: u64, number: u64) -> Walk {
             let film = maker::film::hostile(rng);
             from_opening(rng, film)
         }
-        _ => from_middle(rng),
+        _ => {
+            let frames = rng.between(1, 2);
+            let film = maker::film::with_frames(rng, frames);
+            from_middle(rng, &film)
+        }
     }
+}
+
+/// The film with sound of a case, as [`film`] has them, for any stream; now and then for none, which
+/// then passes over what is made for one.
+pub fn sound(seed: u64, number: u64) -> Walk {
+    let rng = &mut chance(seed, number);
+    let stream = rng.below(16);
+    let walk = match rng.below(16) {
+        0..=3 => {
+            let film = maker::sound::valid(rng, stream).bytes();
+            from_opening(rng, film)
+        }
+        4..=8 => {
+            let damage = rng.pick(&sound_damage::Damage::ALL);
+            let film = sound_damage::damaged(rng, stream, damage).bytes();
+            from_opening(rng, film)
+        }
+        9 => {
+            let film = maker::sound::scratched(rng, stream);
+            from_opening(rng, film)
+        }
+        10 => {
+            let film = maker::sound::hostile(rng);
+            from_opening(rng, film)
+        }
+        _ => {
+            let frames = rng.between(1, 2);
+            let film = maker::sound::with_frames(rng, stream, frames);
+            from_middle(rng, &film)
+        }
+    };
+    let stream = if rng.one_in(32) { rng.pick(&[16, 17, usize::MAX]) } else { stream };
+    let spare = |_| rng.pick(&[0, 0, 0, -1, -1, 1, 9]);
+    Walk { stream, spare: (0..STEPS).map(spare).collect(), ..walk }
 }
 
 fn from_opening(rng: &mut Seeded, film: Vec<u8>) -> Walk {
@@ -101,31 +146,32 @@ fn from_opening(rng: &mut Seeded, film: Vec<u8>) -> Walk {
     let palette = if rng.one_in(4) { vec![0; length] } else { rng.bytes(length) };
     let place = if rng.one_in(8) { rng.pick(&[1, 5000, usize::MAX]) } else { 0 };
     let allowances = allowances(rng, pixels.div_ceil(64));
-    Walk { film, state: None, palette, pictures, place, allowances }
+    let (state, stream, spare) = (None, NO_STREAM, Vec::new());
+    Walk { film, stream, state, palette, pictures, place, allowances, spare }
 }
 
-fn from_middle(rng: &mut Seeded) -> Walk {
-    let frames = rng.between(1, 2);
-    let film = maker::film::with_frames(rng, frames);
+fn from_middle(rng: &mut Seeded, film: &Film) -> Walk {
     let start = match rng.below(4) {
-        0 => states::middle(rng, &film),
-        _ => states::hostile(rng, &film),
+        0 => states::middle(rng, film),
+        _ => states::hostile(rng, film),
     };
     let bytes =
-        if rng.one_in(4) { states::scratched_ahead(rng, &film, &start) } else { film.bytes() };
+        if rng.one_in(4) { states::scratched_ahead(rng, film, &start) } else { film.bytes() };
     let Start { state, palette, picture_a, picture_b, place, .. } = start;
     let allowances = allowances(rng, film.size.blocks());
-    let pictures = [picture_a, picture_b];
-    Walk { film: bytes, state: Some(state), palette, pictures, place, allowances }
+    let (state, pictures) = (Some(state), [picture_a, picture_b]);
+    let (film, stream, spare) = (bytes, film.stream, Vec::new());
+    Walk { film, stream, state, palette, pictures, place, allowances, spare }
 }
 
 /// The pixels of a film's frames; 0 where no step gives it a size. Pictures without a byte do until
 /// then.
 fn pixels(film: &[u8]) -> usize {
-    let Ok(state) = reference::film::open(film) else { return 0 };
+    let Ok(state) = reference::film::open(film, NO_STREAM) else { return 0 };
     let (palette, picture_a, picture_b) = (vec![0; 768], Vec::new(), Vec::new());
-    let mut walk = Start { state, palette, picture_a, picture_b, place: 0, allowed: 0 };
-    while let Stepped::Taken(state) = walk.step(film) {
+    let (place, room, allowed) = (0, Vec::new(), 0);
+    let mut walk = Start { state, palette, picture_a, picture_b, place, room, allowed };
+    while let Stepped::Taken(state, _) = walk.step(film) {
         walk.state = state;
     }
     walk.state.width * walk.state.height

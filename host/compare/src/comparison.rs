@@ -69,6 +69,7 @@ impl<A: Decoder, B: Decoder> Comparison<A, B> {
                 Kind::Packets => self.check(&cases::packet(seed, number)),
                 Kind::Lists => self.draw(&cases::list(seed, number)),
                 Kind::Films => self.walk(&cases::film(seed, number)),
+                Kind::Sounds => self.walk(&cases::sound(seed, number)),
             };
             compared.map_err(|difference| Found {
                 kind,
@@ -90,11 +91,13 @@ pub enum Kind {
     Lists,
     /// Films to step over.
     Films,
+    /// Films with sound to step over.
+    Sounds,
 }
 
 impl Kind {
     /// Every kind.
-    pub const ALL: [Kind; 3] = [Kind::Packets, Kind::Lists, Kind::Films];
+    pub const ALL: [Kind; 4] = [Kind::Packets, Kind::Lists, Kind::Films, Kind::Sounds];
 }
 
 impl fmt::Display for Kind {
@@ -103,6 +106,7 @@ impl fmt::Display for Kind {
             Kind::Packets => "packets",
             Kind::Lists => "lists",
             Kind::Films => "films",
+            Kind::Sounds => "sounds",
         })
     }
 }

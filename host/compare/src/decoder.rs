@@ -3,6 +3,7 @@
 use maker::states::Start;
 use maker::Packet;
 use reference::film::{self, Span, State, Stepped};
+use reference::sound::Sound;
 use reference::{Drawn, Refusal};
 
 /// What a check answers.
@@ -20,8 +21,8 @@ pub type Walked = Result<Step, Refusal>;
 /// The kinds of a step that is not refused.
 #[derive(Clone, Copy, Debug, PartialEq, Eq)]
 pub enum Step {
-    /// A chunk head, or an opcode other than 11, is taken.
-    Taken,
+    /// A chunk head, or an opcode other than 11, is taken. With the bytes written to the room.
+    Taken(usize),
     /// Opcode 11 is taken and its frame drawn, with so many stores.
     Whole(usize),
     /// Opcode 11's frame is not drawn yet. With the stores made.
@@ -49,8 +50,8 @@ pub trait Decoder {
         allowed: usize,
     ) -> Answer;
 
-    /// Opens a film.
-    fn open(&self, film: &[u8]) -> Opened;
+    /// Opens a film for a stream of its sound.
+    fn open(&self, film: &[u8], stream: usize) -> Opened;
 
     /// Takes a step over a film: from the state in `walk`, with what is lent there. The state that
     /// comes back takes its place.
@@ -88,18 +89,18 @@ impl Decoder for Proved {
             .map_err(common_refusal)
     }
 
-    fn open(&self, film: &[u8]) -> Opened {
-        mve::open(film).map(common_state).map_err(common_refusal)
+    fn open(&self, film: &[u8], stream: usize) -> Opened {
+        mve::open(film, stream).map(common_state).map_err(common_refusal)
     }
 
     fn step(&self, film: &[u8], walk: &mut Start) -> Walked {
-        let Start { state, palette, picture_a, picture_b, place, allowed } = walk;
-        let stepped =
-            mve::step(film, own_state(state), palette, picture_a, picture_b, place, *allowed)
-                .map_err(common_refusal)?;
+        let Start { state, palette, picture_a, picture_b, place, room, allowed } = walk;
+        let (found, allowed) = (own_state(state), *allowed);
+        let stepped = mve::step(film, found, palette, picture_a, picture_b, place, room, allowed)
+            .map_err(common_refusal)?;
         *state = common_state(stepped.state());
         Ok(match stepped {
-            mve::Step::Taken(_) => Step::Taken,
+            mve::Step::Taken(_, bytes) => Step::Taken(bytes),
             mve::Step::Whole(_, stores) => Step::Whole(stores),
             mve::Step::Unfinished(_, stores) => Step::Unfinished(stores),
             mve::Step::Ended(_) => Step::Ended,
@@ -120,15 +121,19 @@ fn common_drawn(drawn: mve::Drawn) -> Drawn {
 }
 
 fn common_state(state: mve::State) -> State {
-    let mve::State { position, chunk_end, width, height, front, map, unsent } = state;
+    let mve::State { position, chunk_end, width, height, front, map, unsent, sound } = state;
     let map = map.map(|(start, length)| Span { start, length });
-    State { position, chunk_end, width, height, front, map, unsent }
+    let mve::Sound { stream, has_format, stereo, wide, compressed, begun, left, right } = sound;
+    let sound = Sound { stream, has_format, stereo, wide, compressed, begun, left, right };
+    State { position, chunk_end, width, height, front, map, unsent, sound }
 }
 
 fn own_state(state: &State) -> mve::State {
-    let State { position, chunk_end, width, height, front, map, unsent } = *state;
+    let State { position, chunk_end, width, height, front, map, unsent, sound } = *state;
     let map = map.map(|Span { start, length }| (start, length));
-    mve::State { position, chunk_end, width, height, front, map, unsent }
+    let Sound { stream, has_format, stereo, wide, compressed, begun, left, right } = sound;
+    let sound = mve::Sound { stream, has_format, stereo, wide, compressed, begun, left, right };
+    mve::State { position, chunk_end, width, height, front, map, unsent, sound }
 }
 
 /// The second decoder.
@@ -157,13 +162,13 @@ impl Decoder for Second {
         reference::draw(*width, *height, map, data, front, back, place, allowed)
     }
 
-    fn open(&self, film: &[u8]) -> Opened {
-        film::open(film)
+    fn open(&self, film: &[u8], stream: usize) -> Opened {
+        film::open(film, stream)
     }
 
     fn step(&self, film: &[u8], walk: &mut Start) -> Walked {
         let (step, state) = match walk.step(film) {
-            Stepped::Taken(state) => (Step::Taken, state),
+            Stepped::Taken(state, bytes) => (Step::Taken(bytes), state),
             Stepped::Whole(state, stores) => (Step::Whole(stores), state),
             Stepped::Unfinished(state, stores) => (Step::Unfinished(stores), state),
             Stepped::Ended(state) => (Step::Ended, state),

@@ -24,6 +24,8 @@ pub enum Part {
     PictureA(usize),
     /// A byte of the second lent picture.
     PictureB(usize),
+    /// A byte of the room.
+    Room(usize),
     /// The part of a lent picture that is shown.
     Shown,
 }
@@ -40,6 +42,7 @@ impl fmt::Display for Part {
             Part::Palette(index) => write!(f, "byte {index} of the palette"),
             Part::PictureA(index) => write!(f, "byte {index} of the first picture"),
             Part::PictureB(index) => write!(f, "byte {index} of the second picture"),
+            Part::Room(index) => write!(f, "byte {index} of the room"),
             Part::Shown => write!(f, "shown picture"),
         }
     }

@@ -6,13 +6,16 @@ use crate::decoder::{Decoder, Step, Walked};
 use crate::difference::{first_difference, Difference, Part};
 use maker::states::Start;
 use reference::film::State;
+use reference::refusal::{self, Refusal};
 use std::fmt;
 
 impl<A: Decoder, B: Decoder> Comparison<A, B> {
     /// Compares the opening of a film, and all that can be seen after every step: to its end, to
-    /// the first refusal, or as many as there are allowances. Each decoder has memory of its own.
+    /// the first refusal, or as many as there are allowances. A step whose room is too small (19) is
+    /// taken again with room enough. Each decoder has memory of its own.
     pub fn walk(&mut self, walk: &Walk) -> Result<(), Difference> {
-        let (one, other) = (self.first.open(&walk.film), self.second.open(&walk.film));
+        let (film, stream) = (&walk.film, walk.stream);
+        let (one, other) = (self.first.open(film, stream), self.second.open(film, stream));
         if one != other {
             return differs(0, Part::Answer, (self.first.name(), one), (self.second.name(), other));
         }
@@ -21,15 +24,19 @@ impl<A: Decoder, B: Decoder> Comparison<A, B> {
 
         let mut first = lent(walk, state);
         let mut second = first.clone();
+        let mut again = false;
         for (number, &allowed) in walk.allowances.iter().enumerate() {
             (first.allowed, second.allowed) = (allowed, allowed);
+            first.room = room(walk, number, &first, again);
+            second.room.clone_from(&first.room);
             let found = first.clone();
-            let seen = Seen::step(&self.first, number + 1, &walk.film, &mut first);
+            let seen = Seen::step(&self.first, number + 1, film, &mut first);
             seen.keeps(&found)?;
-            seen.agrees(&Seen::step(&self.second, number + 1, &walk.film, &mut second))?;
+            seen.agrees(&Seen::step(&self.second, number + 1, film, &mut second))?;
             let Seen { answer, left, shown, .. } = seen;
-            self.tally.stepped(&walk.film, &found, left, answer, !shown.is_empty());
-            if matches!(answer, Ok(Step::Ended) | Err(_)) {
+            self.tally.stepped(film, &found, left, answer, !shown.is_empty());
+            again = answer == Err(Refusal::new(refusal::ROOM));
+            if matches!(answer, Ok(Step::Ended) | Err(_)) && !again {
                 break;
             }
         }
@@ -37,11 +44,20 @@ impl<A: Decoder, B: Decoder> Comparison<A, B> {
     }
 }
 
+/// The room that a step is lent: as much longer or shorter than what it writes as the walk says, but
+/// not shorter where the step was refused for it before.
+fn room(walk: &Walk, number: usize, start: &Start, again: bool) -> Vec<u8> {
+    let Some(&spare) = walk.spare.get(number) else { return Vec::new() };
+    let spare = if again { spare.max(0) } else { spare };
+    let length = start.due(&walk.film).saturating_add_signed(spare);
+    vec![number as u8 ^ 0x5A; length]
+}
+
 /// What the first step is given.
 fn lent(walk: &Walk, state: State) -> Start {
     let [picture_a, picture_b] = walk.pictures.clone();
     let (palette, place) = (walk.palette.clone(), walk.place);
-    Start { state, palette, picture_a, picture_b, place, allowed: 0 }
+    Start { state, palette, picture_a, picture_b, place, room: Vec::new(), allowed: 0 }
 }
 
 /// All that can be seen after a step.
@@ -72,11 +88,21 @@ impl<'a> Seen<'a> {
         Ok(())
     }
 
-    /// A step that is refused, or that finds the film at its end, leaves everything as found.
+    /// A step that is refused, or that finds the film at its end, leaves everything as found; any
+    /// other the room behind what it writes.
     fn keeps(&self, found: &Start) -> Result<(), Difference> {
-        match self.answer {
-            Ok(Step::Ended) | Err(_) => self.leaves("as found", found),
-            Ok(_) => Ok(()),
+        let written = match self.answer {
+            Ok(Step::Ended) | Err(_) => return self.leaves("as found", found),
+            Ok(Step::Taken(bytes)) => bytes.min(found.room.len()),
+            Ok(_) => 0,
+        };
+        let (left, kept) = (&self.left.room, &found.room);
+        match first_difference(&left[written..], &kept[written..]) {
+            None => Ok(()),
+            Some(index) => {
+                let at = written + index;
+                self.differs(Part::Room(at), left[at], "as found", kept[at])
+            }
         }
     }
 
@@ -91,7 +117,8 @@ impl<'a> Seen<'a> {
         }
         self.same_bytes(Part::Palette, &left.palette, by, &other.palette)?;
         self.same_bytes(Part::PictureA, &left.picture_a, by, &other.picture_a)?;
-        self.same_bytes(Part::PictureB, &left.picture_b, by, &other.picture_b)
+        self.same_bytes(Part::PictureB, &left.picture_b, by, &other.picture_b)?;
+        self.same_bytes(Part::Room, &left.room, by, &other.room)
     }
 
     fn same_bytes(

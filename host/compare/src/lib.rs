@@ -2,9 +2,9 @@
 //!
 //! Both are [`Decoder`]s. A [`Comparison`] gives them the same seeded cases and compares whatever
 //! can be seen of each call: the answer with its number, block and count, the place, and every byte
-//! of both pictures. Lists of drawing calls are held against the book of demand 3, too. Films are
-//! compared step by step, with their state, palette and shown picture. The first thing that differs
-//! ends it, with the seed and the number of the case; a [`Tally`] counts what the cases reached.
+//! of both pictures. Lists of drawing calls are held against the book of demand 3, too. Films, with
+//! sound or without, are compared step by step, with their state, palette, room and shown picture.
+//! The first thing that differs ends it, with the seed and the number of the case; a [`Tally`] counts what the cases reached.
 //!
 //! In comments "01" is the scope document.
 

@@ -1,5 +1,5 @@
 //! A long comparison of the proved library with the second decoder, run by hand:
-//! `compare SEED COUNT [packets|lists|films]`.
+//! `compare SEED COUNT [packets|lists|films|sounds]`.
 
 use compare::{Comparison, Found, Kind, Proved, Second};
 use std::env;
@@ -12,7 +12,7 @@ const PROGRESS: Duration = Duration::from_secs(10);
 fn main() -> ExitCode {
     let arguments: Vec<String> = env::args().skip(1).collect();
     let Some((seed, count, kinds)) = parsed(&arguments) else {
-        eprintln!("usage: compare SEED COUNT [packets|lists|films]");
+        eprintln!("usage: compare SEED COUNT [packets|lists|films|sounds]");
         return ExitCode::from(2);
     };
     match compare(seed, count, &kinds) {

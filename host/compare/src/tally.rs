@@ -2,9 +2,11 @@
 
 use crate::decoder::{Answer, Checked, Step, Walked};
 use maker::calls::Call;
+use maker::sound::Format;
 use maker::states::Start;
 use maker::{Form, Packet};
 use reference::film::{opcode_head, State};
+use reference::sound::Sound;
 use reference::{Drawn, Refusal};
 use std::collections::BTreeMap;
 use std::fmt;
@@ -53,6 +55,9 @@ pub enum Event {
     Coloured,
     /// A picture is shown after a step.
     Shown,
+    /// A step writes samples of this format: of compressed sound, goes on from the last samples or
+    /// not.
+    Written(Format, bool),
 }
 
 /// How many cases were compared, and what they reached.
@@ -68,6 +73,8 @@ pub struct Tally {
     pub steps: usize,
     /// Stores made by calls and steps.
     pub stores: usize,
+    /// Steps that wrote samples.
+    pub sounds: usize,
     reached: BTreeMap<Event, usize>,
 }
 
@@ -140,9 +147,10 @@ impl Tally {
         self.steps += 1;
         match answer {
             Err(refusal) => self.refused(refusal),
-            Ok(Step::Taken) => {
+            Ok(Step::Taken(bytes)) => {
                 self.note(Event::Taken);
                 self.opcode(film, &found.state);
+                self.heard(&found.state.sound, bytes);
             }
             Ok(Step::Whole(stores)) => {
                 self.stores += stores;
@@ -165,6 +173,15 @@ impl Tally {
         }
         if shown {
             self.note(Event::Shown);
+        }
+    }
+
+    /// The samples that a step wrote.
+    fn heard(&mut self, sound: &Sound, bytes: usize) {
+        let Sound { stereo, wide, compressed, begun, .. } = *sound;
+        if bytes > 0 {
+            self.sounds += 1;
+            self.note(Event::Written(Format { stereo, wide, compressed }, compressed && begun));
         }
     }
 
@@ -236,7 +253,11 @@ impl Tally {
 
 impl fmt::Display for Tally {
     fn fmt(&self, f: &mut fmt::Formatter<'_>) -> fmt::Result {
-        let Tally { packets, calls, films, steps, stores, .. } = self;
-        write!(f, "{packets} packets, {calls} calls, {films} films, {steps} steps, {stores} stores")
+        let Tally { packets, calls, films, steps, stores, sounds, .. } = self;
+        write!(
+            f,
+            "{packets} packets, {calls} calls, {films} films, {steps} steps, {stores} stores"
+        )?;
+        write!(f, ", {sounds} sounds")
     }
 }

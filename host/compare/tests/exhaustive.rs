@@ -1,12 +1,15 @@
 //! What there are few enough of to try all: sizes, motion vectors, data lengths, places; of a film
-//! the opcodes' types, versions and body lengths, and where a run of palette entries starts.
+//! the opcodes' types, versions and body lengths, and where a run of palette entries starts; of its
+//! sound formats, counts, data lengths and the bytes of compressed data.
 
 use compare::{Answer, Checked, Decoder, Proved, Second, Step, Walked};
 use maker::film::{Chunk, Film, Opcode};
 use maker::packet::Draft;
+use maker::sound::Format;
 use maker::states::Start;
 use maker::{Form, Packet, Profile, Seeded, Size};
 use reference::film::{open, Span, State};
+use reference::sound::{Sound, NO_STREAM};
 use reference::Refusal;
 use std::cmp::Ordering;
 use std::collections::BTreeSet;
@@ -147,26 +150,27 @@ fn film_of(kind: u8, version: u8, body: &[u8], last: bool) -> Vec<u8> {
         opcodes.push(Opcode::new(0x01, 0, Vec::new()));
     }
     let chunks = vec![Chunk { opcodes, ..Chunk::default() }];
-    Film { size: Size::new(1, 1), chunks, tail: vec![code] }.bytes()
+    Film { size: Size::new(1, 1), stream: NO_STREAM, chunks, tail: vec![code] }.bytes()
 }
 
 /// A step at that opcode, with memory of any bytes.
-fn lent(rng: &mut Seeded, film: &[u8]) -> Start {
-    let opened = open(film).expect("a header");
+fn lent(rng: &mut Seeded, film: &[u8], stream: usize) -> Start {
+    let opened = open(film, stream).expect("a header");
     Start {
         state: State { position: 30, chunk_end: film.len() - 1, ..opened },
         palette: rng.bytes(768),
         picture_a: rng.bytes(64),
         picture_b: rng.bytes(64),
         place: 3,
+        room: Vec::new(),
         allowed: 312_000,
     }
 }
 
 /// Steps at that opcode: without size and map, with either, and with both, where the stores allowed
 /// are enough for the block or too few.
-fn starts(rng: &mut Seeded, film: &[u8]) -> [Start; 5] {
-    let opened = lent(rng, film);
+fn starts(rng: &mut Seeded, film: &[u8], stream: usize) -> [Start; 5] {
+    let opened = lent(rng, film, stream);
     let with = |state| Start { state, ..opened.clone() };
     let map = Some(Span { start: film.len() - 1, length: 1 });
     let sized = with(State { width: 8, height: 8, ..opened.state });
@@ -200,9 +204,15 @@ fn made_body(rng: &mut Seeded, kind: u8, length: usize) -> Vec<u8> {
     body
 }
 
-/// Which of 3, 4 and 5 an opcode meets by 01. The body of 0C or 0D is one made for its length.
-fn shape_number(kind: u8, version: u8, length: usize, last: bool) -> Option<u8> {
+/// Which of 3, 4 and 5 an opcode meets by 01 and, where a stream of sound is chosen, by 02. The body
+/// of 0C or 0D is one made for its length.
+fn shape_number(chosen: bool, kind: u8, version: u8, length: usize, last: bool) -> Option<u8> {
     let is_length = match (kind, version) {
+        (0x03, 0) if chosen => length == 8,
+        (0x03, 1) if chosen => length == 10,
+        (0x08, 0) if chosen => length >= 6,
+        (0x09, 0) if chosen => length == 6,
+        (0x03 | 0x08 | 0x09, _) if chosen => return Some(4),
         (0x00 | 0x01, _) if !last => return Some(3),
         (0x00 | 0x01, 0) => length == 0,
         (0x05 | 0x07, 0) => length == 4,
@@ -231,13 +241,13 @@ fn step(film: &[u8], start: &Start) -> (Walked, Start) {
 
 /// The answers to steps at an opcode of this type, version and body length, with a body made for it
 /// and one of any bytes.
-fn answers(rng: &mut Seeded, kind: u8, version: u8, length: usize) -> Vec<Walked> {
+fn answers(rng: &mut Seeded, stream: usize, kind: u8, version: u8, length: usize) -> Vec<Walked> {
     let mut answers = Vec::new();
     for (made, last) in [(true, true), (true, false), (false, true), (false, false)] {
         let body = if made { made_body(rng, kind, length) } else { rng.bytes(length) };
         let film = film_of(kind, version, &body, last);
-        let expected = shape_number(kind, version, length, last);
-        for start in starts(rng, &film) {
+        let expected = shape_number(stream < NO_STREAM, kind, version, length, last);
+        for start in starts(rng, &film, stream) {
             let (answer, _) = step(&film, &start);
             answers.push(answer);
             let number = answer.err().map(|refusal| refusal.number);
@@ -250,25 +260,128 @@ fn answers(rng: &mut Seeded, kind: u8, version: u8, length: usize) -> Vec<Walked
     answers
 }
 
-/// Each type, in each version that one is taken in and in others, with each body length that the
-/// types ask for and others.
-#[test]
-fn every_opcode() {
+/// Each of these types, in each version that one is taken in and in others, with each body length
+/// that the types ask for and others: the numbers met, and with which lengths a frame was drawn.
+fn opcodes(stream: usize, kinds: impl IntoIterator<Item = u8>) -> (BTreeSet<u8>, BTreeSet<usize>) {
     let rng = &mut Seeded::new(1);
     let (mut numbers, mut whole) = (BTreeSet::new(), BTreeSet::new());
-    for kind in 0..=255 {
+    for kind in kinds {
         for version in [0, 1, 2, 3, 4, 255] {
             for length in (0..=40).chain([50, 56, 78, 772, 800]) {
-                for answer in answers(rng, kind, version, length) {
+                for answer in answers(rng, stream, kind, version, length) {
                     whole.extend((answer == Ok(Step::Whole(65))).then_some(length));
                     numbers.extend(answer.err().map(|refusal| refusal.number));
                 }
             }
         }
     }
+    (numbers, whole)
+}
+
+#[test]
+fn every_opcode() {
+    let (numbers, whole) = opcodes(NO_STREAM, 0..=255);
     assert_eq!(numbers, BTreeSet::from([3, 4, 5, 6, 7, 9, 13, 15]));
     // Behind 14 bytes as many as codes 0, E, F, D, C and B have.
     assert_eq!(whole, BTreeSet::from([14, 15, 16, 18, 30, 78]));
+}
+
+/// The opcodes of sound, where a stream is chosen. No step knows a format, so 17 is met, and not 18.
+#[test]
+fn every_opcode_of_sound() {
+    let (numbers, whole) = opcodes(0, [0x03, 0x08, 0x09]);
+    assert_eq!(numbers, BTreeSet::from([4, 5, 17]));
+    assert_eq!(whole, BTreeSet::new());
+}
+
+/// Opcode 03 with every word of flags, in both versions.
+#[test]
+fn every_format() {
+    let rng = &mut Seeded::new(1);
+    let mut refused = 0;
+    for version in [0, 1] {
+        for flags in 0..=u16::MAX {
+            let mut body = rng.bytes(8 + 2 * usize::from(version));
+            body[2..4].copy_from_slice(&flags.to_le_bytes());
+            let film = film_of(0x03, version, &body, true);
+            let (answer, left) = step(&film, &lent(rng, &film, 0));
+            let (stereo, wide, compressed) =
+                (flags & 1 != 0, flags & 2 != 0, version == 1 && flags & 4 != 0);
+            if compressed && !wide {
+                assert_eq!(answer, Err(Refusal::new(17)));
+                refused += 1;
+            } else {
+                let format = Sound { has_format: true, stereo, wide, compressed, ..Sound::new(0) };
+                assert_eq!((answer, left.state.sound), (Ok(Step::Taken(0)), format));
+            }
+        }
+    }
+    // Bit 2 without bit 1.
+    assert_eq!(refused, 1 << 14);
+}
+
+/// The sound before any 03, and of each format: where it is compressed, at its first packet and
+/// later, with any last samples.
+fn sounds(rng: &mut Seeded) -> Vec<Sound> {
+    let mut sounds = vec![Sound::new(0)];
+    for Format { stereo, wide, compressed } in Format::ALL {
+        for begun in [false, true] {
+            let (left, right) = (rng.number() as u16, rng.number() as u16);
+            let format = Sound { stereo, wide, compressed, begun, left, right, ..Sound::new(0) };
+            sounds.push(Sound { has_format: true, ..format });
+        }
+    }
+    sounds
+}
+
+/// Opcodes 08 and 09 that count few samples, with every length of data up to some bytes too many, in
+/// each format and before any, in rooms that are enough or a byte short or longer; also with masks
+/// that lack the stream's bit.
+#[test]
+fn every_count() {
+    let rng = &mut Seeded::new(1);
+    let (mut numbers, mut written) = (BTreeSet::new(), BTreeSet::new());
+    for sound in sounds(rng) {
+        for (kind, mask) in [(0x08, 0xFFFF), (0x08, 0xFFFE), (0x09, 0x0001), (0x09, 0x0000)] {
+            for (count, length) in (0..=9_u16).flat_map(|count| (0..=22).map(move |l| (count, l))) {
+                let length = if kind == 0x09 { 0 } else { length };
+                let words = [rng.number() as u16, mask, count].map(u16::to_le_bytes).concat();
+                let film = film_of(kind, 0, &[words, rng.bytes(length)].concat(), true);
+                let opened = lent(rng, &film, 0);
+                let state = State { sound, ..opened.state };
+                let bytes = usize::from(count) * (1 + usize::from(sound.wide));
+                for room in [bytes.saturating_sub(1), bytes, bytes + 3] {
+                    let room = rng.bytes(room);
+                    let (answer, _) = step(&film, &Start { state, room, ..opened.clone() });
+                    match answer {
+                        Ok(Step::Taken(bytes)) => _ = written.insert((kind, bytes)),
+                        other => numbers.extend(other.err().map(|refusal| refusal.number)),
+                    }
+                    assert!(mask & 1 == 1 || answer == Ok(Step::Taken(0)), "{answer:?}");
+                }
+            }
+        }
+    }
+    assert_eq!(numbers, BTreeSet::from([17, 18, 19]));
+    let bytes = |of| written.iter().filter(|&&(kind, _)| kind == of).count();
+    assert_eq!((bytes(0x08), bytes(0x09)), (15, 15), "{written:?}");
+}
+
+/// Each byte of compressed data from each of many last samples, on either channel.
+#[test]
+fn every_step() {
+    let rng = &mut Seeded::new(1);
+    let samples = (0..=u16::MAX).step_by(251).chain([0x7FFF, 0x8000, u16::MAX]);
+    for (left, byte) in samples.flat_map(|sample| (0..=255).map(move |byte| (sample, byte))) {
+        let right = rng.number() as u16;
+        let words = [0, 1, 4].map(u16::to_le_bytes).concat();
+        let film = film_of(0x08, 0, &[words, vec![byte, byte, byte, !byte]].concat(), true);
+        let opened = lent(rng, &film, 0);
+        let format = Sound { has_format: true, wide: true, compressed: true, ..Sound::new(0) };
+        let sound = Sound { stereo: true, begun: true, left, right, ..format };
+        let start = Start { state: State { sound, ..opened.state }, room: rng.bytes(8), ..opened };
+        assert_eq!(step(&film, &start).0, Ok(Step::Taken(8)));
+    }
 }
 
 /// 0C from each start, with no entry, one and all. Start plus count is at most 256 also where there
@@ -281,14 +394,14 @@ fn every_start() {
             let words = [start, count].map(u16::to_le_bytes).concat();
             let (start, count) = (usize::from(start), usize::from(count));
             let film = film_of(0x0C, 0, &[words, vec![7; 3 * count]].concat(), true);
-            let found = lent(rng, &film);
+            let found = lent(rng, &film, NO_STREAM);
             let mut expected = found.clone();
             let taken = start + count <= 256;
             if taken {
                 expected.state.position = expected.state.chunk_end;
                 expected.palette[3 * start..][..3 * count].fill(7);
             }
-            let answer = if taken { Ok(Step::Taken) } else { Err(Refusal::new(7)) };
+            let answer = if taken { Ok(Step::Taken(0)) } else { Err(Refusal::new(7)) };
             assert!(step(&film, &found) == (answer, expected), "{count} from {start}");
         }
     }

@@ -54,8 +54,8 @@ impl<C: Fn(Checked) -> Checked, D: Fn(&mut Made<'_>)> Decoder for Faulty<C, D> {
         made.answer
     }
 
-    fn open(&self, film: &[u8]) -> Opened {
-        Second.open(film)
+    fn open(&self, film: &[u8], stream: usize) -> Opened {
+        Second.open(film, stream)
     }
 
     fn step(&self, film: &[u8], walk: &mut Start) -> Walked {

@@ -10,11 +10,12 @@ use std::process::{Command, Stdio};
 
 use maker::film::{self, Opcode};
 use maker::film_damage::{self, Damage};
-use maker::Seeded;
+use maker::{sound, sound_damage, Seeded};
 use reference::listing;
 
 const SEED: u64 = 1;
-/// Films of each kind: valid, scratched, hostile, and each damage.
+/// Films of each kind: valid, scratched, hostile, and each damage; and with sound, which is listed and
+/// passed over.
 const ROUNDS: usize = 30;
 /// The refusals that a film alone can meet: it lends nothing and starts at place 0.
 const NUMBERS: [usize; 13] = [1, 2, 3, 4, 5, 6, 7, 9, 10, 12, 13, 14, 15];
@@ -70,6 +71,10 @@ fn films() -> Vec<Vec<u8>> {
         films.push(film_damage::scratched(rng));
         films.push(film::hostile(rng));
         films.extend(Damage::ALL.map(|damage| film_damage::damaged(rng, damage)));
+        let stream = rng.below(16);
+        films.push(sound::valid(rng, stream).bytes());
+        let damage = rng.pick(&sound_damage::Damage::ALL);
+        films.push(sound_damage::damaged(rng, stream, damage).bytes());
     }
     films.extend([(128, 128), (136, 128), (640, 480)].map(|(width, height)| sized(width, height)));
     let lengths = [listing::MAX_FILM, listing::MAX_FILM + 1, 100_000];

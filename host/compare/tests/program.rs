@@ -14,14 +14,17 @@ fn ends_with_the_counts() {
     let last = text.lines().last().expect("a line");
     assert!(output.status.success(), "{text}");
     assert!(last.starts_with("seed 7: 120 packets, "), "{text}");
-    assert!(last.ends_with(" stores: no difference"), "{text}");
+    assert!(last.ends_with(" sounds: no difference") && !last.contains(" 0 sounds"), "{text}");
 }
 
 #[test]
 fn runs_one_kind() {
     let output = run(&["7", "60", "packets"]);
     let text = String::from_utf8(output.stdout).expect("text");
-    assert_eq!(text, "seed 7: 60 packets, 0 calls, 0 films, 0 steps, 0 stores: no difference\n");
+    assert_eq!(
+        text,
+        "seed 7: 60 packets, 0 calls, 0 films, 0 steps, 0 stores, 0 sounds: no difference\n"
+    );
     let output = run(&["7", "60", "lists"]);
     let text = String::from_utf8(output.stdout).expect("text");
     assert!(text.starts_with("seed 7: 60 packets, ") && !text.contains(" 0 calls"), "{text}");
@@ -29,6 +32,10 @@ fn runs_one_kind() {
     let text = String::from_utf8(output.stdout).expect("text");
     assert!(text.starts_with("seed 7: 0 packets, 0 calls, 60 films, "), "{text}");
     assert!(!text.contains(" 0 steps"), "{text}");
+    let output = run(&["7", "60", "sounds"]);
+    let text = String::from_utf8(output.stdout).expect("text");
+    assert!(text.starts_with("seed 7: 0 packets, 0 calls, 60 films, "), "{text}");
+    assert!(!text.contains(" 0 sounds"), "{text}");
 }
 
 #[test]

@@ -1,6 +1,7 @@
 //! The film of the demonstration: a ball bounces through a sunset, for four seconds at ten pictures
-//! a second. It has every opcode that is acted on and blocks of many codes, and is small enough for
-//! the listing program.
+//! a second, with a tone at each bounce. It has every opcode that is acted on and blocks of many
+//! codes. Its sound is uncompressed, which other players decode as this one does; its beginning is
+//! small enough for the listing program.
 
 use crate::encode;
 use crate::film::{packet_opcodes, Chunk, Film, Opcode};
@@ -11,6 +12,14 @@ use crate::size::Size;
 pub const SIZE: Size = Size { columns: 16, rows: 12 };
 /// The pictures that the film sends.
 pub const FRAMES: usize = 40;
+/// The pictures of the beginning that the listing program takes.
+pub const LISTED: usize = 4;
+/// The stream of its sound.
+pub const STREAM: usize = 0;
+/// Samples a second.
+pub const RATE: usize = 22_050;
+/// Samples that go with a picture: a tenth of a second.
+pub const SAMPLES: usize = RATE / 10;
 
 /// Palette entries: a colour for each block of the sky and of the ground, then single ones.
 const SKY: usize = 0;
@@ -35,11 +44,21 @@ const BALL_COLOURS: [[[u8; 3]; 4]; 4] = [
 /// Pictures between two bounces.
 const BOUNCE: usize = FRAMES / BALL_COLOURS.len();
 
+/// The tone of each bounce, in cycles a second.
+const TONES: [usize; 4] = [262, 330, 392, 523];
+/// How loud a tone begins; it fades until the next one.
+const LOUD: isize = 9000;
+
 /// The film.
 pub fn film() -> Film {
-    let mut chunks = vec![first_chunk()];
+    beginning(FRAMES)
+}
+
+/// A film of its first pictures, so many.
+pub fn beginning(frames: usize) -> Film {
+    let mut chunks = vec![first_chunk(), sound_chunk()];
     let (mut front, mut back) = (vec![0; SIZE.pixels()], vec![0; SIZE.pixels()]);
-    for frame in 0..FRAMES {
+    for frame in 0..frames.min(FRAMES) {
         let wanted = picture(frame);
         chunks.push(frame_chunk(frame, &wanted, &front, &back));
         (back, front) = (front, wanted);
@@ -49,7 +68,7 @@ pub fn film() -> Film {
         opcodes: vec![Opcode::new(0x00, 0, Vec::new())],
         ..Chunk::default()
     });
-    Film { size: SIZE, chunks, tail: Vec::new() }
+    Film { size: SIZE, stream: STREAM, chunks, tail: Vec::new() }
 }
 
 /// The picture of a frame: a palette entry for each pixel.
@@ -57,6 +76,35 @@ pub fn picture(frame: usize) -> Vec<u8> {
     let ball = Ball::at(frame);
     let pixel = |i| pixel(&ball, (i % SIZE.width()) as isize, (i / SIZE.width()) as isize);
     (0..SIZE.pixels()).map(|i| pixel(i) as u8).collect()
+}
+
+/// The samples that go with a frame, as bytes: a triangle wave.
+pub fn samples(frame: usize) -> Vec<u8> {
+    let tone = TONES[frame / BOUNCE];
+    let sample = |n: usize| {
+        // From -RATE to RATE and back, four times RATE a cycle.
+        let (phase, rate) = ((4 * tone * n % (4 * RATE)) as isize, RATE as isize);
+        let wave = ((phase + rate) % (4 * rate) - 2 * rate).abs() - rate;
+        let left = (BOUNCE * SAMPLES - n) as isize;
+        (wave * LOUD / rate * left / (BOUNCE * SAMPLES) as isize) as i16
+    };
+    let first = frame % BOUNCE * SAMPLES;
+    (first..first + SAMPLES).flat_map(|n| sample(n).to_le_bytes()).collect()
+}
+
+/// Opcode 03, in a chunk of its own, where other players look for it: mono, 16-bit.
+fn sound_chunk() -> Chunk {
+    let buffer = 2 * RATE;
+    let words = [0, 0b10, RATE as u16, buffer as u16].map(u16::to_le_bytes).concat();
+    Chunk { kind: 0, opcodes: vec![Opcode::new(0x03, 0, words)], ..Chunk::default() }
+}
+
+/// Opcode 08 for the stream, and 09 for all others: "these audio chunks appear to always come in
+/// pairs" (003).
+fn sound_opcodes(frame: usize) -> [Opcode; 2] {
+    let words = |mask: u16| [frame as u16, mask, SAMPLES as u16].map(u16::to_le_bytes).concat();
+    let data = [words(1 << STREAM), samples(frame)].concat();
+    [Opcode::new(0x08, 0, data), Opcode::new(0x09, 0, words(!(1 << STREAM)))]
 }
 
 /// Timer, size, mode, gradients and single colours. Timer and mode are passed over.
@@ -84,7 +132,11 @@ fn frame_chunk(frame: usize, wanted: &[u8], front: &[u8], back: &[u8]) -> Chunk 
         opcodes.push(Opcode::new(0x0D, 0, ball_colours(BALL_COLOURS[frame / BOUNCE])));
     }
     let packet = encode::packet(SIZE, wanted, front, back).packet();
-    opcodes.extend(packet_opcodes(&mut Seeded::new(0), packet));
+    let [map, video] = packet_opcodes(&mut Seeded::new(0), packet);
+    opcodes.push(map);
+    opcodes.extend(sound_opcodes(frame));
+    opcodes.push(video);
+    opcodes.push(Opcode::new(0x04, 0, Vec::new())); // old players start the sound here
     opcodes.push(Opcode::new(0x07, 0, vec![0; 4]));
     opcodes.push(Opcode::new(0x01, 0, Vec::new()));
     Chunk { kind: 3, opcodes, ..Chunk::default() }

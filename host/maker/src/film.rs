@@ -3,11 +3,15 @@
 use crate::packet::{Draft, Packet, Profile};
 use crate::seeded::Seeded;
 use crate::size::Size;
+use reference::sound::NO_STREAM;
 
-/// The types that are passed over unread, in any version and length.
+/// The types that are passed over unread, in any version and length, where no stream of sound is
+/// chosen.
 pub const PASSED_OVER: [u8; 10] = [0x02, 0x03, 0x04, 0x08, 0x09, 0x0A, 0x12, 0x13, 0x14, 0x15];
-/// The types that are acted on.
+/// The types that are acted on whatever the stream.
 pub const ACTED_ON: [u8; 9] = [0x00, 0x01, 0x05, 0x07, 0x0B, 0x0C, 0x0D, 0x0F, 0x11];
+/// The types that are acted on where a stream is chosen, else passed over.
+pub const SOUND: [u8; 3] = [0x03, 0x08, 0x09];
 
 /// A chunk longer than this is closed. No made opcode has 32,000 bytes, so none passes a word.
 const FULL_CHUNK: usize = 32_000;
@@ -46,6 +50,9 @@ pub struct Chunk {
 pub struct Film {
     /// The frame size that its opcode 05 gives.
     pub size: Size,
+    /// The stream of sound that it is made for. Where that is none, opcodes 03, 08 and 09 are any
+    /// bytes.
+    pub stream: usize,
     /// The chunks.
     pub chunks: Vec<Chunk>,
     /// Bytes behind the last chunk. Valid only where that chunk ends the film by opcode 00.
@@ -98,9 +105,15 @@ pub fn valid(rng: &mut Seeded) -> Film {
     with_frames(rng, frames)
 }
 
-/// A valid film with so many frames, usually small ones. It may do without opcode 05 only where
-/// it has none.
+/// A valid film with so many frames, usually small ones, for no stream of sound.
 pub fn with_frames(rng: &mut Seeded, frames: usize) -> Film {
+    let (size, opcodes) = pictures(rng, frames);
+    of_opcodes(rng, size, NO_STREAM, opcodes)
+}
+
+/// The opcodes of so many frames, and their size. There may be no opcode 05 only where there is no
+/// frame.
+pub(crate) fn pictures(rng: &mut Seeded, frames: usize) -> (Size, Vec<Opcode>) {
     let large = rng.one_in(64);
     let size = if large { Size::any(rng) } else { Size::small(rng) };
     let mut opcodes = Vec::new();
@@ -112,9 +125,19 @@ pub fn with_frames(rng: &mut Seeded, frames: usize) -> Film {
         let profile = if large { Profile::Light } else { rng.pick(&Profile::MANY) };
         frame(rng, &mut opcodes, size, profile);
     }
+    (size, opcodes)
+}
+
+/// A film of these opcodes, spread over chunks, with an end.
+pub(crate) fn of_opcodes(
+    rng: &mut Seeded,
+    size: Size,
+    stream: usize,
+    opcodes: Vec<Opcode>,
+) -> Film {
     let mut chunks = in_chunks(rng, opcodes);
     let tail = end(rng, &mut chunks);
-    Film { size, chunks, tail }
+    Film { size, stream, chunks, tail }
 }
 
 /// The opcodes 0F and 11 of a packet.
@@ -268,13 +291,21 @@ fn end(rng: &mut Seeded, chunks: &mut Vec<Chunk>) -> Vec<u8> {
 
 /// Films of random chunks and opcodes: sound heads, bodies without meaning.
 pub fn hostile(rng: &mut Seeded) -> Vec<u8> {
-    let mut film = Film { size: Size::small(rng), chunks: Vec::new(), tail: Vec::new() };
+    hostile_of(rng, |rng| {
+        let (kind, version) = (rng.byte() % 0x18, rng.byte() % 3);
+        let length = rng.pick(&[0, 4, 6, 8, 14, 15, 32, 40]);
+        Opcode::new(kind, version, rng.bytes(length))
+    })
+}
+
+/// Films of a few chunks of such opcodes, with bytes behind them now and then.
+pub(crate) fn hostile_of(rng: &mut Seeded, opcode: impl Fn(&mut Seeded) -> Opcode) -> Vec<u8> {
+    let (size, stream) = (Size::small(rng), NO_STREAM);
+    let mut film = Film { size, stream, chunks: Vec::new(), tail: Vec::new() };
     for _ in 0..rng.below(4) {
         let mut chunk = new_chunk(rng);
         for _ in 0..rng.below(5) {
-            let (kind, version) = (rng.byte() % 0x18, rng.byte() % 3);
-            let length = rng.pick(&[0, 4, 6, 8, 14, 15, 32, 40]);
-            chunk.opcodes.push(Opcode::new(kind, version, rng.bytes(length)));
+            chunk.opcodes.push(opcode(rng));
         }
         film.chunks.push(chunk);
     }

@@ -1,11 +1,13 @@
-//! Seeded makers of test inputs: packets, films, film states and lists of drawing calls; valid,
-//! damaged and hostile. The same seed gives the same bytes for ever, on every machine.
+//! Seeded makers of test inputs: packets, films with and without sound, film states and lists of
+//! drawing calls; valid, damaged and hostile. The same seed gives the same bytes for ever, on every
+//! machine.
 //!
 //! [`demo`] is the one film that is made for viewing.
 //!
 //! Packets, films and calls are written from the documents, encoder's side up: what a maker calls
 //! valid is so by construction, not because a decoder took it. Only [`states`] uses the second
-//! decoder, to walk into the middle of a film. In comments "01" is the scope document.
+//! decoder, to walk into the middle of a film, and [`sound`] its table of steps. In comments "01" is
+//! the scope document, "02" that of the requests.
 
 pub mod calls;
 pub mod demo;
@@ -17,6 +19,8 @@ pub mod packet;
 pub mod packet_damage;
 pub mod seeded;
 pub mod size;
+pub mod sound;
+pub mod sound_damage;
 pub mod states;
 
 pub use form::Form;

@@ -4,7 +4,11 @@ use crate::calls;
 use crate::film::Film;
 use crate::seeded::Seeded;
 use crate::size::Size;
-use reference::film::{self, Span, State, Stepped};
+use reference::film::{self, Lent, Span, State, Stepped};
+use reference::sound::{Sound, STREAMS};
+
+/// Bytes of the longest packet's samples: a word counts them, and each has two bytes at most.
+pub const ENOUGH_ROOM: usize = 131_070;
 
 /// Everything that one step is given beside the film.
 #[derive(Clone, Debug, PartialEq, Eq)]
@@ -19,26 +23,30 @@ pub struct Start {
     pub picture_b: Vec<u8>,
     /// The lent place.
     pub place: usize,
+    /// The lent room.
+    pub room: Vec<u8>,
     /// Stores allowed.
     pub allowed: usize,
 }
 
-/// The start of a film: the opening state, random pictures, sometimes longer than the frame, and
-/// a random palette.
+/// The start of a film: the opening state, random pictures, sometimes longer than the frame, a
+/// random palette, and for a film with sound room enough.
 pub fn opening(rng: &mut Seeded, film: &Film) -> Start {
     let spare = rng.pick(&[0, 0, 1, 77]);
+    let room = if film.stream < STREAMS { ENOUGH_ROOM } else { 0 };
     Start {
-        state: film::open(&film.bytes()).expect("a valid film opens"),
+        state: film::open(&film.bytes(), film.stream).expect("a valid film opens"),
         palette: rng.bytes(768),
         picture_a: rng.bytes(film.size.pixels() + spare),
         picture_b: rng.bytes(film.size.pixels() + spare),
         place: 0,
+        room: vec![0; room],
         allowed: 312_000,
     }
 }
 
 /// A valid film's state after a random number of steps, with what is lent as those steps left it.
-/// Drawing is stopped now and then in the middle of a frame.
+/// Drawing is stopped now and then in the middle of a frame. The room is one for the next step.
 pub fn middle(rng: &mut Seeded, film: &Film) -> Start {
     let bytes = film.bytes();
     let mut start = opening(rng, film);
@@ -46,14 +54,33 @@ pub fn middle(rng: &mut Seeded, film: &Film) -> Start {
     for _ in 0..rng.below(heads + 4) {
         start.allowed = calls::allowance(rng, film.size.blocks());
         match start.step(&bytes) {
-            Stepped::Taken(state) | Stepped::Whole(state, _) | Stepped::Unfinished(state, _) => {
-                start.state = state;
+            Stepped::Taken(state, _) | Stepped::Whole(state, _) | Stepped::Unfinished(state, _) => {
+                start.state = state
             }
             Stepped::Ended(_) | Stepped::Refused(_) => break,
         }
     }
     start.allowed = calls::allowance(rng, film.size.blocks());
+    lend_room(rng, film, &mut start);
     start
+}
+
+/// Gives the next step over a film with sound another room.
+fn lend_room(rng: &mut Seeded, film: &Film, start: &mut Start) {
+    if film.stream < STREAMS {
+        start.room = room(rng, start.due(&film.bytes()));
+    }
+}
+
+/// A room for a step that writes so many bytes: just as long, a byte short, longer, or of any length.
+pub fn room(rng: &mut Seeded, due: usize) -> Vec<u8> {
+    let length = match rng.below(8) {
+        0..=2 => due,
+        3 | 4 => due.saturating_sub(1),
+        5 | 6 => due + rng.between(1, 9),
+        _ => rng.below(due + 40),
+    };
+    rng.bytes(length)
 }
 
 /// A state in the middle of a film with one or two of its numbers, or of what is lent, changed.
@@ -62,6 +89,10 @@ pub fn hostile(rng: &mut Seeded, film: &Film) -> Start {
     let mut start = middle(rng, film);
     for _ in 0..rng.between(1, 2) {
         let state = &mut start.state;
+        if film.stream < STREAMS && rng.one_in(2) {
+            hostile_sound(rng, &mut state.sound);
+            continue;
+        }
         match rng.below(10) {
             0 => state.position = hostile_number(rng, state.position, length),
             1 => state.chunk_end = hostile_number(rng, state.chunk_end, length),
@@ -78,6 +109,7 @@ pub fn hostile(rng: &mut Seeded, film: &Film) -> Start {
             _ => hostile_lengths(rng, &mut start, film.size.pixels()),
         }
     }
+    lend_room(rng, film, &mut start);
     start
 }
 
@@ -101,15 +133,23 @@ pub fn scratched_ahead(rng: &mut Seeded, film: &Film, start: &Start) -> Vec<u8> 
 impl Start {
     /// Takes the step by the second decoder; what is lent changes.
     pub fn step(&mut self, film: &[u8]) -> Stepped {
-        film::step(
-            film,
-            self.state,
-            &mut self.palette,
-            &mut self.picture_a,
-            &mut self.picture_b,
-            &mut self.place,
-            self.allowed,
-        )
+        let lent = Lent {
+            palette: &mut self.palette,
+            picture_a: &mut self.picture_a,
+            picture_b: &mut self.picture_b,
+            place: &mut self.place,
+            room: &mut self.room,
+        };
+        film::step(film, self.state, lent, self.allowed)
+    }
+
+    /// Bytes that the step writes where there is room for them, by the second decoder.
+    pub fn due(&self, film: &[u8]) -> usize {
+        let mut tried = Start { room: vec![0; ENOUGH_ROOM], ..self.clone() };
+        match tried.step(film) {
+            Stepped::Taken(_, bytes) => bytes,
+            _ => 0,
+        }
     }
 }
 
@@ -123,6 +163,28 @@ fn hostile_number(rng: &mut Seeded, old: usize, limit: usize) -> usize {
         4 => usize::MAX - rng.below(5),
         5 => 0,
         _ => rng.below(limit + 1),
+    }
+}
+
+/// One thing about the sound changed: the stream, a flag, a last sample; a format both 8-bit and
+/// compressed; or fields that nothing reads.
+fn hostile_sound(rng: &mut Seeded, sound: &mut Sound) {
+    match rng.below(10) {
+        0 => sound.stream = rng.pick(&[0, 1, 14, 15, 16, 17, 32, 64, 256, usize::MAX]),
+        1 => sound.has_format ^= true,
+        2 => sound.stereo ^= true,
+        3 => sound.wide ^= true,
+        4 => sound.compressed ^= true,
+        5 => sound.begun ^= true,
+        6 => sound.left = rng.number() as u16,
+        7 => sound.right = rng.number() as u16,
+        8 => (sound.has_format, sound.wide, sound.compressed) = (true, false, true),
+        _ => {
+            let [stereo, wide, compressed, begun] = [(); 4].map(|()| rng.one_in(2));
+            let (left, right) = (rng.number() as u16, rng.number() as u16);
+            let (stream, has_format) = (sound.stream, false);
+            *sound = Sound { stream, has_format, stereo, wide, compressed, begun, left, right };
+        }
     }
 }
 

@@ -1,45 +1,81 @@
 //! The film of the demonstration, and the encoder that makes it.
 
-use maker::film::ACTED_ON;
+use maker::film::{ACTED_ON, SOUND};
 use maker::packet::Draft;
 use maker::{demo, encode, Form, Packet, Profile, Seeded, Size};
-use reference::film::{opcode_head, open, shown, step, Stepped};
+use reference::film::{opcode_head, open, shown, step, Lent, Stepped};
 use reference::{draw, listing};
 use std::collections::BTreeSet;
 
-/// The film sends the pictures that it is made from, in order, and ends.
+/// The film sends the pictures that it is made from, in order, each with its samples behind those of
+/// the one before, and ends.
 #[test]
-fn pictures() {
+fn pictures_and_samples() {
     let film = demo::film().bytes();
-    let mut state = open(&film).expect("a header");
+    let mut state = open(&film, demo::STREAM).expect("a header");
     let (mut palette, mut place) = ([0; 768], 0);
     let (mut a, mut b) = (vec![0; demo::SIZE.pixels()], vec![0; demo::SIZE.pixels()]);
-    let (mut sent, mut kinds) = (0, BTreeSet::new());
+    let mut room = vec![0; 2 * demo::SAMPLES];
+    let (mut sent, mut kinds, mut heard) = (0, BTreeSet::new(), Vec::<u8>::new());
     loop {
         kinds.extend(opcode_head(&film, state.position, state.chunk_end).map(|head| head.kind));
-        match step(&film, state, &mut palette, &mut a, &mut b, &mut place, 312_000) {
-            Stepped::Taken(next) | Stepped::Whole(next, _) => {
+        let lent = Lent {
+            palette: &mut palette,
+            picture_a: &mut a,
+            picture_b: &mut b,
+            place: &mut place,
+            room: &mut room,
+        };
+        match step(&film, state, lent, 312_000) {
+            Stepped::Taken(next, bytes) => {
+                heard.extend(&room[..bytes]);
                 if next.front != state.front {
                     assert!(shown(&next, &a, &b) == demo::picture(sent), "picture {sent}");
+                    assert!(heard == demo::samples(sent), "samples of picture {sent}");
+                    heard.clear();
                     sent += 1;
                 }
                 state = next;
             }
+            Stepped::Whole(next, _) => state = next,
             Stepped::Ended(_) => break,
             other => panic!("{other:?}"),
         }
     }
     assert_eq!(sent, demo::FRAMES);
     assert_eq!((state.position, place), (film.len(), demo::SIZE.blocks()));
-    assert!(ACTED_ON.iter().all(|kind| kinds.contains(kind)), "{kinds:?}");
+    assert!(ACTED_ON.iter().chain(&SOUND).all(|kind| kinds.contains(kind)), "{kinds:?}");
 }
 
-/// The listing program takes the film to its end.
+/// The sound lasts as long as the pictures, is loud where the ball bounces, and no two samples are so
+/// far apart that it would click.
 #[test]
-fn listed_in_full() {
+fn tone() {
     let film = demo::film().bytes();
-    assert!(film.len() <= listing::MAX_FILM && demo::SIZE.pixels() <= listing::MAX_PIXELS);
-    assert!(listing::list(&film).ends_with(&format!("\nended {}\n", film.len())));
+    let played = reference::pictures::play(&film, demo::STREAM);
+    let [recording] = &played.recordings[..] else { panic!("one recording") };
+    assert_eq!((recording.stereo, recording.wide, recording.rate), (false, true, 22_050));
+    // Timer: 100,000 microseconds a picture.
+    assert_eq!(recording.samples.len(), 2 * 22_050 * demo::FRAMES / 10);
+    let sample = |pair: &[u8]| i32::from(i16::from_le_bytes([pair[0], pair[1]]));
+    let samples: Vec<i32> = recording.samples.chunks_exact(2).map(sample).collect();
+    for bounce in samples.chunks(22_050) {
+        let loudest = |samples: &[i32]| samples.iter().map(|sample| sample.abs()).max();
+        assert!((8000..=9000).contains(&loudest(&bounce[..500]).expect("samples")));
+        assert!(loudest(&bounce[21_000..]).expect("samples") < 500);
+    }
+    assert!(samples.windows(2).all(|pair| (pair[1] - pair[0]).abs() < 1000));
+}
+
+/// The listing program takes the film's beginning to its end, and it begins as the film does.
+#[test]
+fn beginning_listed_in_full() {
+    let (film, beginning) = (demo::film(), demo::beginning(demo::LISTED));
+    let bytes = beginning.bytes();
+    assert!(bytes.len() <= listing::MAX_FILM && demo::SIZE.pixels() <= listing::MAX_PIXELS);
+    assert!(listing::list(&bytes).ends_with(&format!("\nended {}\n", bytes.len())));
+    assert!(film.bytes().starts_with(&bytes[..bytes.len() - 8]), "all but the chunk with 00");
+    assert_eq!(reference::pictures::play(&bytes, demo::STREAM).pictures.len(), demo::LISTED);
 }
 
 /// Copies from either picture, patterns, raw and dithered blocks are in it.

@@ -6,6 +6,7 @@ use maker::film_damage::{self, Damage};
 use maker::states::{self, Start};
 use maker::{Seeded, Size};
 use reference::film::{opcode_head, open, shown, State, Stepped};
+use reference::sound::NO_STREAM;
 use reference::{listing, Refusal};
 use std::collections::BTreeMap;
 
@@ -32,7 +33,7 @@ impl Counts {
 
 fn answer_of(stepped: &Stepped) -> String {
     match stepped {
-        Stepped::Taken(_) => "taken".to_string(),
+        Stepped::Taken(..) => "taken".to_string(),
         Stepped::Whole(..) => "whole".to_string(),
         Stepped::Unfinished(..) => "unfinished".to_string(),
         Stepped::Ended(_) => "ended".to_string(),
@@ -48,19 +49,20 @@ fn lend(pixels: usize, state: State) -> Start {
         picture_a: vec![0; pixels],
         picture_b: vec![0; pixels],
         place: 0,
+        room: Vec::new(),
         allowed: 312_000,
     }
 }
 
 /// Steps a film from its opening on to its end or its refusal.
 fn run(film: &[u8], mut each: impl FnMut(&State, &Stepped)) -> Result<State, Refusal> {
-    let mut start = lend(640 * 480, open(film)?);
+    let mut start = lend(640 * 480, open(film, NO_STREAM)?);
     loop {
         let before = start.state;
         let stepped = start.step(film);
         each(&before, &stepped);
         match stepped {
-            Stepped::Taken(state) | Stepped::Whole(state, _) => start.state = state,
+            Stepped::Taken(state, _) | Stepped::Whole(state, _) => start.state = state,
             Stepped::Ended(state) => return Ok(state),
             Stepped::Refused(refusal) => return Err(refusal),
             Stepped::Unfinished(..) => panic!("312,000 stores draw any frame"),
@@ -209,7 +211,7 @@ fn assert_only_due_changes(before: &Start, after: &Start, stepped: &Stepped) {
             assert_eq!(*stores, before.allowed);
         }
         Stepped::Whole(_, stores) => assert!(*stores <= before.allowed),
-        Stepped::Taken(_) => {
+        Stepped::Taken(..) => {
             assert!(before.picture_a == after.picture_a && before.picture_b == after.picture_b);
         }
     }
@@ -251,7 +253,7 @@ fn shown_pictures(
     loop {
         start.allowed = allowed(&mut rng);
         match start.step(film) {
-            Stepped::Taken(state) | Stepped::Whole(state, _) => start.state = state,
+            Stepped::Taken(state, _) | Stepped::Whole(state, _) => start.state = state,
             Stepped::Unfinished(..) => continue,
             Stepped::Ended(_) => return pictures,
             Stepped::Refused(refusal) => panic!("{refusal}"),
@@ -274,7 +276,7 @@ fn listings() {
         let mut opcodes = 0;
         let mut last = 0;
         let ended = run(&film, |state, stepped| {
-            let taken = matches!(stepped, Stepped::Taken(_) | Stepped::Whole(..));
+            let taken = matches!(stepped, Stepped::Taken(..) | Stepped::Whole(..));
             opcodes += usize::from(taken && state.position < state.chunk_end);
             last = state.position;
         });

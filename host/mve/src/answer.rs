@@ -1,6 +1,6 @@
 //! The library's answers, which are numbers.
 
-use crate::{Refusal, State};
+use crate::{Refusal, Sound, State};
 
 /// What a call answers. The order of the fields is the library's, here and below.
 #[repr(C)]
@@ -32,6 +32,8 @@ pub(crate) mod kind {
 #[derive(Clone, Copy, Debug)]
 pub(crate) struct Moved {
     pub answer: Answer,
+    /// Bytes of samples written to the room's front.
+    pub bytes: usize,
     /// The state that comes back: of a refused step the one that went in, of a refused opening
     /// zeros.
     pub state: Numbers,
@@ -52,13 +54,22 @@ pub(crate) struct Numbers {
     pub map_length: usize,
     /// 0 where no frame is finished and unsent.
     pub unsent: usize,
+    pub stream: usize,
+    /// 0 where no format is known, and then nothing below is read.
+    pub has_format: usize,
+    pub stereo: usize,
+    pub wide: usize,
+    pub compressed: usize,
+    pub begun: usize,
+    pub left: u16,
+    pub right: u16,
 }
 
 impl Answer {
     /// The answer, if it is not a refusal.
     pub(crate) fn taken(self) -> Result<Answer, Refusal> {
         match self {
-            Answer { kind: kind::REFUSED, number: number @ 1..=16, block, stores: 0 } => {
+            Answer { kind: kind::REFUSED, number: number @ 1..=19, block, stores: 0 } => {
                 Err(Refusal { number: number as u8, block })
             }
             Answer { kind: kind::REFUSED, .. } => self.unknown(),
@@ -73,18 +84,17 @@ impl Answer {
 }
 
 impl Moved {
-    /// The answer and the state, if it is not a refusal; `found` is the state that a refused call
-    /// gives back.
-    pub(crate) fn taken(self, found: Numbers) -> Result<(Answer, State), Refusal> {
+    /// The state, if it is not a refusal; `found` is the state that a refused call gives back.
+    pub(crate) fn taken(self, found: Numbers) -> Result<State, Refusal> {
         match self.answer.taken() {
-            Err(_) if self.state != found => self.unknown(),
+            Err(_) if self.state != found || self.bytes != 0 => self.unknown(),
             Err(refusal) => Err(refusal),
-            Ok(answer) => Ok((answer, self.state.state().unwrap_or_else(|| self.unknown()))),
+            Ok(_) => Ok(self.state.state().unwrap_or_else(|| self.unknown())),
         }
     }
 
     /// As [`Answer::unknown`].
-    fn unknown(self) -> ! {
+    pub(crate) fn unknown(self) -> ! {
         panic!("libmve.a is not of the version that this crate is written for: {self:?}")
     }
 }
@@ -98,19 +108,34 @@ impl Numbers {
             (1, start, length) => Some((start, length)),
             _ => return None,
         };
-        let unsent = match self.unsent {
-            0 => false,
-            1 => true,
-            _ => return None,
+        let unsent = flag(self.unsent)?;
+        let sound = Sound {
+            stream: self.stream,
+            has_format: flag(self.has_format)?,
+            stereo: flag(self.stereo)?,
+            wide: flag(self.wide)?,
+            compressed: flag(self.compressed)?,
+            begun: flag(self.begun)?,
+            left: self.left,
+            right: self.right,
         };
-        Some(State { position, chunk_end, width, height, front, map, unsent })
+        Some(State { position, chunk_end, width, height, front, map, unsent, sound })
+    }
+}
+
+fn flag(number: usize) -> Option<bool> {
+    match number {
+        0 => Some(false),
+        1 => Some(true),
+        _ => None,
     }
 }
 
 impl From<State> for Numbers {
     fn from(state: State) -> Numbers {
-        let State { position, chunk_end, width, height, front, map, unsent } = state;
+        let State { position, chunk_end, width, height, front, map, unsent, sound } = state;
         let (map_start, map_length) = map.unwrap_or((0, 0));
+        let Sound { stream, has_format, stereo, wide, compressed, begun, left, right } = sound;
         Numbers {
             position,
             chunk_end,
@@ -121,6 +146,14 @@ impl From<State> for Numbers {
             map_start,
             map_length,
             unsent: unsent.into(),
+            stream,
+            has_format: has_format.into(),
+            stereo: stereo.into(),
+            wide: wide.into(),
+            compressed: compressed.into(),
+            begun: begun.into(),
+            left,
+            right,
         }
     }
 }
@@ -135,7 +168,7 @@ mod tests {
         let refused = |number, stores| Answer { kind: kind::REFUSED, number, block: 2, stores };
         let known = refused(13, 0).taken();
         assert_eq!(known.unwrap_err(), Refusal { number: 13, block: 2 });
-        for (number, stores) in [(0, 0), (17, 0), (256 + 13, 0), (13, 1)] {
+        for (number, stores) in [(0, 0), (20, 0), (256 + 13, 0), (13, 1)] {
             let unknown = std::panic::catch_unwind(|| refused(number, stores).taken().map(|_| ()));
             assert!(unknown.is_err(), "{number} after {stores} stores");
         }
@@ -149,28 +182,51 @@ mod tests {
         front: 5,
         map: Some((6, 7)),
         unsent: true,
+        sound: SOUND,
+    };
+
+    const SOUND: Sound = Sound {
+        stream: 8,
+        has_format: true,
+        stereo: true,
+        wide: false,
+        compressed: true,
+        begun: false,
+        left: 9,
+        right: 10,
     };
 
     /// A state goes to the library and comes back the same; flags that are neither 0 nor 1 do not
     /// come back.
     #[test]
     fn states() {
-        for state in [STATE, State { map: None, unsent: false, ..STATE }] {
+        let other = Sound { has_format: false, wide: true, begun: true, ..SOUND };
+        for state in [STATE, State { map: None, unsent: false, sound: other, ..STATE }] {
             assert_eq!(Numbers::from(state).state(), Some(state));
         }
         let numbers = Numbers::from(STATE);
         assert_eq!(Numbers { has_map: 2, ..numbers }.state(), None);
         assert_eq!(Numbers { has_map: 0, ..numbers }.state(), None);
         assert_eq!(Numbers { unsent: 2, ..numbers }.state(), None);
+        assert_eq!(Numbers { has_format: 2, ..numbers }.state(), None);
+        assert_eq!(Numbers { stereo: 2, ..numbers }.state(), None);
+        assert_eq!(Numbers { wide: 2, ..numbers }.state(), None);
+        assert_eq!(Numbers { compressed: 2, ..numbers }.state(), None);
+        assert_eq!(Numbers { begun: 2, ..numbers }.state(), None);
     }
 
-    /// A refused step that gives another state back must not pass.
+    /// A refused step that gives another state back, or has written, must not pass.
     #[test]
     fn refused_states() {
         let answer = Answer { kind: kind::REFUSED, number: 16, block: 0, stores: 0 };
-        let moved = Moved { answer, state: STATE.into() };
-        let refused = |found| std::panic::catch_unwind(move || moved.taken(found).map(|_| ()));
-        assert_eq!(refused(STATE.into()).ok(), Some(Err(Refusal { number: 16, block: 0 })));
-        assert!(refused(State { position: 0, ..STATE }.into()).is_err());
+        let refused = |found, bytes| {
+            let moved = Moved { answer, bytes, state: STATE.into() };
+            std::panic::catch_unwind(move || moved.taken(found).map(|_| ()))
+        };
+        assert_eq!(refused(STATE.into(), 0).ok(), Some(Err(Refusal { number: 16, block: 0 })));
+        assert!(refused(STATE.into(), 2).is_err());
+        assert!(refused(State { position: 0, ..STATE }.into(), 0).is_err());
+        let sound = Sound { right: 11, ..SOUND };
+        assert!(refused(State { sound, ..STATE }.into(), 0).is_err());
     }
 }

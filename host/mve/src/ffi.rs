@@ -34,7 +34,7 @@ unsafe extern "C" {
         allowed: usize,
     ) -> Answer;
 
-    fn mve_open(film: *const u8, film_length: usize) -> Moved;
+    fn mve_open(film: *const u8, film_length: usize, stream: usize) -> Moved;
 
     fn mve_step(
         film: *const u8,
@@ -47,6 +47,8 @@ unsafe extern "C" {
         b: *mut u8,
         b_length: usize,
         place: *mut usize,
+        room: *mut u8,
+        room_length: usize,
         allowed: usize,
     ) -> Moved;
 
@@ -97,12 +99,13 @@ pub(crate) fn draw(
     }
 }
 
-pub(crate) fn open(film: &[u8]) -> Moved {
+pub(crate) fn open(film: &[u8], stream: usize) -> Moved {
     // SAFETY: address and length are those of a slice that lives through the call; that of an
     // empty slice is not null. It is only read.
-    unsafe { mve_open(film.as_ptr(), film.len()) }
+    unsafe { mve_open(film.as_ptr(), film.len(), stream) }
 }
 
+#[allow(clippy::too_many_arguments)] // those of the library's function
 pub(crate) fn step(
     film: &[u8],
     state: Numbers,
@@ -110,11 +113,12 @@ pub(crate) fn step(
     a: &mut [u8],
     b: &mut [u8],
     place: &mut usize,
+    room: &mut [u8],
     allowed: usize,
 ) -> Moved {
     // SAFETY: each address and length are those of a slice that lives through the call; that of an
-    // empty slice is not null. Only the palette, the pictures and `place` are written; they are
-    // borrowed mutably, so they overlap neither each other nor the film.
+    // empty slice is not null. Only the palette, the pictures, `place` and the room are written;
+    // they are borrowed mutably, so they overlap neither each other nor the film.
     unsafe {
         mve_step(
             film.as_ptr(),
@@ -127,6 +131,8 @@ pub(crate) fn step(
             b.as_mut_ptr(),
             b.len(),
             place,
+            room.as_mut_ptr(),
+            room.len(),
             allowed,
         )
     }

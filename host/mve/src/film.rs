@@ -1,7 +1,15 @@
-//! A film: opening it, stepping over it, and the picture that it shows.
+//! A film: opening it, stepping over it, its sound, and the picture that it shows.
 
-use crate::answer::{kind, Answer, Numbers};
+use crate::answer::{kind, Answer, Moved, Numbers};
 use crate::{ffi, Refusal};
+
+/// A stream number that no film has: opcodes 03, 08 and 09 are passed over, as by every number from
+/// here on.
+pub const NO_STREAM: usize = 16;
+
+/// The length of a room that is always enough: a word counts the samples of a packet, and each has
+/// two bytes at most.
+pub const ROOM_BYTES: usize = 131_070;
 
 /// The state of a film between two steps.
 ///
@@ -23,13 +31,40 @@ pub struct State {
     pub map: Option<(usize, usize)>,
     /// Whether a frame is finished and not sent to the display yet.
     pub unsent: bool,
+    /// The stream, the format and the last samples of the sound.
+    pub sound: Sound,
+}
+
+/// The sound in a state.
+///
+/// Before an opcode 03 nothing reads the fields behind `has_format`. A step that moves the state then
+/// makes them 0 and false.
+#[derive(Clone, Copy, Debug, Default, PartialEq, Eq, Hash)]
+pub struct Sound {
+    /// The stream that the film was opened with; above 15 its sound is passed over.
+    pub stream: usize,
+    /// Whether an opcode 03 was taken, which gives the format.
+    pub has_format: bool,
+    /// Two channels, left and right in turn; else one.
+    pub stereo: bool,
+    /// Samples of 16 bits, low byte first; else of 8 bits.
+    pub wide: bool,
+    /// Whether data comes compressed, as steps from sample to sample.
+    pub compressed: bool,
+    /// Whether a compressed packet was taken since the last 03.
+    pub begun: bool,
+    /// The last sample of the left channel, or of the only one, of compressed sound.
+    pub left: u16,
+    /// The last sample of the right channel.
+    pub right: u16,
 }
 
 /// How a step went that was not refused, with the state for the next one.
 #[derive(Clone, Copy, Debug, PartialEq, Eq, Hash)]
 pub enum Step {
-    /// A chunk head, or an opcode other than 11, is taken.
-    Taken(State),
+    /// A chunk head, or an opcode other than 11, is taken. With the bytes of samples that the step
+    /// wrote to the room's front; none but opcodes 08 and 09 of the stream write any.
+    Taken(State, usize),
     /// Opcode 11 is taken and its frame drawn. With the stores that the step made.
     Whole(State, usize),
     /// The stores allowed were used up before opcode 11's frame was drawn; the next step goes on
@@ -45,15 +80,15 @@ impl Step {
     /// ```
     /// // A film of no chunk: it ends where it opens.
     /// let film = b"Interplay MVE File\x1A\0\x1A\0\0\x01\x33\x11";
-    /// let state = mve::open(film)?;
-    /// let step = mve::step(film, state, &mut [0; 768], &mut [], &mut [], &mut 0, 0)?;
+    /// let state = mve::open(film, mve::NO_STREAM)?;
+    /// let step = mve::step(film, state, &mut [0; 768], &mut [], &mut [], &mut 0, &mut [], 0)?;
     /// assert_eq!(step, mve::Step::Ended(state));
     /// assert_eq!(step.state(), state);
     /// # Ok::<(), mve::Refusal>(())
     /// ```
     pub const fn state(self) -> State {
         match self {
-            Step::Taken(state)
+            Step::Taken(state, _)
             | Step::Whole(state, _)
             | Step::Unfinished(state, _)
             | Step::Ended(state) => state,
@@ -61,7 +96,8 @@ impl Step {
     }
 }
 
-/// Opens a film: its first state.
+/// Opens a film for a stream of its sound, 0 to 15: its first state. With [`NO_STREAM`], or any other
+/// number above 15, all sound is passed over.
 ///
 /// # Errors
 ///
@@ -70,7 +106,7 @@ impl Step {
 /// # Examples
 ///
 /// ```
-/// use mve::{open, Refusal, State};
+/// use mve::{open, Refusal, Sound, State};
 ///
 /// let film = b"Interplay MVE File\x1A\0\x1A\0\0\x01\x33\x11";
 /// let first = State {
@@ -81,25 +117,34 @@ impl Step {
 ///     front: 0,
 ///     map: None,
 ///     unsent: false,
+///     sound: Sound { stream: 3, ..Sound::default() },
 /// };
-/// assert_eq!(open(film), Ok(first));
-/// assert_eq!(open(&film[..25]), Err(Refusal { number: 1, block: 0 }));
+/// assert_eq!(open(film, 3), Ok(first));
+/// assert_eq!(open(&film[..25], 3), Err(Refusal { number: 1, block: 0 }));
 /// ```
-pub fn open(film: &[u8]) -> Result<State, Refusal> {
-    let moved = ffi::open(film);
-    match moved.taken(Numbers::default())? {
-        (Answer { kind: kind::ACCEPTED, number: 0, block: 0, stores: 0 }, state) => Ok(state),
-        (other, _) => other.unknown(),
+pub fn open(film: &[u8], stream: usize) -> Result<State, Refusal> {
+    let moved = ffi::open(film, stream);
+    let state = moved.taken(Numbers::default())?;
+    match moved {
+        Moved {
+            answer: Answer { kind: kind::ACCEPTED, number: 0, block: 0, stores: 0 }, ..
+        } if moved.bytes == 0 => Ok(state),
+        other => other.unknown(),
     }
 }
 
 /// Takes one step over a film: a chunk head where position and chunk end are equal, else an opcode.
 ///
 /// Lend the same film, palette, pictures and place to every step, and give each step the state that
-/// the one before gave. The palette has 256 entries of red, green and blue, 0 to 63. The pictures
+/// the one before gave; the room is only written. The palette has 256 entries of red, green and blue, 0 to 63. The pictures
 /// have a byte a pixel, row by row; one is shown, the other drawn on, and [`State::front`] tells
 /// which. They may be longer than the frame: what lies beyond it is never touched. The place is
 /// that of [`draw`](crate::draw); start with 0.
+///
+/// Opcodes 08 and 09 of the stream write their samples to the room's front: of 16 bits low byte
+/// first, or of 8 bits, left and right in turn; [`State::sound`] tells which. The rest of the room
+/// stays as it is. A room of [`ROOM_BYTES`] is always enough; after 19 the step can be taken again
+/// with more, since nothing has changed.
 ///
 /// `allowed` limits the stores of opcode 11; every other step ignores it. No frame has more than
 /// 312,000 stores.
@@ -108,8 +153,8 @@ pub fn open(film: &[u8]) -> Result<State, Refusal> {
 ///
 /// In this order: 16 for the state, 8 for a palette that has not 768 bytes or, once a size is known,
 /// for a picture shorter than the frame, then what is wrong with the film: 2 to 7, 9, and 10 to 15
-/// as in [`draw`](crate::draw). A refused step changes nothing, so the state that went in still
-/// holds.
+/// as in [`draw`](crate::draw); of sound 17 to 19. A refused step changes nothing, so the state that
+/// went in still holds.
 ///
 /// # Examples
 ///
@@ -117,7 +162,7 @@ pub fn open(film: &[u8]) -> Result<State, Refusal> {
 /// of code E; 11, that block's colour; 07, which sends the frame to the display; 01.
 ///
 /// ```
-/// use mve::{open, shown, step, Refusal, State, Step};
+/// use mve::{open, shown, step, Refusal, State, Step, NO_STREAM};
 ///
 /// let film = [
 ///     &b"Interplay MVE File\x1A\0\x1A\0\0\x01\x33\x11"[..],
@@ -130,13 +175,13 @@ pub fn open(film: &[u8]) -> Result<State, Refusal> {
 /// assert_eq!(film.len(), 82);
 ///
 /// let (mut palette, mut a, mut b, mut place) = ([0; 768], [0; 64], [0; 64], 0);
-/// let mut state = open(&film)?;
+/// let mut state = open(&film, NO_STREAM)?;
 /// let mut opcodes = Vec::new();
 /// loop {
 ///     if state.position < state.chunk_end {
 ///         opcodes.push((state.position, film[state.position + 2]));
 ///     }
-///     match step(&film, state, &mut palette, &mut a, &mut b, &mut place, 312_000)? {
+///     match step(&film, state, &mut palette, &mut a, &mut b, &mut place, &mut [], 312_000)? {
 ///         Step::Ended(_) => break,
 ///         Step::Whole(next, stores) => {
 ///             assert_eq!(stores, 65);
@@ -152,10 +197,45 @@ pub fn open(film: &[u8]) -> Result<State, Refusal> {
 ///
 /// // No film gives this state.
 /// let wrong = State { position: 83, ..state };
-/// let refused = step(&film, wrong, &mut palette, &mut a, &mut b, &mut place, 312_000);
+/// let refused = step(&film, wrong, &mut palette, &mut a, &mut b, &mut place, &mut [], 312_000);
 /// assert_eq!(refused, Err(Refusal { number: 16, block: 0 }));
 /// # Ok::<(), Refusal>(())
 /// ```
+///
+/// A film with sound for stream 0: opcode 03 says 16-bit, stereo and compressed; opcode 08 has a
+/// start word for each channel and a byte for the sample behind each of them.
+///
+/// ```
+/// use mve::{open, step, Refusal, Sound, Step, ROOM_BYTES};
+///
+/// let film = [
+///     &b"Interplay MVE File\x1A\0\x1A\0\0\x01\x33\x11"[..],
+///     &[0x1e, 0, 3, 0, 10, 0, 0x03, 1, 0, 0, 0b111, 0, 0x22, 0x56, 0, 0, 0, 0],
+///     &[12, 0, 0x08, 0, 0, 0, 0x01, 0, 4, 0, 0xff, 0x7f, 100, 0, 0x80, 3],
+/// ]
+/// .concat();
+///
+/// let (mut palette, mut place, mut room) = ([0; 768], 0, vec![0; ROOM_BYTES]);
+/// let mut state = open(&film, 0)?;
+/// let mut samples: Vec<u8> = Vec::new();
+/// loop {
+///     match step(&film, state, &mut palette, &mut [], &mut [], &mut place, &mut room, 0)? {
+///         Step::Taken(next, bytes) => {
+///             samples.extend(&room[..bytes]);
+///             state = next;
+///         }
+///         Step::Ended(_) => break,
+///         other => unreachable!("no picture is drawn: {other:?}"),
+///     }
+/// }
+/// // 32767 and entry 128 of the table, 1, are -32768: added in 16 bits, with wrap-around.
+/// let expected = [32767, 100, -32768, 103].map(i16::to_le_bytes);
+/// assert_eq!(samples, expected.concat());
+/// let Sound { stereo, wide, left, right, .. } = state.sound;
+/// assert_eq!((stereo, wide, left, right), (true, true, 0x8000, 103));
+/// # Ok::<(), Refusal>(())
+/// ```
+#[allow(clippy::too_many_arguments)] // a film, its state, what is lent, and how far to go
 pub fn step(
     film: &[u8],
     state: State,
@@ -163,19 +243,24 @@ pub fn step(
     a: &mut [u8],
     b: &mut [u8],
     place: &mut usize,
+    room: &mut [u8],
     allowed: usize,
 ) -> Result<Step, Refusal> {
     let found = Numbers::from(state);
-    let moved = ffi::step(film, found, palette, a, b, place, allowed);
-    let (answer, state) = moved.taken(found)?;
-    match answer {
-        Answer { kind: kind::ACCEPTED, number: 0, block: 0, stores: 0 } => Ok(Step::Taken(state)),
-        Answer { kind: kind::WHOLE, number: 0, block: 0, stores } => Ok(Step::Whole(state, stores)),
-        Answer { kind: kind::UNFINISHED, number: 0, block: 0, stores } => {
+    let moved = ffi::step(film, found, palette, a, b, place, room, allowed);
+    let state = moved.taken(found)?;
+    match (moved.answer, moved.bytes) {
+        (Answer { kind: kind::ACCEPTED, number: 0, block: 0, stores: 0 }, bytes) => {
+            Ok(Step::Taken(state, bytes))
+        }
+        (Answer { kind: kind::WHOLE, number: 0, block: 0, stores }, 0) => {
+            Ok(Step::Whole(state, stores))
+        }
+        (Answer { kind: kind::UNFINISHED, number: 0, block: 0, stores }, 0) => {
             Ok(Step::Unfinished(state, stores))
         }
-        Answer { kind: kind::ENDED, number: 0, block: 0, stores: 0 } => Ok(Step::Ended(state)),
-        other => other.unknown(),
+        (Answer { kind: kind::ENDED, number: 0, block: 0, stores: 0 }, 0) => Ok(Step::Ended(state)),
+        _ => moved.unknown(),
     }
 }
 
@@ -187,10 +272,10 @@ pub fn step(
 /// # Examples
 ///
 /// ```
-/// use mve::{open, shown, State};
+/// use mve::{open, shown, State, NO_STREAM};
 ///
 /// let (a, b) = ([1; 200], [2; 128]);
-/// let opened = open(b"Interplay MVE File\x1A\0\x1A\0\0\x01\x33\x11")?;
+/// let opened = open(b"Interplay MVE File\x1A\0\x1A\0\0\x01\x33\x11", NO_STREAM)?;
 /// assert_eq!(shown(&opened, &a, &b), []);
 /// let sized = State { width: 16, height: 8, ..opened };
 /// assert_eq!(shown(&sized, &a, &b), [1; 128]);
@@ -211,22 +296,32 @@ mod tests {
 
     const HEADER: &[u8] = b"Interplay MVE File\x1A\0\x1A\0\0\x01\x33\x11";
 
-    /// The library takes every number but 0 as a flag that is set. A taken step gives 1 back for it;
-    /// a step that leaves the state gives the very numbers back.
+    /// The library takes every number but 0 as a flag that is set. A taken step gives 1 back for it,
+    /// and zeros for what is not read; a step that leaves the state gives the very numbers back.
     #[test]
     fn flags() {
-        let map = Some((3, 4));
-        let state = State { map, unsent: true, ..open(HEADER).expect("a header") };
-        let numbers = Numbers { has_map: 7, unsent: usize::MAX, ..state.into() };
-        let step = |film: &[u8], palette: &mut [u8]| {
-            ffi::step(film, numbers, palette, &mut [], &mut [], &mut 0, usize::MAX)
+        let state = State {
+            map: Some((3, 4)),
+            unsent: true,
+            sound: Sound { stream: 77, wide: true, left: 5, right: 6, ..Sound::default() },
+            ..open(HEADER, 77).expect("a header")
         };
-        let taken = step(&[HEADER, &[0; 4]].concat(), &mut [0; 768]);
-        let moved = State { position: 30, chunk_end: 30, ..state };
-        assert_eq!((taken.answer.kind, taken.state), (kind::ACCEPTED, Numbers::from(moved)));
-        let ended = step(HEADER, &mut [0; 768]);
-        assert_eq!((ended.answer.kind, ended.state), (kind::ENDED, numbers));
-        let refused = step(HEADER, &mut []);
-        assert_eq!((refused.answer.number, refused.state), (8, numbers));
+        let format = Numbers { has_map: 7, unsent: usize::MAX, has_format: 8, ..state.into() };
+        let format = Numbers { stereo: 9, wide: 10, begun: 11, ..format };
+        let none = Numbers { has_format: 0, compressed: 12, ..format };
+        let read = Sound { has_format: true, stereo: true, begun: true, ..state.sound };
+        let unread = Sound { stream: 77, ..Sound::default() };
+        for (numbers, sound) in [(format, read), (none, unread)] {
+            let step = |film: &[u8], palette: &mut [u8]| {
+                ffi::step(film, numbers, palette, &mut [], &mut [], &mut 0, &mut [], usize::MAX)
+            };
+            let taken = step(&[HEADER, &[0; 4]].concat(), &mut [0; 768]);
+            let moved = State { position: 30, chunk_end: 30, sound, ..state };
+            assert_eq!((taken.answer.kind, taken.state), (kind::ACCEPTED, Numbers::from(moved)));
+            let ended = step(HEADER, &mut [0; 768]);
+            assert_eq!((ended.answer.kind, ended.state), (kind::ENDED, numbers));
+            let refused = step(HEADER, &mut []);
+            assert_eq!((refused.answer.number, refused.state), (8, numbers));
+        }
     }
 }

@@ -1,12 +1,13 @@
-//! The proved player core for Interplay MVE films with 8-bit pictures, for Rust programs.
+//! The proved player core for Interplay MVE films with 8-bit pictures and sound, for Rust programs.
 //!
 //! The core is a static library whose contracts are proved. This crate hands each call on to it and
 //! gives its answers names; it decides nothing and allocates nothing. Every function takes any
 //! input and answers it; a refused call leaves everything lent to it as it was. None panics, unless
 //! the library that is linked is not the one this crate is written for.
 //!
-//! [`open`] opens a film, [`step`] takes it chunk by chunk and opcode by opcode, keeping the palette
-//! and drawing the pictures that are lent to it, and [`shown`] is the picture to show.
+//! [`open`] opens a film, [`step`] takes it chunk by chunk and opcode by opcode, keeping the palette,
+//! drawing the pictures and writing the samples to what is lent to it, and [`shown`] is the picture
+//! to show.
 //!
 //! A frame comes as a packet: a map with a code for each 8x8 block, and the blocks' data. [`check`]
 //! tells whether a packet is valid, [`draw`] draws it, at once or in pieces.
@@ -34,6 +35,6 @@ mod film;
 mod packet;
 mod refusal;
 
-pub use film::{open, shown, step, State, Step};
+pub use film::{open, shown, step, Sound, State, Step, NO_STREAM, ROOM_BYTES};
 pub use packet::{check, draw, Drawn};
 pub use refusal::Refusal;

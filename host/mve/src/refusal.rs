@@ -12,7 +12,7 @@ use std::fmt;
 /// ```
 #[derive(Clone, Copy, Debug, PartialEq, Eq, Hash)]
 pub struct Refusal {
-    /// The number of refusal, 1 to 16; see [`reason`](Refusal::reason).
+    /// The number of refusal, 1 to 19; see [`reason`](Refusal::reason).
     pub number: u8,
     /// The block that met 12, 13 or 14; else 0.
     pub block: usize,
@@ -43,6 +43,9 @@ impl Refusal {
             14 => "copied from outside the picture",
             15 => "data bytes left over",
             16 => "a state that no film gives",
+            17 => "sound before its format, or a format both 8-bit and compressed",
+            18 => "sound data or sample count of a wrong length",
+            19 => "room too small for the samples",
             _ => "not a number of refusal",
         }
     }
@@ -74,18 +77,18 @@ mod tests {
 
     #[test]
     fn each_number_has_a_reason_of_its_own() {
-        let reasons = (1..=16).map(|number| Refusal { number, block: 0 }.reason());
+        let reasons = (1..=19).map(|number| Refusal { number, block: 0 }.reason());
         let distinct: BTreeSet<_> = reasons.collect();
-        assert_eq!(distinct.len(), 16);
+        assert_eq!(distinct.len(), 19);
         assert!(!distinct.contains(UNKNOWN));
-        for number in [0, 17] {
+        for number in [0, 20] {
             assert_eq!(Refusal { number, block: 0 }.reason(), UNKNOWN);
         }
     }
 
     #[test]
     fn only_12_to_14_name_the_block() {
-        for number in 1..=16 {
+        for number in 1..=19 {
             let message = Refusal { number, block: 3 }.to_string();
             let named = message.starts_with(&format!("refused {number} in block 3: "));
             assert_eq!(named, (12..=14).contains(&number), "{message}");

@@ -2,7 +2,7 @@
 //! and its slip in 0D. The expected values are the document's. (Those that stand as examples in the
 //! documentation are run there.)
 
-use mve::{check, draw, open, step, Drawn, Refusal, Step};
+use mve::{check, draw, open, step, Drawn, Refusal, Step, NO_STREAM};
 
 /// The picture that a single block of this code and data gives.
 fn block(code: u8, data: &[u8]) -> [u8; 64] {
@@ -84,10 +84,10 @@ fn palette_after(kind: u8, body: &[u8]) -> [u8; 768] {
     let heads = [length + 4, 0, 0, 0, length, 0, kind, 0];
     let film = [b"Interplay MVE File\x1A\0\x1A\0\0\x01\x33\x11", &heads[..], body].concat();
     let mut palette = [0xAA; 768];
-    let mut state = open(&film).expect("a header");
+    let mut state = open(&film, NO_STREAM).expect("a header");
     while state.position < film.len() {
-        let stepped = step(&film, state, &mut palette, &mut [], &mut [], &mut 0, 0);
-        let Ok(Step::Taken(next)) = stepped else { panic!("{stepped:?}") };
+        let stepped = step(&film, state, &mut palette, &mut [], &mut [], &mut 0, &mut [], 0);
+        let Ok(Step::Taken(next, 0)) = stepped else { panic!("{stepped:?}") };
         state = next;
     }
     palette

@@ -1,14 +1,21 @@
-//! An example player: a film to numbered pictures, through stops.
+//! An example player: a film to numbered pictures and its sound to WAV files, through stops.
 //!
-//! `play FILM FOLDER ALLOWANCE` writes each picture that the film sends to FOLDER, as 000000.ppm,
-//! 000001.ppm and so on. FOLDER must be there and hold no name that ends in .ppm. Every step is
-//! allowed ALLOWANCE stores; when they do not suffice, the player is stopped as a watchdog would
-//! stop it, and goes on. It exits with 0 where the film ended, 1 where it was refused or a file or
-//! the folder failed, 2 on bad arguments. `examples/play.c` is the same player in C.
+//! `play FILM FOLDER ALLOWANCE [STREAM [EVERY]]` writes each picture that the film sends to FOLDER,
+//! as 000000.ppm, 000001.ppm and so on, and the sound of stream STREAM (0 to 15, 0 if it is not
+//! given; above 15 none) as 000000.wav; where format or rate changes 000001.wav begins, and so on.
+//! FOLDER must be there and hold no name that ends in .ppm or .wav. Every step is allowed ALLOWANCE
+//! stores; when they do not suffice, the player is stopped as a watchdog would stop it, and goes on.
+//! If EVERY is given, it is also stopped at every so many opcodes of sound, when what they give is
+//! written and the state is not saved yet. It exits with 0 where the film ended, 1 where it was
+//! refused or a file or the folder failed, 2 on bad arguments. `examples/play.c` is the same player
+//! in C.
+
+mod sound;
 
 use mve::{Refusal, State, Step};
+use sound::{Failed, Format, Sound};
 use std::env;
-use std::ffi::OsString;
+use std::ffi::{OsStr, OsString};
 use std::fmt;
 use std::fs;
 use std::io;
@@ -19,10 +26,20 @@ use std::sync::atomic::{AtomicUsize, Ordering};
 const LARGEST_PICTURE: usize = 640 * 480;
 /// The stores of a block with pixels: a step that is allowed fewer never finishes one.
 const LEAST_ALLOWANCE: usize = 65;
+/// A player that is stopped at every opcode of sound never gets on.
+const LEAST_EVERY: usize = 2;
 
-/// All that a stop leaves. In a real player it lies in memory that outlives the stop.
+/// Where a player is: what it must not lose at a stop.
+#[derive(Clone, Copy)]
+struct Saved {
+    state: State,
+    sound: Sound,
+}
+
+/// All that a stop leaves, beside the files. In a real player it lies in memory that outlives the
+/// stop.
 struct Kept {
-    states: [State; 2],
+    slots: [Saved; 2],
     /// Which of the two is the saved one.
     saved: AtomicUsize,
     palette: [u8; 768],
@@ -36,6 +53,25 @@ struct Arguments {
     film: PathBuf,
     folder: PathBuf,
     allowance: usize,
+    stream: usize,
+    /// At every so many opcodes of sound the player is stopped; never if none.
+    every: Option<usize>,
+}
+
+/// What stops a run. It outlives the runs and knows nothing of the film.
+#[derive(Default)]
+struct Watchdog {
+    stops: usize,
+    /// Opcodes of sound; one that is taken again counts again.
+    sounds: usize,
+}
+
+impl Watchdog {
+    /// Whether it stops a run that has just written what an opcode of sound gave.
+    fn stops_at_sound(&mut self, every: Option<usize>) -> bool {
+        self.sounds += 1;
+        every.is_some_and(|every| self.sounds % every == 0)
+    }
 }
 
 /// How a run went.
@@ -47,16 +83,22 @@ enum Run {
 /// Why a film is not played to its end.
 enum Failure {
     Folder(PathBuf, io::Error),
-    HasPictures(PathBuf),
+    HasOutput(PathBuf),
     Film(io::Error),
-    Picture(PathBuf, io::Error),
-    Refused { refusal: Refusal, position: usize, pictures: usize },
+    Output(PathBuf, io::Error),
+    Refused { refusal: Refusal, position: usize, pictures: usize, sounds: usize },
+}
+
+impl From<Failed> for Failure {
+    fn from((path, error): Failed) -> Failure {
+        Failure::Output(path, error)
+    }
 }
 
 impl Kept {
     fn new(first: State) -> Kept {
         Kept {
-            states: [first; 2],
+            slots: [Saved { state: first, sound: Sound::NONE }; 2],
             saved: AtomicUsize::new(0),
             palette: [0; 768],
             a: vec![0; LARGEST_PICTURE],
@@ -65,16 +107,16 @@ impl Kept {
         }
     }
 
-    fn saved_state(&self) -> State {
-        self.states[self.saved.load(Ordering::SeqCst)]
+    fn load(&self) -> Saved {
+        self.slots[self.saved.load(Ordering::SeqCst)]
     }
 
-    /// The new state is written in full beside the old one; then one store makes it the saved one,
-    /// an atomic one, which stays behind the others. A stop in between leaves the old state, and
-    /// the step that gave the new one is taken again.
-    fn save(&mut self, state: State) {
+    /// The new state is written in full beside the old one, with the sound that belongs to it; then
+    /// one store makes it the saved one, an atomic one, which stays behind the others. A stop in
+    /// between leaves the old state, and the step that gave the new one is taken again.
+    fn save(&mut self, next: Saved) {
         let spare = 1 - self.saved.load(Ordering::SeqCst);
-        self.states[spare] = state;
+        self.slots[spare] = next;
         self.saved.store(spare, Ordering::SeqCst);
     }
 }
@@ -100,49 +142,98 @@ fn main() -> ExitCode {
 /// The watchdog: it starts a run after every stop.
 fn watch(arguments: &Arguments) -> Result<(), Failure> {
     let mut kept = begin(arguments)?;
-    let mut stops = 0;
-    while let Run::Stopped = run(&mut kept, arguments)? {
-        stops += 1;
+    let mut watchdog = Watchdog::default();
+    while let Run::Stopped = run(&mut kept, arguments, &mut watchdog)? {
+        watchdog.stops += 1;
     }
-    let (position, pictures) = (kept.saved_state().position, count_pictures(&arguments.folder));
-    let ended = format_args!("ended at byte {position}, pictures: {pictures}, stops: {stops}\n");
-    tell(arguments, ended);
+    let Saved { state: State { position, .. }, sound: Sound { files, .. } } = kept.load();
+    let (pictures, stops) = (count_pictures(&arguments.folder), watchdog.stops);
+    tell(
+        arguments,
+        format_args!(
+            "ended at byte {position}, pictures: {pictures}, sound files: {files}, stops: {stops}\n"
+        ),
+    );
     Ok(())
 }
 
 /// Before the first run: looks into the folder and opens the film; its first state is kept.
 fn begin(arguments: &Arguments) -> Result<Kept, Failure> {
     let folder = &arguments.folder;
-    if find_pictures(folder).map_err(|error| Failure::Folder(folder.clone(), error))? {
-        return Err(Failure::HasPictures(folder.clone()));
+    if find_output(folder).map_err(|error| Failure::Folder(folder.clone(), error))? {
+        return Err(Failure::HasOutput(folder.clone()));
     }
     let film = fs::read(&arguments.film).map_err(Failure::Film)?;
-    let first = mve::open(&film).map_err(|refusal| refused(refusal, 0, arguments))?;
+    let first = mve::open(&film, arguments.stream)
+        .map_err(|refusal| refused(refusal, 0, Sound::NONE, arguments))?;
     Ok(Kept::new(first))
 }
 
 /// A run of the player, up to its stop. All that it knows besides `kept` it finds out anew, the
 /// film included.
 ///
-/// A picture is sent by the step that leaves no frame unsent where one was (opcode 07). It is
-/// written before the state is saved: a stop in between would write it twice, but lose none.
-fn run(kept: &mut Kept, arguments: &Arguments) -> Result<Run, Failure> {
+/// What a step gives is written before the state is saved: a stop in between writes a picture twice,
+/// but loses none; samples go to the same place of the file again.
+fn run(kept: &mut Kept, arguments: &Arguments, watchdog: &mut Watchdog) -> Result<Run, Failure> {
+    kept.load().sound.cut(&arguments.folder)?;
     let film = fs::read(&arguments.film).map_err(Failure::Film)?;
+    let mut room = vec![0; mve::ROOM_BYTES]; // need not outlive a stop
     loop {
-        let state = kept.saved_state();
+        let Saved { state, sound } = kept.load();
         let Kept { palette, a, b, place, .. } = kept;
-        let step = mve::step(&film, state, palette, a, b, place, arguments.allowance)
-            .map_err(|refusal| refused(refusal, state.position, arguments))?;
-        match step {
-            Step::Unfinished(..) => return Ok(Run::Stopped),
-            Step::Ended(_) => return Ok(Run::Ended),
-            Step::Taken(next) | Step::Whole(next, _) => {
-                if state.unsent && !next.unsent {
-                    write_picture(kept, &next, arguments, film.len())?;
-                }
-                kept.save(next);
+        let step = mve::step(&film, state, palette, a, b, place, &mut room, arguments.allowance);
+        let step = match step {
+            Ok(step) => step,
+            Err(refusal) => {
+                sound.finish(&arguments.folder)?;
+                return Err(refused(refusal, state.position, sound, arguments));
             }
+        };
+        let (next, bytes) = match step {
+            Step::Unfinished(..) => return Ok(Run::Stopped),
+            Step::Ended(_) => {
+                sound.finish(&arguments.folder)?;
+                return Ok(Run::Ended);
+            }
+            Step::Taken(next, bytes) => (next, bytes),
+            Step::Whole(next, _) => (next, 0),
+        };
+        let format = format_of(&film, &state, &next);
+        let sound = write_sound(sound, format, &room[..bytes], &arguments.folder)?;
+        // A picture is sent by the step that leaves no frame unsent where one was (opcode 07).
+        if state.unsent && !next.unsent {
+            write_picture(kept, &next, arguments, film.len())?;
         }
+        if (format.is_some() || bytes > 0) && watchdog.stops_at_sound(arguments.every) {
+            return Ok(Run::Stopped);
+        }
+        kept.save(Saved { state: next, sound });
+    }
+}
+
+/// The format that a step gave, where it took a 03 of the stream. The rate is the third word of its
+/// body, which the library does not read.
+fn format_of(film: &[u8], before: &State, after: &State) -> Option<Format> {
+    let at_opcode = before.position != before.chunk_end;
+    let is_format = at_opcode && film[before.position + 2] == 0x03;
+    (is_format && before.sound.stream < mve::NO_STREAM).then(|| {
+        let rate = &film[before.position + 8..][..2];
+        let rate = u16::from_le_bytes([rate[0], rate[1]]);
+        Format { stereo: after.sound.stereo, wide: after.sound.wide, rate }
+    })
+}
+
+/// Writes what a step gave of sound: the beginning of a file, or samples.
+fn write_sound(
+    sound: Sound,
+    format: Option<Format>,
+    samples: &[u8],
+    folder: &Path,
+) -> Result<Sound, Failed> {
+    match (format, samples) {
+        (Some(format), _) => sound.take_format(folder, format),
+        (None, []) => Ok(sound),
+        (None, samples) => sound.write_samples(folder, samples),
     }
 }
 
@@ -160,7 +251,7 @@ fn write_picture(
     let written = fs::write(&part, ppm(kept, state)).and_then(|()| fs::rename(&part, &path));
     if let Err(error) = written {
         let _ = fs::remove_file(&part); // it is the first error that is told
-        return Err(Failure::Picture(path, error));
+        return Err(Failure::Output(path, error));
     }
     let (position, pictures) = (state.position, number + 1);
     tell(arguments, format_args!("byte {position} of {film_length}, pictures: {pictures}"));
@@ -182,10 +273,11 @@ fn scaled(component: u8) -> u8 {
     ((u16::from(component) * 255 + 31) / 63) as u8
 }
 
-/// Whether the folder holds a name that ends in .ppm, whatever its number.
-fn find_pictures(folder: &Path) -> io::Result<bool> {
+/// Whether the folder holds a name that ends in .ppm or .wav, whatever its number.
+fn find_output(folder: &Path) -> io::Result<bool> {
     for entry in fs::read_dir(folder)? {
-        if entry?.file_name().as_encoded_bytes().ends_with(b".ppm") {
+        let name = entry?.file_name();
+        if [b".ppm", b".wav"].iter().any(|&end| name.as_encoded_bytes().ends_with(end)) {
             return Ok(true);
         }
     }
@@ -212,8 +304,9 @@ fn picture_path(folder: &Path, number: usize) -> PathBuf {
     folder.join(format!("{number:06}.ppm"))
 }
 
-fn refused(refusal: Refusal, position: usize, arguments: &Arguments) -> Failure {
-    Failure::Refused { refusal, position, pictures: count_pictures(&arguments.folder) }
+fn refused(refusal: Refusal, position: usize, sound: Sound, arguments: &Arguments) -> Failure {
+    let (pictures, sounds) = (count_pictures(&arguments.folder), sound.files);
+    Failure::Refused { refusal, position, pictures, sounds }
 }
 
 /// Every message about a film begins its line anew, over the progress line.
@@ -227,34 +320,51 @@ impl fmt::Display for Failure {
             Failure::Folder(folder, error) => {
                 write!(f, "cannot read the folder {}: {error}", folder.display())
             }
-            Failure::HasPictures(folder) => {
-                write!(f, "{} has pictures already: give a folder without", folder.display())
+            Failure::HasOutput(folder) => {
+                let folder = folder.display();
+                write!(f, "{folder} has pictures or sound already: give a folder without")
             }
             Failure::Film(error) => write!(f, "cannot read the film: {error}"),
-            Failure::Picture(path, error) => write!(f, "cannot write {}: {error}", path.display()),
-            Failure::Refused { refusal, position, pictures } => {
-                write!(f, "{refusal}, at byte {position}, pictures: {pictures}")
+            Failure::Output(path, error) => write!(f, "cannot write {}: {error}", path.display()),
+            Failure::Refused { refusal, position, pictures, sounds } => {
+                write!(f, "{refusal}, at byte {position}, ")?;
+                write!(f, "pictures: {pictures}, sound files: {sounds}")
             }
         }
     }
 }
 
 fn read_arguments(words: &[OsString]) -> Result<Arguments, String> {
-    let [film, folder, allowance] = words else {
-        return Err("usage: play FILM FOLDER ALLOWANCE".to_string());
+    let (film, folder, allowance, options) = match words {
+        [film, folder, allowance, options @ ..] if options.len() <= 2 => {
+            (film, folder, allowance, options)
+        }
+        _ => return Err("usage: play FILM FOLDER ALLOWANCE [STREAM [EVERY]]".to_string()),
     };
-    let text = allowance.to_string_lossy();
-    let Some(allowance) = read_allowance(&text) else {
-        return Err(format!(
+    let allowance = read_number(allowance, LEAST_ALLOWANCE).map_err(|text| {
+        format!(
             "play: allowance {text}: give a number of stores, {LEAST_ALLOWANCE} or more, \
              or no block with pixels is ever finished"
-        ));
-    };
-    Ok(Arguments { film: film.into(), folder: folder.into(), allowance })
+        )
+    })?;
+    let stream = options.first().map_or(Ok(0), |stream| read_number(stream, 0));
+    let stream = stream.map_err(|text| {
+        format!("play: stream {text}: give a number, 0 to 15, or more for no sound")
+    })?;
+    let every = options.get(1).map(|every| read_number(every, LEAST_EVERY)).transpose();
+    let every = every.map_err(|text| {
+        format!(
+            "play: every {text}: give a number of opcodes, {LEAST_EVERY} or more, \
+             or the first one is never saved"
+        )
+    })?;
+    Ok(Arguments { film: film.into(), folder: folder.into(), allowance, stream, every })
 }
 
-fn read_allowance(text: &str) -> Option<usize> {
+/// A decimal number that is no less; else the text.
+fn read_number(word: &OsStr, least: usize) -> Result<usize, String> {
+    let text = word.to_string_lossy();
     let is_decimal = text.bytes().all(|byte| byte.is_ascii_digit());
-    let allowance = if is_decimal { text.parse().ok()? } else { return None };
-    (allowance >= LEAST_ALLOWANCE).then_some(allowance)
+    let number = text.parse().ok().filter(|&number| is_decimal && number >= least);
+    number.ok_or_else(|| text.into_owned())
 }

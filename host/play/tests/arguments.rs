@@ -2,7 +2,7 @@
 
 mod common;
 
-use common::{fresh, play, players, run, Left};
+use common::{fresh, play, players, run, Left, Options};
 use maker::demo;
 use std::collections::BTreeMap;
 use std::fs;
@@ -28,10 +28,41 @@ fn with_film(folder: &Path) {
 
 #[test]
 fn usage() {
-    for arguments in [&[][..], &["film.mve"], &["film.mve", "pictures"], &["a", "b", "65", "d"]] {
+    let too_many = ["a", "b", "65", "0", "2", "f"];
+    for arguments in [&[][..], &["film.mve"], &["film.mve", "pictures"], &too_many] {
         for left in both("usage", arguments, with_film) {
             assert_eq!(left.code, Some(2), "{arguments:?}");
-            assert_eq!(left.messages, "usage: play FILM FOLDER ALLOWANCE\n");
+            assert_eq!(left.messages, "usage: play FILM FOLDER ALLOWANCE [STREAM [EVERY]]\n");
+        }
+    }
+}
+
+/// A stream is any number; how often to stop is 2 or more.
+#[test]
+fn streams_and_stops() {
+    for stream in ["-1", "+1", " 1", "1 ", "1x", "", "none", "99999999999999999999"] {
+        for left in both("streams", &["film.mve", "pictures", "65", stream], with_film) {
+            assert_eq!((left.code, left.files.len()), (Some(2), 0), "{stream}");
+            let message =
+                format!("play: stream {stream}: give a number, 0 to 15, or more for no sound\n");
+            assert_eq!(left.messages, message);
+        }
+    }
+    for every in ["0", "1", "-2", "2x", "", "many"] {
+        for left in both("streams", &["film.mve", "pictures", "65", "0", every], with_film) {
+            assert_eq!((left.code, left.files.len()), (Some(2), 0), "{every}");
+            let message = format!(
+                "play: every {every}: give a number of opcodes, 2 or more, \
+                 or the first one is never saved\n"
+            );
+            assert_eq!(left.messages, message);
+        }
+    }
+    // The film has stream 0 alone; other streams have the format of every 03.
+    for (stream, files) in [("0", 1), ("00", 1), ("15", 1), ("16", 0), ("18446744073709551615", 0)]
+    {
+        for left in both("streams", &["film.mve", "pictures", "312000", stream], with_film) {
+            assert_eq!((left.code, left.files.len()), (Some(0), demo::FRAMES + files), "{stream}");
         }
     }
 }
@@ -52,7 +83,7 @@ fn allowances() {
     }
     for allowance in ["65", "065", "18446744073709551615"] {
         for left in both("allowances", &["film.mve", "pictures", allowance], with_film) {
-            assert_eq!((left.code, left.files.len()), (Some(0), demo::FRAMES), "{allowance}");
+            assert_eq!((left.code, left.files.len()), (Some(0), demo::FRAMES + 1), "{allowance}");
         }
     }
 }
@@ -96,7 +127,7 @@ fn picture_that_cannot_be_written() {
             with_film(folder);
             symlink(file, folder.join("pictures/picture.part")).expect("a link");
         };
-        for left in both("unwritten", &["film.mve", "pictures", "65"], prepare) {
+        for left in both("unwritten", &["film.mve", "pictures", "65", "16"], prepare) {
             assert_eq!((left.code, left.files.len()), (Some(1), 0), "{file}");
             let begin = "\rfilm.mve: cannot write pictures/000000.ppm: ";
             assert!(left.messages.starts_with(begin), "{}", left.messages);
@@ -104,18 +135,44 @@ fn picture_that_cannot_be_written() {
     }
 }
 
-/// A picture that was there is not counted as the player's, whatever its number: nothing is written
-/// over it, and nothing beside it.
+/// A sound file that takes no more bytes than a limit lets it have.
 #[test]
-fn folder_with_pictures() {
-    for name in ["000000.ppm", "000016.ppm", "1000000.ppm", "other.ppm", ".ppm"] {
+fn sound_that_cannot_be_written() {
+    // 16-bit mono, and 65,535 samples of silence.
+    let format = [8, 0, 0x03, 0, 0, 0, 0b10, 0, 0x22, 0x56, 0, 0];
+    let silence = [6, 0, 0x09, 0, 0, 0, 1, 0, 0xFF, 0xFF];
+    let head = [22, 0, 0, 0];
+    let header = b"Interplay MVE File\x1A\0\x1A\0\0\x01\x33\x11";
+    let film = [&header[..], &head, &format, &silence].concat();
+    for (name, program) in players() {
+        let folder = fresh("unwritten_sound");
+        fs::write(folder.join("film.mve"), &film).expect("the film is written");
+        // Half of what it needs; the signal for it is ignored, so that the writing fails.
+        let limited = "trap '' XFSZ; ulimit -f 128; exec \"$0\" \"$@\"";
+        let program = program.to_str().expect("a name in UTF-8");
+        let arguments = ["-c", limited, program, "film.mve", "pictures", "65"];
+        let left = run(Path::new("/bin/sh"), &folder, &arguments);
+        assert_eq!(left.code, Some(1), "{name}: {}", left.messages);
+        let begin = "\rfilm.mve: cannot write pictures/000000.wav: ";
+        assert!(left.messages.starts_with(begin), "{name}: {}", left.messages);
+        assert_eq!(left.messages.lines().count(), 1, "{name}: {}", left.messages);
+    }
+}
+
+/// A picture or a sound file that was there is not counted as the player's, whatever its number:
+/// nothing is written over it, and nothing beside it.
+#[test]
+fn folder_with_pictures_or_sound() {
+    let pictures = ["000000.ppm", "000016.ppm", "1000000.ppm", "other.ppm", ".ppm"];
+    for name in pictures.into_iter().chain(["000000.wav", "000001.wav", "other.wav"]) {
         let prepare = |folder: &Path| {
             with_film(folder);
             fs::write(folder.join("pictures").join(name), "mine").expect("a picture");
         };
         for left in both("with_pictures", &["film.mve", "pictures", "65"], prepare) {
             assert_eq!(left.code, Some(1), "{name}");
-            let message = "\rfilm.mve: pictures has pictures already: give a folder without\n";
+            let message =
+                "\rfilm.mve: pictures has pictures or sound already: give a folder without\n";
             assert_eq!(left.messages, message, "{name}");
             assert_eq!(left.files, BTreeMap::from([(name.to_string(), b"mine".to_vec())]));
         }
@@ -125,7 +182,7 @@ fn folder_with_pictures() {
 /// Files of other names stay, and are not counted.
 #[test]
 fn folder_with_other_files() {
-    let others = ["ppm", "000000.ppm.txt", "000000.PPM", "notes"];
+    let others = ["ppm", "000000.ppm.txt", "000000.PPM", "wav", "000000.WAV", "notes"];
     let prepare = |folder: &Path| {
         with_film(folder);
         for name in others {
@@ -133,20 +190,22 @@ fn folder_with_other_files() {
         }
     };
     for left in both("with_others", &["film.mve", "pictures", "312000"], prepare) {
-        assert_eq!((left.code, left.files.len()), (Some(0), demo::FRAMES + others.len()));
-        let ended = format!("pictures: {}, stops: 0\n", demo::FRAMES);
+        assert_eq!((left.code, left.files.len()), (Some(0), demo::FRAMES + 1 + others.len()));
+        let ended = format!("pictures: {}, sound files: 1, stops: 0\n", demo::FRAMES);
         assert!(left.messages.ends_with(&ended), "{}", left.messages);
         assert!(others.iter().all(|&name| left.files[name] == b"mine"));
     }
 }
 
-/// A film without pictures leaves an empty folder.
+/// A film without pictures and sound leaves an empty folder.
 #[test]
 fn film_without_pictures() {
     for (name, program) in players() {
         let header = b"Interplay MVE File\x1A\0\x1A\0\0\x01\x33\x11";
-        let left = play(&program, "without_pictures", header, 65);
+        let options = Options { allowance: 65, stream: 0, every: None };
+        let left = play(&program, "without_pictures", header, &options);
         assert_eq!((left.code, left.files.len()), (Some(0), 0), "{name}");
-        assert_eq!(left.messages, "\rfilm.mve: ended at byte 26, pictures: 0, stops: 0\n");
+        let ended = "\rfilm.mve: ended at byte 26, pictures: 0, sound files: 0, stops: 0\n";
+        assert_eq!(left.messages, ended);
     }
 }

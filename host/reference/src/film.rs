@@ -1,10 +1,11 @@
 //! The film: header, chunks, opcodes, one step, the shown picture
-//! (01, "Film, chunks, opcodes" and "Numbers of refusal").
+//! (01, "Film, chunks, opcodes" and "Numbers of refusal"; 02, W5).
 
 use crate::frame::FrameSize;
 use crate::packet;
 use crate::palette;
 use crate::refusal::{self, Refusal};
+use crate::sound::{self, Sound};
 
 /// The 26 bytes that every film starts with: a title, then the words 001A, 0100, 1133.
 pub const HEADER: [u8; 26] = *b"Interplay MVE File\x1A\x00\x1A\x00\x00\x01\x33\x11";
@@ -13,19 +14,27 @@ pub const HEADER: [u8; 26] = *b"Interplay MVE File\x1A\x00\x1A\x00\x00\x01\x33\x
 const CHUNK_HEAD: usize = 4;
 /// Bytes of an opcode's head: word length, byte type, byte version.
 const OPCODE_HEAD: usize = 4;
+/// Bytes of the three words in front of the sound of opcodes 08 and 09.
+const AUDIO_FRONT: usize = 6;
 /// Bytes of opcode 11's body that are skipped in front of the packet.
 const VIDEO_FRONT: usize = 14;
 
-/// The opcode types that are acted on, by 003's names.
+/// The opcode types that are acted on, by 003's names; 03, 08 and 09 only where a stream is chosen.
 pub mod opcode {
     /// 00: end of stream. Ends the film, whatever follows its chunk.
     pub const END_OF_STREAM: u8 = 0x00;
     /// 01: end of chunk.
     pub const END_OF_CHUNK: u8 = 0x01;
+    /// 03: initialize audio buffers. Gives the format of the sound.
+    pub const INIT_AUDIO: u8 = 0x03;
     /// 05: initialize video buffers. Gives the frame size.
     pub const INIT_VIDEO: u8 = 0x05;
     /// 07: send buffer to display.
     pub const SEND: u8 = 0x07;
+    /// 08: audio frame with data.
+    pub const AUDIO_DATA: u8 = 0x08;
+    /// 09: audio frame of silence.
+    pub const AUDIO_SILENCE: u8 = 0x09;
     /// 0B: create gradient.
     pub const GRADIENT: u8 = 0x0B;
     /// 0C: set palette.
@@ -73,6 +82,8 @@ pub struct State {
     pub map: Option<Span>,
     /// A frame is finished and not sent to the display yet.
     pub unsent: bool,
+    /// The sound: its stream, format and last samples.
+    pub sound: Sound,
 }
 
 impl State {
@@ -84,13 +95,35 @@ impl State {
     fn size(&self) -> Option<FrameSize> {
         FrameSize::new(self.width, self.height).ok()
     }
+
+    /// As a step that moves the state gives it back.
+    fn settled(self) -> State {
+        State { sound: self.sound.settled(), ..self }
+    }
 }
 
-/// The answer to one step. Only drawing counts stores; every other step makes 0 (01).
+/// What is lent to a step beside the film.
+#[derive(Debug)]
+pub struct Lent<'a> {
+    /// The palette: 256 entries of red, green and blue.
+    pub palette: &'a mut [u8],
+    /// The first picture.
+    pub picture_a: &'a mut [u8],
+    /// The second picture.
+    pub picture_b: &'a mut [u8],
+    /// The place of the drawing.
+    pub place: &'a mut usize,
+    /// The room that samples are written to, from its front on.
+    pub room: &'a mut [u8],
+}
+
+/// The answer to one step. Only drawing counts stores; every other step makes 0 (01). Only 08 and
+/// 09 write to the room; every other step writes 0 bytes.
 #[derive(Clone, Copy, Debug, PartialEq, Eq)]
 pub enum Stepped {
-    /// A chunk head or an opcode other than 11 was taken.
-    Taken(State),
+    /// A chunk head or an opcode other than 11 was taken. With the bytes written to the room's
+    /// front, which only chosen sound has.
+    Taken(State, usize),
     /// Opcode 11 was taken: its frame is whole. With the stores made.
     Whole(State, usize),
     /// Opcode 11 drew as many stores as allowed and is to be stepped again. With the stores made.
@@ -121,8 +154,9 @@ pub struct OpcodeHead {
     pub body: Span,
 }
 
-/// Opens a film: the header is tested (refusal 1) and nothing lent is touched.
-pub fn open(film: &[u8]) -> Result<State, Refusal> {
+/// Opens a film for a stream of its sound: the header is tested (refusal 1) and nothing lent is
+/// touched. A stream number above 15 has opcodes 03, 08 and 09 passed over.
+pub fn open(film: &[u8], stream: usize) -> Result<State, Refusal> {
     if !film.starts_with(&HEADER) {
         return Err(Refusal::new(refusal::HEADER));
     }
@@ -134,6 +168,7 @@ pub fn open(film: &[u8]) -> Result<State, Refusal> {
         front: 0,
         map: None,
         unsent: false,
+        sound: Sound::new(stream),
     })
 }
 
@@ -173,17 +208,13 @@ pub fn opcode_head(film: &[u8], position: usize, chunk_end: usize) -> Result<Opc
 ///
 /// Refusals come in the order 16, 8, 2 for a chunk head, and 16, 8, 3, 4, 5, then the opcode's
 /// own. While drawing is unfinished the state stays, so that the next step draws on.
-pub fn step(
-    film: &[u8],
-    state: State,
-    palette: &mut [u8],
-    picture_a: &mut [u8],
-    picture_b: &mut [u8],
-    place: &mut usize,
-    allowed: usize,
-) -> Stepped {
-    let mut lent = Lent { palette, picture_a, picture_b, place };
-    take_step(film, state, &mut lent, allowed).unwrap_or_else(Stepped::Refused)
+pub fn step(film: &[u8], state: State, mut lent: Lent<'_>, allowed: usize) -> Stepped {
+    match take_step(film, state, &mut lent, allowed) {
+        Ok(Stepped::Taken(after, bytes)) => Stepped::Taken(after.settled(), bytes),
+        Ok(Stepped::Whole(after, stores)) => Stepped::Whole(after.settled(), stores),
+        Ok(stays) => stays,
+        Err(refusal) => Stepped::Refused(refusal),
+    }
 }
 
 /// The shown picture: the leading part of whichever lent picture is front, empty where there is
@@ -195,14 +226,6 @@ pub fn shown<'a>(state: &State, picture_a: &'a [u8], picture_b: &'a [u8]) -> &'a
         _ => return &[],
     };
     state.size().and_then(|size| picture.get(..size.pixels())).unwrap_or(&[])
-}
-
-/// What is lent to a step beside the film.
-struct Lent<'a> {
-    palette: &'a mut [u8],
-    picture_a: &'a mut [u8],
-    picture_b: &'a mut [u8],
-    place: &'a mut usize,
 }
 
 fn take_step(
@@ -225,7 +248,8 @@ fn check_state(film: &[u8], state: &State) -> Result<(), Refusal> {
     let cursor_can_be = state.position <= state.chunk_end && state.chunk_end <= film.len();
     let map_can_be = state.map.is_none_or(|map| map.of(film).is_some());
     let size_can_be = state.has_no_size() || state.size().is_some();
-    if cursor_can_be && map_can_be && state.front <= 1 && size_can_be {
+    let sound_can_be = state.sound.can_be();
+    if cursor_can_be && map_can_be && state.front <= 1 && size_can_be && sound_can_be {
         Ok(())
     } else {
         Err(Refusal::new(refusal::STATE))
@@ -248,7 +272,8 @@ fn enter_chunk(film: &[u8], state: State) -> Result<Stepped, Refusal> {
         return Ok(Stepped::Ended(state));
     }
     let body = chunk_head(film, state.position)?.body;
-    Ok(Stepped::Taken(State { position: body.start, chunk_end: body.start + body.length, ..state }))
+    let chunk_end = body.start + body.length;
+    Ok(taken(State { position: body.start, chunk_end, ..state }))
 }
 
 fn take_opcode(
@@ -258,6 +283,10 @@ fn take_opcode(
     allowed: usize,
 ) -> Result<Stepped, Refusal> {
     let head = opcode_head(film, state.position, state.chunk_end)?;
+    let moved = State { position: head.body.start + head.body.length, ..state };
+    if is_passed_over(head.kind, &state.sound) {
+        return Ok(taken(moved));
+    }
     if !takes_version(head.kind, head.version) {
         return Err(Refusal::new(refusal::TYPE_OR_VERSION));
     }
@@ -265,36 +294,60 @@ fn take_opcode(
         return Err(Refusal::new(refusal::BODY_LENGTH));
     }
     let body = &film[head.body.start..][..head.body.length];
-    let moved = State { position: head.body.start + head.body.length, ..state };
     match head.kind {
-        opcode::END_OF_STREAM => Ok(Stepped::Taken(at_end(film, state))),
-        opcode::INIT_VIDEO => init_video(body, moved).map(Stepped::Taken),
-        opcode::SEND => Ok(Stepped::Taken(send(moved))),
-        opcode::GRADIENT => {
-            palette::create_gradient(body, lent.palette).map(|()| Stepped::Taken(moved))
-        }
-        opcode::PALETTE => palette::set_palette(body, lent.palette).map(|()| Stepped::Taken(moved)),
+        opcode::END_OF_STREAM => Ok(taken(at_end(film, state))),
+        opcode::INIT_VIDEO => init_video(body, moved).map(taken),
+        opcode::SEND => Ok(taken(send(moved))),
+        opcode::GRADIENT => palette::create_gradient(body, lent.palette).map(|()| taken(moved)),
+        opcode::PALETTE => palette::set_palette(body, lent.palette).map(|()| taken(moved)),
         opcode::PALETTE_COMPRESSED => {
-            palette::set_palette_compressed(body, lent.palette).map(|()| Stepped::Taken(moved))
+            palette::set_palette_compressed(body, lent.palette).map(|()| taken(moved))
         }
         opcode::MAP => {
             *lent.place = 0;
-            let map = Some(head.body);
-            Ok(Stepped::Taken(State { map, ..moved }))
+            Ok(taken(State { map: Some(head.body), ..moved }))
         }
         opcode::VIDEO => draw_video(film, &body[VIDEO_FRONT..], state, moved, lent, allowed),
-        _ => Ok(Stepped::Taken(moved)),
+        opcode::INIT_AUDIO => {
+            let sound = sound::initialize(state.sound, head.version, body)?;
+            Ok(taken(State { sound, ..moved }))
+        }
+        opcode::AUDIO_DATA => {
+            let (sound, bytes) = sound::data(state.sound, body, lent.room)?;
+            Ok(Stepped::Taken(State { sound, ..moved }, bytes))
+        }
+        opcode::AUDIO_SILENCE => {
+            let bytes = sound::silence(state.sound, body, lent.room)?;
+            Ok(Stepped::Taken(moved, bytes))
+        }
+        _ => Ok(taken(moved)),
     }
 }
 
-/// Whether a type is acted on or passed over in this version (refusal 4).
+/// The answer to a step that writes nothing to the room.
+fn taken(state: State) -> Stepped {
+    Stepped::Taken(state, 0)
+}
+
+/// Whether a type is passed over unread, in any version and length: sound where no stream is
+/// chosen, and what has no part in pictures and sound.
+fn is_passed_over(kind: u8, sound: &Sound) -> bool {
+    match kind {
+        0x02 | 0x04 | 0x0A | 0x12..=0x15 => true,
+        opcode::INIT_AUDIO | opcode::AUDIO_DATA | opcode::AUDIO_SILENCE => !sound.chooses(),
+        _ => false,
+    }
+}
+
+/// Whether a type is acted on in this version (refusal 4).
 fn takes_version(kind: u8, version: u8) -> bool {
     match kind {
-        0x02 | 0x03 | 0x04 | 0x08 | 0x09 | 0x0A | 0x12..=0x15 => true,
         opcode::INIT_VIDEO => version <= 2,
-        opcode::SEND => version <= 1,
+        opcode::SEND | opcode::INIT_AUDIO => version <= 1,
         opcode::END_OF_STREAM
         | opcode::END_OF_CHUNK
+        | opcode::AUDIO_DATA
+        | opcode::AUDIO_SILENCE
         | opcode::GRADIENT
         | opcode::PALETTE
         | opcode::PALETTE_COMPRESSED
@@ -310,6 +363,9 @@ fn takes_length(kind: u8, version: u8, length: usize) -> bool {
     match kind {
         opcode::END_OF_STREAM | opcode::END_OF_CHUNK => length == 0,
         opcode::INIT_VIDEO | opcode::SEND => length == 4 + 2 * usize::from(version),
+        opcode::INIT_AUDIO => length == 8 + 2 * usize::from(version),
+        opcode::AUDIO_DATA => length >= AUDIO_FRONT,
+        opcode::AUDIO_SILENCE => length == AUDIO_FRONT,
         opcode::GRADIENT => length == 6,
         opcode::VIDEO => length >= VIDEO_FRONT,
         _ => true,

@@ -1,9 +1,9 @@
-//! A second decoder for Interplay MVE films with 8-bit pictures.
+//! A second decoder for Interplay MVE films with 8-bit pictures and sound.
 //!
 //! It is written from the documents alone and shares nothing with the player core it is held
 //! against: straightforward rather than fast, one short function for each rule. In comments "01"
-//! is the scope document, which decides over source document "003" (the file), which decides over
-//! source document "000" (the blocks).
+//! is the scope document with the requests of document "02", which decide over source document
+//! "003" (the file), which decides over source document "000" (the blocks).
 //!
 //! Every function takes plain slices and numbers and answers on any input; none of them wraps
 //! around or panics. A refused call leaves everything lent to it as it was.
@@ -15,6 +15,8 @@
 //! | [`packet`] | map and data of one frame: checking and drawing |
 //! | [`book`] | what a list of drawing calls must do, worked out without drawing |
 //! | [`palette`] | opcodes 0B, 0C, 0D |
+//! | [`sound`] | opcodes 03, 08, 09 |
+//! | [`steps`] | the table of compressed sound |
 //! | [`film`] | header, chunks, opcodes, one step, the shown picture |
 //! | [`listing`] | the text that the listing program writes |
 //! | [`pictures`] | the pictures that a film sends, as the example players write them |
@@ -28,6 +30,8 @@ pub mod packet;
 pub mod palette;
 pub mod pictures;
 pub mod refusal;
+pub mod sound;
+pub mod steps;
 
 pub use block::{source, Source};
 pub use packet::{check, draw, Drawn};

@@ -1,7 +1,8 @@
 //! The text that the listing program writes for a film (01, "Checked by hand").
 
-use crate::film::{self, State, Stepped};
+use crate::film::{self, Lent, State, Stepped};
 use crate::palette;
+use crate::sound::NO_STREAM;
 
 /// Bytes of the longest film that is listed.
 pub const MAX_FILM: usize = 24_576;
@@ -13,12 +14,13 @@ pub const STORES_A_STEP: usize = 312_000;
 const HEADING: &str = "at type version length\n";
 const TOO_LARGE: &str = "too large\n";
 
-/// Lists a film: a heading, a line for each opcode taken, then how it ended.
+/// Lists a film: a heading, a line for each opcode taken, then how it ended. No stream is chosen
+/// (02, W5).
 pub fn list(film: &[u8]) -> String {
     if film.len() > MAX_FILM {
         return TOO_LARGE.to_string();
     }
-    let lines = match film::open(film) {
+    let lines = match film::open(film, NO_STREAM) {
         Ok(state) => lines(film, state),
         Err(refusal) => format!("refused {} 0\n", refusal.number),
     };
@@ -32,8 +34,15 @@ fn lines(film: &[u8], opened: State) -> String {
     let mut lines = String::new();
     let mut state = opened;
     loop {
-        match film::step(film, state, &mut palette, &mut a, &mut b, &mut place, STORES_A_STEP) {
-            Stepped::Taken(after) | Stepped::Whole(after, _) => {
+        let lent = Lent {
+            palette: &mut palette,
+            picture_a: &mut a,
+            picture_b: &mut b,
+            place: &mut place,
+            room: &mut [],
+        };
+        match film::step(film, state, lent, STORES_A_STEP) {
+            Stepped::Taken(after, _) | Stepped::Whole(after, _) => {
                 lines += &opcode_line(film, &state);
                 if after.width * after.height > MAX_PIXELS {
                     return lines + TOO_LARGE;

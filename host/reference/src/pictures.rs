@@ -1,6 +1,7 @@
-//! The pictures that a film sends, as PPM files: what the example players are held to.
+//! The pictures that a film sends, as PPM files, and the samples of its sound: what the example
+//! players are held to.
 
-use crate::film::{self, State, Stepped};
+use crate::film::{self, opcode, Lent, State, Stepped};
 use crate::palette;
 use crate::refusal::Refusal;
 
@@ -8,43 +9,103 @@ use crate::refusal::Refusal;
 const MAX_PIXELS: usize = 640 * 480;
 /// Stores of the largest frame: every packet is drawn by one step.
 const STORES_A_STEP: usize = 312_000;
+/// Bytes of the longest packet's samples: a word counts them, and each has two bytes at most.
+const ROOM: usize = 2 * 65_535;
 
 /// What playing a film gives.
 #[derive(Clone, Debug, PartialEq, Eq)]
 pub struct Played {
     /// The pictures sent, in order, each as the bytes of a PPM file.
     pub pictures: Vec<Vec<u8>>,
+    /// The sound of the stream. Opcode 03 begins another recording unless channels, bits and rate
+    /// stay as they are.
+    pub recordings: Vec<Recording>,
     /// Where the film ended or was refused; 0 at opening.
     pub position: usize,
     /// The refusal, if the film did not end.
     pub refusal: Option<Refusal>,
 }
 
-/// Plays a film from zero pictures and palette, each frame drawn at once.
-pub fn play(film: &[u8]) -> Played {
-    let mut pictures = Vec::new();
-    let mut state = match film::open(film) {
+/// Sound of one format.
+#[derive(Clone, Debug, PartialEq, Eq)]
+pub struct Recording {
+    /// Two channels, left and right in turn; else one.
+    pub stereo: bool,
+    /// 16-bit samples, low byte first; else 8-bit ones.
+    pub wide: bool,
+    /// Samples of a channel in a second (003).
+    pub rate: u16,
+    /// The samples as bytes.
+    pub samples: Vec<u8>,
+}
+
+/// Plays a film from zero pictures and palette, each frame drawn at once, with the sound of a
+/// stream.
+pub fn play(film: &[u8], stream: usize) -> Played {
+    let (mut pictures, mut recordings) = (Vec::new(), Vec::new());
+    let mut state = match film::open(film, stream) {
         Ok(state) => state,
-        Err(refusal) => return Played { pictures, position: 0, refusal: Some(refusal) },
+        Err(refusal) => {
+            return Played { pictures, recordings, position: 0, refusal: Some(refusal) };
+        }
     };
     let (mut colours, mut place) = (vec![0; palette::LENGTH], 0);
     let (mut a, mut b) = (vec![0; MAX_PIXELS], vec![0; MAX_PIXELS]);
+    let mut room = vec![0; ROOM];
     let refusal = loop {
-        match film::step(film, state, &mut colours, &mut a, &mut b, &mut place, STORES_A_STEP) {
-            Stepped::Taken(after) | Stepped::Whole(after, _) => {
+        let lent = Lent {
+            palette: &mut colours,
+            picture_a: &mut a,
+            picture_b: &mut b,
+            place: &mut place,
+            room: &mut room,
+        };
+        match film::step(film, state, lent, STORES_A_STEP) {
+            Stepped::Taken(after, bytes) => {
                 // Only a frame that is sent changes the roles (01, opcode 07).
                 if after.front != state.front {
                     pictures.push(ppm(&after, film::shown(&after, &a, &b), &colours));
                 }
+                record(&mut recordings, film, &state, &after, &room[..bytes]);
                 state = after;
             }
+            Stepped::Whole(after, _) => state = after,
             // Not met: no frame has more stores than a step is allowed.
             Stepped::Unfinished(same, _) => state = same,
             Stepped::Ended(_) => break None,
             Stepped::Refused(refusal) => break Some(refusal),
         }
     };
-    Played { pictures, position: state.position, refusal }
+    Played { pictures, recordings, position: state.position, refusal }
+}
+
+/// Goes on with the sound after a step that was taken: by another recording behind an opcode 03, and
+/// by the samples that the step wrote.
+fn record(
+    recordings: &mut Vec<Recording>,
+    film: &[u8],
+    before: &State,
+    after: &State,
+    written: &[u8],
+) {
+    if let Some(rate) = rate_of_format(film, before) {
+        let (stereo, wide) = (after.sound.stereo, after.sound.wide);
+        let last = recordings.last().map(|last| (last.stereo, last.wide, last.rate));
+        if last != Some((stereo, wide, rate)) {
+            recordings.push(Recording { stereo, wide, rate, samples: Vec::new() });
+        }
+    }
+    if let Some(last) = recordings.last_mut() {
+        last.samples.extend(written);
+    }
+}
+
+/// The rate that an opcode 03 gives where a step in this state takes one: its third word.
+fn rate_of_format(film: &[u8], state: &State) -> Option<u16> {
+    let head = film::opcode_head(film, state.position, state.chunk_end).ok()?;
+    let is_acted_on = head.kind == opcode::INIT_AUDIO && state.sound.chooses();
+    let rate = head.body.of(film)?.get(4..6)?;
+    is_acted_on.then(|| u16::from_le_bytes([rate[0], rate[1]]))
 }
 
 /// A picture as a PPM file: a heading, then red, green and blue of each pixel.

@@ -1,4 +1,4 @@
-//! The numbers of refusal (01, "Numbers of refusal").
+//! The numbers of refusal (01, "Numbers of refusal"; 17 to 19: 02, W5).
 
 use std::fmt;
 
@@ -34,11 +34,17 @@ pub const COPY_OUTSIDE: u8 = 14;
 pub const DATA_LEFT: u8 = 15;
 /// A film state that cannot be.
 pub const STATE: u8 = 16;
+/// Chosen sound before its format, or a format both 8-bit and compressed.
+pub const SOUND_FORMAT: u8 = 17;
+/// Sound data not as long as the sample count says, or a count that cannot be.
+pub const SOUND_LENGTH: u8 = 18;
+/// Room too small for what is to be written.
+pub const ROOM: u8 = 19;
 
 /// Why a call was refused. Nothing lent to the call was changed.
 #[derive(Clone, Copy, Debug, PartialEq, Eq, PartialOrd, Ord, Hash)]
 pub struct Refusal {
-    /// Document 01's number, 1 to 16.
+    /// The documents' number, 1 to 19.
     pub number: u8,
     /// The block that met 12, 13 or 14; else 0.
     pub block: usize,
@@ -74,6 +80,9 @@ impl Refusal {
             COPY_OUTSIDE => "copied block not inside the picture",
             DATA_LEFT => "data bytes left over behind the last block",
             STATE => "film state cannot be",
+            SOUND_FORMAT => "sound before its format, or a format both 8-bit and compressed",
+            SOUND_LENGTH => "sound data or sample count of a wrong length",
+            ROOM => "room too small for the samples",
             _ => "unknown number of refusal",
         }
     }

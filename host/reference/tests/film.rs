@@ -1,11 +1,16 @@
 //! Opening, stepping and the shown picture: 01's rules for films, the refusals 1 to 11 and 16 met
-//! there, and the points that 01 leaves to reading.
+//! there, and the points that 01 leaves to reading. No stream of sound is chosen here.
 
 mod common;
 
 use common::{chunk, film, hex, opcode, send, size, video, Lent};
-use reference::film::{chunk_head, opcode_head, open, shown, Span, State, Stepped};
+use reference::film::{self as films, chunk_head, opcode_head, shown, Span, State, Stepped};
+use reference::sound::{Sound, NO_STREAM};
 use reference::Refusal;
+
+fn open(film: &[u8]) -> Result<State, Refusal> {
+    films::open(film, NO_STREAM)
+}
 
 fn refused(number: u8) -> Stepped {
     Stepped::Refused(Refusal { number, block: 0 })
@@ -20,7 +25,7 @@ fn first_opcode(opcodes: &[Vec<u8>]) -> Stepped {
 }
 
 fn is_taken(stepped: Stepped) -> bool {
-    matches!(stepped, Stepped::Taken(_))
+    matches!(stepped, Stepped::Taken(..))
 }
 
 /// A film with one 8x8 frame of one solid block, unsent.
@@ -41,6 +46,7 @@ fn number_1_header() {
         front: 0,
         map: None,
         unsent: false,
+        sound: Sound::new(NO_STREAM),
     };
     assert_eq!(open(&good), Ok(opened));
     assert_eq!(open(&one_frame()), Ok(opened));
@@ -209,7 +215,7 @@ fn passed_over() {
             let before = lent.clone();
             let entered = lent.steps(&film, open(&film).expect("a good header"), 1);
             let after = State { position: 34 + length, ..entered };
-            assert_eq!(lent.step(&film, entered, 0), Stepped::Taken(after));
+            assert_eq!(lent.step(&film, entered, 0), Stepped::Taken(after, 0));
             assert_eq!(lent, before);
         }
     }
@@ -227,7 +233,7 @@ fn end_of_stream() {
     let state = lent.steps(&film, open(&film).expect("a good header"), 2);
     let at_end = State { position: film.len(), chunk_end: film.len(), ..state };
     assert_eq!(state.map.map(|map| map.length), Some(1));
-    assert_eq!(lent.step(&film, state, 0), Stepped::Taken(at_end));
+    assert_eq!(lent.step(&film, state, 0), Stepped::Taken(at_end, 0));
     assert_eq!(lent.step(&film, at_end, 0), Stepped::Ended(at_end));
     assert_eq!(lent.step(&film, at_end, 0), Stepped::Ended(at_end));
 }
@@ -252,7 +258,7 @@ fn init_video() {
     for (version, body) in
         [(0, "08 00 10 00"), (1, "08 00 10 00 ff ff"), (2, "08 00 10 00 ff ff 00 00")]
     {
-        let Stepped::Taken(state) = first_opcode(&[opcode(0x05, version, &hex(body))]) else {
+        let Stepped::Taken(state, 0) = first_opcode(&[opcode(0x05, version, &hex(body))]) else {
             panic!("version {version} not taken");
         };
         assert_eq!((state.width, state.height), (8, 16));
@@ -369,7 +375,7 @@ fn set_map() {
     let entered = lent.steps(&film, open(&film).expect("a good header"), 1);
     let map = Span { start: 34, length: 3 };
     let after = State { position: 37, map: Some(map), ..entered };
-    assert_eq!(lent.step(&film, entered, 0), Stepped::Taken(after));
+    assert_eq!(lent.step(&film, entered, 0), Stepped::Taken(after, 0));
     assert_eq!(map.of(&film), Some(&hex("aa bb cc")[..]));
     assert_eq!(lent.place, 0);
 }
@@ -502,7 +508,7 @@ fn other_steps_ignore_the_allowance() {
     let mut state = open(&film).expect("a good header");
     for _ in 0..4 {
         match lent.step(&film, state, 0) {
-            Stepped::Taken(after) => state = after,
+            Stepped::Taken(after, 0) => state = after,
             other => panic!("{other:?}"),
         }
     }

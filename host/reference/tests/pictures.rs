@@ -3,8 +3,13 @@
 mod common;
 
 use common::{chunk, film, opcode, send, size, video};
-use reference::pictures::play;
+use reference::pictures::{self, Played};
+use reference::sound::NO_STREAM;
 use reference::Refusal;
+
+fn play(film: &[u8]) -> Played {
+    pictures::play(film, NO_STREAM)
+}
 
 /// Opcodes 0F and 11 of a frame of one solid block.
 fn solid(colour: u8) -> [Vec<u8>; 2] {

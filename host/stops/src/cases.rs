@@ -4,7 +4,8 @@
 use crate::kept::{Memory, Numbers};
 use crate::list::{self, Packet, Store};
 use crate::state;
-use reference::film::{State, Stepped};
+use mve::ROOM_BYTES;
+use reference::film::{Lent, State, Stepped};
 
 /// A process to stop, and what is expected at a stop.
 pub trait Case {
@@ -123,17 +124,29 @@ pub struct Step {
     pub before: Memory,
     /// Its answer; the stores of a drawing are those from place 0 on.
     pub answer: Stepped,
+    /// What it writes to the room's front.
+    pub samples: Vec<u8>,
 }
 
 impl Walk {
-    /// A walk over a valid film.
-    pub fn new(film: Vec<u8>, first: Memory, allowed: usize) -> Walk {
-        let opened = reference::film::open(&film).expect("a valid film");
+    /// A walk over a valid film, for a stream of its sound.
+    pub fn new(film: Vec<u8>, stream: usize, first: Memory, allowed: usize) -> Walk {
+        let opened = reference::film::open(&film, stream).expect("a valid film");
         let found = Memory { state: state::second_numbers(opened), ..first };
         let (stores, calls) = listed_walk(&film, opened, found.clone(), allowed);
         let answer = format!("ended after {calls} steps\n");
-        let steps = steps(&film, found.clone());
+        let steps = steps(&film, stream, found.clone());
         Walk { film, allowed, found, stores, answer, steps }
+    }
+
+    /// The steps that nothing stops.
+    pub fn steps(&self) -> &[Step] {
+        &self.steps
+    }
+
+    /// The same, for a fault that is planted in what is expected.
+    pub fn steps_mut(&mut self) -> &mut [Step] {
+        &mut self.steps
     }
 }
 
@@ -152,8 +165,8 @@ fn listed_walk(
         }
         let mut model = memory.clone();
         listed.iter().for_each(|&store| model.make(store));
-        let next = match second_step(film, state, &mut memory, allowed) {
-            Stepped::Taken(next) | Stepped::Whole(next, _) => next,
+        let next = match second_step(film, state, &mut memory, allowed).0 {
+            Stepped::Taken(next, _) | Stepped::Whole(next, _) => next,
             Stepped::Unfinished(same, _) => same,
             Stepped::Ended(_) => return (stores, calls),
             Stepped::Refused(refusal) => panic!("a valid film is refused: {refusal:?}"),
@@ -171,19 +184,19 @@ fn listed_walk(
 }
 
 /// The steps of a film that nothing stops.
-pub fn steps(film: &[u8], mut memory: Memory) -> Vec<Step> {
-    let mut state = reference::film::open(film).expect("a valid film");
+pub fn steps(film: &[u8], stream: usize, mut memory: Memory) -> Vec<Step> {
+    let mut state = reference::film::open(film, stream).expect("a valid film");
     memory.state = state::second_numbers(state);
     let mut steps = Vec::new();
     loop {
         let before = memory.clone();
-        let answer = second_step(film, state, &mut memory, usize::MAX);
+        let (answer, samples) = second_step(film, state, &mut memory, usize::MAX);
         let next = match answer {
-            Stepped::Taken(next) | Stepped::Whole(next, _) | Stepped::Ended(next) => next,
+            Stepped::Taken(next, _) | Stepped::Whole(next, _) | Stepped::Ended(next) => next,
             other => panic!("a valid film is answered {other:?}"),
         };
         memory.state = state::second_numbers(next);
-        steps.push(Step { state, before, answer });
+        steps.push(Step { state, before, answer, samples });
         if let Stepped::Ended(_) = answer {
             return steps;
         }
@@ -197,10 +210,19 @@ pub fn at(steps: &[Step], state: Numbers) -> Result<usize, String> {
     step.ok_or_else(|| format!("the saved state is none of the film's: {state:?}"))
 }
 
-/// A step of the second decoder.
-fn second_step(film: &[u8], state: State, memory: &mut Memory, allowed: usize) -> Stepped {
-    let Memory { palette, pictures: [a, b], place, .. } = memory;
-    reference::film::step(film, state, palette, a, b, place, allowed)
+/// A step of the second decoder, and the samples that it writes.
+fn second_step(
+    film: &[u8],
+    state: State,
+    memory: &mut Memory,
+    allowed: usize,
+) -> (Stepped, Vec<u8>) {
+    let Memory { palette, pictures: [picture_a, picture_b], place, .. } = memory;
+    let mut room = vec![0; ROOM_BYTES];
+    let lent = Lent { palette, picture_a, picture_b, place, room: &mut room };
+    let stepped = reference::film::step(film, state, lent, allowed);
+    room.truncate(if let Stepped::Taken(_, bytes) = stepped { bytes } else { 0 });
+    (stepped, room)
 }
 
 impl Case for Walk {
@@ -222,22 +244,25 @@ impl Case for Walk {
 
     fn go_on(&self, left: &Memory) -> Result<(), String> {
         let stopped = at(&self.steps, left.state)?;
-        let Step { state, answer: undisturbed, .. } = &self.steps[stopped];
+        let Step { state, answer: undisturbed, samples, .. } = &self.steps[stopped];
         // Behind the last step nothing is changed.
         let after = self.steps.get(stopped + 1).unwrap_or(&self.steps[stopped]);
         let mut memory = left.clone();
         let Memory { palette, pictures: [a, b], place, .. } = &mut memory;
-        let given = state::of_numbers(left.state);
-        let step = mve::step(&self.film, given, palette, a, b, place, usize::MAX)
+        let (given, mut room) = (state::of_numbers(left.state), vec![0; samples.len()]);
+        let step = mve::step(&self.film, given, palette, a, b, place, &mut room, usize::MAX)
             .map_err(|refusal| format!("the new step is refused: {refusal}"))?;
         memory.state = state::numbers(step.state());
         let packet = list::packet_at(&self.film, state);
         let due = packet.map_or(0, |packet| list::due(&packet, left.place));
         match (undisturbed, step) {
-            (Stepped::Taken(_), mve::Step::Taken(_)) | (Stepped::Ended(_), mve::Step::Ended(_)) => {
-            }
+            (Stepped::Taken(_, bytes), mve::Step::Taken(_, again)) if *bytes == again => {}
+            (Stepped::Ended(_), mve::Step::Ended(_)) => {}
             (Stepped::Whole(..), mve::Step::Whole(_, stores)) if stores == due => {}
             _ => return Err(format!("the new step answers {step:?}, not {undisturbed:?}")),
+        }
+        if room != *samples {
+            return Err("the samples are not as they are when nothing is stopped".to_string());
         }
         same(&memory, &after.before)
     }
@@ -260,7 +285,7 @@ fn same(memory: &Memory, undisturbed: &Memory) -> Result<(), String> {
 }
 
 /// No state: of a drawing call, which has none.
-pub const NO_STATE: Numbers = [0; 9];
+pub const NO_STATE: Numbers = [0; 17];
 
 /// Bytes as an argument.
 fn hex(bytes: &[u8]) -> String {

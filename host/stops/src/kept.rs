@@ -10,7 +10,7 @@ use std::os::unix::fs::FileExt;
 use std::sync::atomic::{AtomicUsize, Ordering};
 
 /// A state of a film as numbers, in the order of include/mve.h.
-pub type Numbers = [usize; 9];
+pub type Numbers = [usize; 17];
 
 /// What is kept, each picture with so many bytes lent.
 #[repr(C)]

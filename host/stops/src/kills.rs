@@ -8,6 +8,7 @@ use crate::made;
 use crate::stopped;
 use maker::film::Film;
 use maker::{Profile, Seeded, Size};
+use mve::NO_STREAM;
 use std::env;
 use std::fs::{self, File};
 use std::io::{self, Read, Seek, Write};
@@ -106,7 +107,7 @@ fn film(rng: &mut Seeded) -> Film {
         }
         chunks.push(made::chunk(opcodes));
     }
-    Film { size: SIZE, chunks, tail: Vec::new() }
+    Film { size: SIZE, stream: NO_STREAM, chunks, tail: Vec::new() }
 }
 
 /// Plays a film again and again, until players have been killed so often; the last one is let play to
@@ -115,7 +116,7 @@ pub fn kill(program: &Path, player: Player, seed: u64, kills: usize) -> io::Resu
     let rng = &mut Seeded::new(seed);
     let bytes = film(rng).bytes();
     let film = Stored::new(&bytes)?;
-    let steps = cases::steps(&bytes, made::memory(rng, LENT));
+    let steps = cases::steps(&bytes, NO_STREAM, made::memory(rng, LENT));
     let sent = pictures(&steps);
     let mut killed = Killed::default();
     while killed.kills < kills {

@@ -1,4 +1,4 @@
-//! Seeded cases: packets and films of every kind of block.
+//! Seeded cases: packets and films of every kind of block, of palettes and of sound.
 
 use crate::cases::{Drawing, Walk, NO_STATE};
 use crate::kept::Memory;
@@ -6,7 +6,9 @@ use crate::stopped::LENT;
 use maker::calls::allowance;
 use maker::film::{packet_opcodes, Chunk, Film, Opcode};
 use maker::packet::Draft;
+use maker::sound::Format;
 use maker::{Form, Profile, Seeded, Size};
+use mve::NO_STREAM;
 
 /// Memory with any colours and any pixels, so that nearly every store changes it.
 pub fn memory(rng: &mut Seeded, lent: usize) -> Memory {
@@ -47,15 +49,41 @@ pub fn walk(rng: &mut Seeded, profile: Profile, allowed: usize) -> Walk {
     let first = [vec![init_video(size)], first, vec![Opcode::new(0x01, 0, Vec::new())]];
     let second = [second, vec![Opcode::new(0x00, 0, Vec::new())]];
     let chunks = vec![chunk(first.concat()), chunk(second.concat())];
-    let film = Film { size, chunks, tail: Vec::new() };
-    Walk::new(film.bytes(), memory(rng, LENT), allowed)
+    let film = Film { size, stream: NO_STREAM, chunks, tail: Vec::new() };
+    Walk::new(film.bytes(), NO_STREAM, memory(rng, LENT), allowed)
 }
 
 /// A walk over a film that changes the palette by each of its three opcodes.
 pub fn palette_walk(rng: &mut Seeded) -> Walk {
     let opcodes = vec![gradients(rng), set_palette(rng), set_palette_compressed(rng)];
-    let film = Film { size: Size::new(1, 1), chunks: vec![chunk(opcodes)], tail: Vec::new() };
-    Walk::new(film.bytes(), memory(rng, LENT), 0)
+    Walk::new(film_of(NO_STREAM, opcodes), NO_STREAM, memory(rng, LENT), 0)
+}
+
+/// A walk over a film with sound of a format: two packets, silence and another packet, for a stream.
+pub fn sound_walk(rng: &mut Seeded, format: Format) -> Walk {
+    let (stream, channels) = (rng.below(16), format.channels());
+    let flags = [format.stereo, format.wide, format.compressed];
+    let flags = (0..).zip(flags).map(|(bit, set)| u16::from(set) << bit).sum();
+    let words = |words: &[u16]| -> Vec<u8> { words.iter().flat_map(|w| w.to_le_bytes()).collect() };
+    let mut opcodes = vec![Opcode::new(0x03, 1, words(&[0, flags, 22_050, 0, 0]))];
+    for (number, kind) in [0x08, 0x08, 0x09, 0x08].into_iter().enumerate() {
+        let count = channels * rng.between(1, 4);
+        let start_words = if number == 0 { channels } else { 0 };
+        let length = match kind {
+            0x09 => 0,
+            _ if format.compressed => count + start_words,
+            _ => count * format.sample_bytes(),
+        };
+        let front = words(&[number as u16, 1 << stream, count as u16]);
+        opcodes.push(Opcode::new(kind, 0, [front, rng.bytes(length)].concat()));
+    }
+    Walk::new(film_of(stream, opcodes), stream, memory(rng, LENT), 0)
+}
+
+/// A film of one chunk of these opcodes.
+fn film_of(stream: usize, opcodes: Vec<Opcode>) -> Vec<u8> {
+    let chunks = vec![chunk(opcodes)];
+    Film { size: Size::new(1, 1), stream, chunks, tail: Vec::new() }.bytes()
 }
 
 /// A chunk of these opcodes.

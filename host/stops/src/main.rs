@@ -1,7 +1,8 @@
-//! A long run by hand, `stops SEED COUNT`: steps so many drawings, walks over films and changes of the
-//! palette, and kills a player so often. With other arguments it is the process that is stopped.
+//! A long run by hand, `stops SEED COUNT`: steps so many drawings, walks over films, changes of the
+//! palette and films with sound, and kills a player so often. With other arguments it is the process that is stopped.
 
 use maker::calls::allowance;
+use maker::sound::Format;
 use maker::{Profile, Seeded};
 use std::env;
 use std::io;
@@ -58,6 +59,8 @@ fn long(seed: u64, count: usize) -> io::Result<String> {
         drawings += stepped(&program, &made::drawing(rng), number)?;
         walks += stepped(&program, &made::walk(rng, profile, allowed), number)?;
         walks += stepped(&program, &made::palette_walk(rng), number)?;
+        let format = rng.pick(&Format::ALL);
+        walks += stepped(&program, &made::sound_walk(rng, format), number)?;
     }
     let killed = kills::kill(&program, Player::Right, seed, count)?;
     Ok(format!("drawings: {drawings:?}\nwalks: {walks:?}\nkills: {killed:?}\n"))

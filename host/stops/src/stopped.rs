@@ -5,7 +5,7 @@ use crate::ffi;
 use crate::kept::Kept;
 use crate::state;
 use crate::wrong::{self, Wrong};
-use mve::{Drawn, State, Step};
+use mve::{Drawn, State, Step, ROOM_BYTES};
 use std::io;
 
 /// The bytes of each picture that are lent to a process that is stepped: more than the pixels of any
@@ -68,16 +68,18 @@ pub fn walk<const LENT: usize>(
     allowed: usize,
     mut send: impl FnMut(&Kept<LENT>, &State) -> io::Result<()>,
 ) -> io::Result<usize> {
+    // It need not outlive a stop: a step that is taken again writes the same samples.
+    let mut room = vec![0; ROOM_BYTES];
     for steps in 1.. {
         let state = state::of_numbers(kept.saved_state());
         kept.enter();
         let Kept { palette, a, b, place, .. } = &mut *kept;
-        let step = mve::step(film, state, palette, a, b, place, allowed);
+        let step = mve::step(film, state, palette, a, b, place, &mut room, allowed);
         kept.leave();
         match step.map_err(io::Error::other)? {
             Step::Unfinished(..) => {}
             Step::Ended(_) => return Ok(steps),
-            Step::Taken(next) | Step::Whole(next, _) => {
+            Step::Taken(next, _) | Step::Whole(next, _) => {
                 if state.unsent && !next.unsent {
                     send(kept, &next)?;
                 }

@@ -1,9 +1,10 @@
 //! Programs that are wrong on purpose are noticed: without this, a test that looks at nothing would
 //! pass, too.
 
+use maker::sound::Format;
 use maker::{Packet, Seeded};
 use std::path::Path;
-use stops::cases::Drawing;
+use stops::cases::{Case, Drawing, Walk};
 use stops::kills::{kill, Player};
 use stops::made;
 use stops::stopped::LENT;
@@ -48,4 +49,43 @@ fn a_killed_player_that_forgets_the_place_is_noticed() {
     let noticed = killed.expect_err("frames are drawn twice").to_string();
     let faults = ["memory is as no prefix", "not picture"];
     assert!(faults.iter().any(|fault| noticed.starts_with(fault)), "{noticed}");
+}
+
+/// A walk with sound, compressed: every step goes on from the last samples of the one before.
+fn heard() -> Walk {
+    made::sound_walk(&mut Seeded::new(1), Format { stereo: true, wide: true, compressed: true })
+}
+
+/// A walk of which other samples are expected, by one bit, than the step made anew writes.
+#[test]
+fn wrong_samples_are_noticed() {
+    let walk = heard();
+    let mut sounding = 0;
+    for (number, step) in walk.steps().iter().enumerate() {
+        assert_eq!(walk.go_on(&step.before), Ok(()), "step {number}");
+        for byte in 0..step.samples.len() {
+            let mut wrong = walk.clone();
+            wrong.steps_mut()[number].samples[byte] ^= 1;
+            let noticed = wrong.go_on(&step.before).expect_err("another sample is expected");
+            let fault = "the samples are not as they are when nothing is stopped";
+            assert_eq!(noticed, fault, "step {number}, byte {byte}");
+        }
+        sounding += usize::from(!step.samples.is_empty());
+    }
+    assert_eq!(sounding, 4);
+}
+
+/// A walk with sound whose saved state has another last sample than the film gives.
+#[test]
+fn a_foreign_state_is_noticed() {
+    let walk = heard();
+    let later = walk.steps().iter().filter(|step| step.state.sound.begun);
+    let kept: Vec<_> = later.map(|step| step.before.clone()).collect();
+    assert!(kept.len() >= 4 && kept.iter().all(|left| walk.go_on(left).is_ok()));
+    for mut left in kept {
+        let [.., sample, _] = &mut left.state;
+        *sample ^= 1;
+        let noticed = walk.go_on(&left).expect_err("the state is no step's");
+        assert!(noticed.starts_with("the saved state is none of the film's"), "{noticed}");
+    }
 }

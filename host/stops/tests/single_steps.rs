@@ -1,6 +1,7 @@
 //! The exported calls, stopped after every machine instruction: memory is always as a prefix of the
 //! listed stores leaves it, and a new call ends as if nothing had been stopped.
 
+use maker::sound::Format;
 use maker::{Form, Profile, Seeded};
 use reference::packet::blocks;
 use std::path::Path;
@@ -106,6 +107,22 @@ fn palettes() {
     }
     println!("{all:?}, {black} gradients of one entry, {twice} bytes stored twice");
     assert!(all.instructions >= 10_000 && all.changes >= 200 && black >= 2 && twice >= 5);
+}
+
+/// Sound makes no store to what is kept but the state; the step made anew writes the same samples.
+#[test]
+fn sounds_of_every_format() {
+    let (mut all, mut samples) = (Counts::default(), 0);
+    for (seed, format) in (0..).zip(Format::ALL) {
+        let walk = made::sound_walk(&mut Seeded::new(seed), format);
+        assert!(walk.stores().iter().all(|store| matches!(store, Store::State(_))));
+        let written: Vec<_> = walk.steps().iter().map(|step| step.samples.len()).collect();
+        assert_eq!(written.iter().filter(|&&bytes| bytes > 0).count(), 4, "{format:?}");
+        samples += written.iter().sum::<usize>();
+        all += stepped(&format!("{format:?}"), &walk);
+    }
+    println!("{all:?}, {samples} bytes of samples");
+    assert!(all.instructions >= 5000 && samples >= 100);
 }
 
 /// Whether a byte of the palette is stored with another value, too.

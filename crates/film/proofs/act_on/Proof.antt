@@ -63,22 +63,22 @@ same-length : tie.Need-same-length
 same-length c = search needs
 
 returns : tie.Need-returns
-returns c = act-gradient _ _ _ _ _ _ _ _ _ _ _ _ (c .palette-step .ensures) (c .before .before .before .before .before .match .keys1) (c .before .before .before .create-gradient .ensures .0) (c .before .before .before .create-gradient .ensures .1)
+returns c = λ room. act-gradient _ _ _ _ _ _ _ _ _ _ _ _ (c .palette-step .ensures) (c .before .before .before .before .before .match .keys1) (c .before .before .before .create-gradient .ensures .0) (c .before .before .before .create-gradient .ensures .1)
 
 same-length-2 : tie.Need-same-length-2
 same-length-2 c = search needs
 
 returns-2 : tie.Need-returns-2
-returns-2 c = act-entries _ _ _ _ _ _ _ _ _ _ _ _ (c .palette-step2 .ensures) (c .before .before .before .before .before .match .keys2) (c .before .before .before .set-palette .ensures .0) (c .before .before .before .set-palette .ensures .1)
+returns-2 c = λ room. act-entries _ _ _ _ _ _ _ _ _ _ _ _ (c .palette-step2 .ensures) (c .before .before .before .before .before .match .keys2) (c .before .before .before .set-palette .ensures .0) (c .before .before .before .set-palette .ensures .1)
 
 same-length-3 : tie.Need-same-length-3
 same-length-3 c = search needs
 
 returns-3 : tie.Need-returns-3
-returns-3 c = act-masks _ _ _ _ _ _ _ _ _ _ _ _ (c .palette-step3 .ensures) (c .before .before .before .before .before .match .keys3) (c .before .before .before .set-palette-compressed .ensures .0) (c .before .before .before .set-palette-compressed .ensures .1)
+returns-3 c = λ room. act-masks _ _ _ _ _ _ _ _ _ _ _ _ (c .palette-step3 .ensures) (c .before .before .before .before .before .match .keys3) (c .before .before .before .set-palette-compressed .ensures .0) (c .before .before .before .set-palette-compressed .ensures .1)
 
 returns-4 : tie.Need-returns-4
-returns-4 c = act-map _ _ _ _ _ _ _ _ _ _ _ (c .before .before .before .match .keys4) (c .mapped .ensures) (c .before .set-place .ensures)
+returns-4 c = λ room. act-map _ _ _ _ _ _ _ _ _ _ _ (c .before .before .before .match .keys4) (c .mapped .ensures) (c .before .set-place .ensures)
 
 same-length-4 : tie.Need-same-length-4
 same-length-4 c = search needs
@@ -87,10 +87,10 @@ same-length-5 : tie.Need-same-length-5
 same-length-5 c = search needs
 
 returns-5 : tie.Need-returns-5
-returns-5 c = act-draw _ _ _ _ _ _ _ _ _ _ _ _ _ (c .before .before .before .before .before .before .before .before .match .keys5) (c .before .before .before .before .draw-by .ensures)
+returns-5 c = λ room. act-draw _ _ _ _ _ _ _ _ _ _ _ _ _ (c .before .before .before .before .before .before .before .before .match .keys5) (c .before .before .before .before .draw-by .ensures)
 
 returns-6 : tie.Need-returns-6
-returns-6 c = act-quiet _ _ _ _ _ _ _ _ _ _ (c .before .match .rest .0 .0 .0 .0 .1) (c .before .match .rest .0 .0 .0 .1) (c .before .match .rest .0 .0 .1) (c .before .match .rest .0 .1) (c .before .match .rest .1) (c .quiet-step .ensures)
+returns-6 c = λ room. act-quiet _ _ _ _ _ _ _ _ _ _ (c .before .match .rest .0 .0 .0 .0 .1) (c .before .match .rest .0 .0 .0 .1) (c .before .match .rest .0 .0 .1) (c .before .match .rest .0 .1) (c .before .match .rest .1) (c .quiet-step .ensures)
 
 pub act-on-spec : {M : Type 1} → statement M
 act-on-spec =

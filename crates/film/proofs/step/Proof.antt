@@ -1,12 +1,9 @@
-use Rattle.film.proofs.Steps.{step-refused, step-ended, step-chunk, step-opcode, step-ready}
+use Rattle.film.proofs.Steps.{step-ready, step-refused, step-ended, step-chunk, step-opcode}
 use borrow.Author.Needs.{needs}
 use Rattle.film.proofs.step.Statement.{statement}
 use Rattle.film.proofs.step.Tie as tie
 use Rattle.film.proofs.step.Reads as reads
 use Rattle.film.proofs.step.Lts as lts
-use Rattle.film.proofs.act_on.Reads as act-on-reads
-use Rattle.next.proofs.find.Reads as find-reads
-use Rattle.state.proofs.State.into_chunk.Reads as into-chunk-reads
 
 find-requires : tie.Need-find-requires
 find-requires c κs = search needs
@@ -26,8 +23,8 @@ into-chunk-requires c κs = search needs
 enum-known-o : tie.Need-enum-known-o
 enum-known-o c = search needs
 
-act-on-requires : tie.Need-act-on-requires
-act-on-requires c κs = let q = step-ready (c .before .before .before .before .before .before .before .before .before .before .before .before .args .film .now) (c .before .before .before .before .before .before .before .before .before .before .before .before .args .st) _ _ _ _ _ (c .before .before .before .before .before .before .before .find .ensures) (c .before .before .before .before .before .o .given .1) in (q .1, q .0 .mapped)
+take-on-requires : tie.Need-take-on-requires
+take-on-requires c κs = let q = step-ready (c .before .before .before .before .before .before .before .before .before .before .before .before .before .before .args .film .now) (c .before .before .before .before .before .before .before .before .before .before .before .before .before .before .args .st) _ _ _ _ _ (c .before .before .before .before .before .before .before .before .find .ensures) (c .before .before .before .before .before .before .o .given .1) in (q .1, q .0 .mapped)
 
 returns : tie.Need-returns
 returns c = step-refused _ _ _ _ _ (c .before .before .before .find .ensures) _ (c .before .r .given .1)
@@ -47,8 +44,11 @@ same-length-2 c = search needs
 same-length-3 : tie.Need-same-length-3
 same-length-3 c = search needs
 
+same-length-4 : tie.Need-same-length-4
+same-length-4 c = search needs
+
 returns-4 : tie.Need-returns-4
-returns-4 c = step-opcode _ _ _ _ _ (c .before .before .before .before .before .before .before .before .before .before .before .before .before .before .find .ensures) _ _ (c .before .before .before .before .before .before .before .before .before .before .before .before .o .given .1) (c .before .before .before .before .before .before .act-on .ensures)
+returns-4 c = step-opcode _ _ _ _ _ (c .before .before .before .before .before .before .before .before .before .before .before .before .before .before .before .before .before .find .ensures) _ _ (c .before .before .before .before .before .before .before .before .before .before .before .before .before .before .before .o .given .1) (c .before .before .before .before .before .before .before .before .take-on .ensures)
 
 pub step-spec : {M : Type 1} → statement M
 step-spec =
@@ -60,11 +60,12 @@ step-spec =
     enum-known-c
     into-chunk-requires
     enum-known-o
-    act-on-requires
+    take-on-requires
     returns
     returns-2
     returns-3
     same-length
     same-length-2
     same-length-3
+    same-length-4
     returns-4)

@@ -1,13 +1,9 @@
 use Rattle.mve.proofs.Films.{step-exported}
-use Rattle.mve.specs.Film.{stateOf}
 use borrow.Author.Needs.{needs}
 use Rattle.mve.proofs.mve_step.Statement.{statement}
 use Rattle.mve.proofs.mve_step.Tie as tie
 use Rattle.mve.proofs.mve_step.Reads as reads
 use Rattle.mve.proofs.mve_step.Lts as lts
-use Rattle.film.proofs.step.Reads as step-reads
-use Rattle.mve.proofs.of_step.Reads as of-step-reads
-use Rattle.mve.proofs.state_of.Reads as state-of-reads
 
 state-of-requires : tie.Need-state-of-requires
 state-of-requires c κs = search needs
@@ -27,8 +23,11 @@ same-length-2 c = search needs
 same-length-3 : tie.Need-same-length-3
 same-length-3 c = search needs
 
+same-length-4 : tie.Need-same-length-4
+same-length-4 c = search needs
+
 returns : tie.Need-returns
-returns c = step-exported _ _ _ _ _ _ _ _ (c .before .before .before .before .before .before .before .before .before .before .before .before .state-of .ensures) (c .before .before .before .before .before .before .before .step .ensures) (c .of-step .ensures)
+returns c = step-exported _ _ _ _ _ _ _ _ (c .before .before .before .before .before .before .before .before .before .before .before .before .before .before .before .state-of .ensures) (c .before .before .before .before .before .before .before .before .before .step .ensures) (c .of-step .ensures)
 
 pub mve-step-spec : {M : Type 1} → statement M
 mve-step-spec =
@@ -40,4 +39,5 @@ mve-step-spec =
     same-length
     same-length-2
     same-length-3
+    same-length-4
     returns)

@@ -10,7 +10,7 @@ of-state-requires : tie.Need-of-state-requires
 of-state-requires c κs = search needs
 
 returns : tie.Need-returns
-returns c = step-is _ _ _ _ (c .of-state .ensures)
+returns c = step-is _ _ _ _ _ (c .of-state .ensures)
 
 pub stepped-with-spec : {M : Type 1} → statement M
 stepped-with-spec = tie.close (tie.spec of-state-requires returns)

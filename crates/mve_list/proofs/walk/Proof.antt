@@ -13,11 +13,11 @@ use Rattle.mve_list.proofs.listed.Reads as listed-reads
 use Rattle.mve_list.proofs.refused.Reads as refused-reads
 
 abbrev Inv-loop : tie.InvT-loop
-Inv-loop film a₀ b₀ palette₀ place₀ st₀ turns₀ a b palette place st turns =
-    (turns ≤ 24577) × (length a ≡ 16384) × (length b ≡ 16384) × (length palette ≡ 768)
+Inv-loop film a₀ b₀ palette₀ room₀ place₀ st₀ turns₀ a b palette room place st turns =
+    (turns ≤ 24577) × (length a ≡ 16384) × (length b ≡ 16384) × (length palette ≡ 768) × (length room ≡ 1)
 
 abbrev μ-loop : tie.MeasureT-loop
-μ-loop film a₀ b₀ palette₀ place₀ st₀ turns₀ a b palette place st turns = 24577 - turns
+μ-loop film a₀ b₀ palette₀ room₀ place₀ st₀ turns₀ a b palette room place st turns = 24577 - turns
 
 loop-holds : tie.Need-loop-holds Inv-loop μ-loop
 loop-holds c = search needs
@@ -33,6 +33,9 @@ slice-aggregate-step-2 c = search needs
 
 slice-aggregate-step-3 : tie.Need-slice-aggregate-step-3 Inv-loop μ-loop
 slice-aggregate-step-3 c = search needs
+
+slice-aggregate-step-4 : tie.Need-slice-aggregate-step-4 Inv-loop μ-loop
+slice-aggregate-step-4 c = search needs
 
 step-requires : tie.Need-step-requires Inv-loop μ-loop
 step-requires c κs = search needs
@@ -55,9 +58,6 @@ loop-again c = search needs
 enum-known-next-2 : tie.Need-enum-known-next-2 Inv-loop μ-loop
 enum-known-next-2 c = search needs
 
-line-requires : tie.Need-line-requires Inv-loop μ-loop
-line-requires c κs = search needs
-
 loop-less-2 : tie.Need-loop-less-2 Inv-loop μ-loop
 loop-less-2 c = search needs
 
@@ -67,11 +67,23 @@ loop-again-2 c = search needs
 enum-known-next-3 : tie.Need-enum-known-next-3 Inv-loop μ-loop
 enum-known-next-3 c = search needs
 
+line-requires : tie.Need-line-requires Inv-loop μ-loop
+line-requires c κs = search needs
+
 loop-less-3 : tie.Need-loop-less-3 Inv-loop μ-loop
 loop-less-3 c = search needs
 
 loop-again-3 : tie.Need-loop-again-3 Inv-loop μ-loop
 loop-again-3 c = search needs
+
+enum-known-next-4 : tie.Need-enum-known-next-4 Inv-loop μ-loop
+enum-known-next-4 c = search needs
+
+loop-less-4 : tie.Need-loop-less-4 Inv-loop μ-loop
+loop-less-4 c = search needs
+
+loop-again-4 : tie.Need-loop-again-4 Inv-loop μ-loop
+loop-again-4 c = search needs
 
 enum-told : tie.Need-enum-told Inv-loop μ-loop
 enum-told c = search needs
@@ -105,6 +117,7 @@ walk-spec =
     slice-aggregate-step
     slice-aggregate-step-2
     slice-aggregate-step-3
+    slice-aggregate-step-4
     step-requires
     enum-known-next
     listed-requires
@@ -112,12 +125,15 @@ walk-spec =
     loop-less
     loop-again
     enum-known-next-2
-    line-requires
     loop-less-2
     loop-again-2
     enum-known-next-3
+    line-requires
     loop-less-3
     loop-again-3
+    enum-known-next-4
+    loop-less-4
+    loop-again-4
     enum-told
     ended-requires
     returns-2

@@ -6,10 +6,10 @@ use Rattle.next.proofs.shaped.Statement.{statement}
 use Rattle.next.proofs.shaped.Tie as tie
 use Rattle.next.proofs.shaped.Reads as reads
 use Rattle.next.proofs.shaped.Lts as lts
-use Rattle.heads.proofs.judge_shape.Reads as judge-shape-reads
+use Rattle.heads.proofs.judge_opcode.Reads as judge-opcode-reads
 
-judge-shape-requires : tie.Need-judge-shape-requires
-judge-shape-requires c κs = search needs
+judge-opcode-requires : tie.Need-judge-opcode-requires
+judge-opcode-requires c κs = search needs
 
 enum-told : tie.Need-enum-told
 enum-told c = search needs
@@ -18,10 +18,10 @@ enum-known-r : tie.Need-enum-known-r
 enum-known-r c = search needs
 
 returns : tie.Need-returns
-returns c = goes-on _ _ _ (c .before .before .judge-shape .ensures) _ (c .enum-told .given .1) refl
+returns c = goes-on _ _ _ (c .before .before .judge-opcode .ensures) _ (c .enum-told .given .1) refl
 
 returns-2 : tie.Need-returns-2
-returns-2 c = stops _ _ _ (c .before .before .before .judge-shape .ensures) _ (c .before .r .given .1)
+returns-2 c = stops _ _ _ (c .before .before .before .judge-opcode .ensures) _ (c .before .r .given .1)
 
 pub shaped-spec : {M : Type 1} → statement M
-shaped-spec = tie.close (tie.spec judge-shape-requires enum-told enum-known-r returns returns-2)
+shaped-spec = tie.close (tie.spec judge-opcode-requires enum-told enum-known-r returns returns-2)

@@ -12,7 +12,7 @@ chunk-end-requires : tie.Need-chunk-end-requires
 chunk-end-requires c κs = search needs
 
 returns : tie.Need-returns
-returns c = at-end _ _ _ (c .before .if1 .taken) (c .chunk-end .ensures)
+returns c = at-end _ _ _ _ (c .before .if1 .taken) (c .chunk-end .ensures)
 
 opcode-head-requires : tie.Need-opcode-head-requires
 opcode-head-requires c κs = search needs
@@ -27,10 +27,10 @@ enum-known-r : tie.Need-enum-known-r
 enum-known-r c = search needs
 
 returns-2 : tie.Need-returns-2
-returns-2 c = opcode-here _ _ (c .before .before .before .before .before .if1 .left) _ (c .before .before .before .before .opcode-head .ensures) _ _ (c .before .before .o .given .1) (c .shaped .ensures)
+returns-2 c = opcode-here _ _ _ (c .before .before .before .before .before .if1 .left) _ (c .before .before .before .before .opcode-head .ensures) _ _ (c .before .before .o .given .1) (c .shaped .ensures)
 
 returns-3 : tie.Need-returns-3
-returns-3 c = no-opcode _ _ (c .before .before .before .before .if1 .left) _ (c .before .before .before .opcode-head .ensures) _ (c .before .r .given .1)
+returns-3 c = no-opcode _ _ _ (c .before .before .before .before .if1 .left) _ (c .before .before .before .opcode-head .ensures) _ (c .before .r .given .1)
 
 pub standing-at-spec : {M : Type 1} → statement M
 standing-at-spec =

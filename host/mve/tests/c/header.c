@@ -1,5 +1,5 @@
-/* The film of document 01's listing, stepped over through the C header, with a call that leaves a block begun. Exits with 0
-   where every answer is the one that the document gives. */
+/* The film of document 01's listing, stepped over through the C header, with a call that leaves a block begun; then a film
+   with sound, in rooms that are too small at first. Exits with 0 where every answer is the one that the documents give. */
 #include "mve.h"
 
 #include <stdio.h>
@@ -22,20 +22,87 @@ static const uint8_t film[] = {
         }                                                                                 \
     } while (0)
 
-int main(void) {
-    uint8_t palette[768] = {0}, a[64] = {0}, b[64] = {0}, drawn[64];
+/* 03, version 1: 16-bit, stereo, compressed; 08 with two start words and a byte a channel; 08 with a byte a channel; 09 of
+   two samples. All for stream 5, which mask 20 has. */
+static const uint8_t sound_film[] = {
+    'I', 'n', 't', 'e', 'r', 'p', 'l', 'a', 'y', ' ', 'M', 'V', 'E', ' ', 'F', 'i', 'l', 'e', 0x1a, 0x00,
+    0x1a, 0x00, 0x00, 0x01, 0x33, 0x11,
+    0x34, 0x00, 0x01, 0x00,
+    0x0a, 0x00, 0x03, 0x01, 0x00, 0x00, 0x07, 0x00, 0x22, 0x56, 0x00, 0x00, 0x00, 0x00,
+    0x0c, 0x00, 0x08, 0x00, 0x00, 0x00, 0x20, 0x00, 0x04, 0x00, 0xff, 0x7f, 0x64, 0x00, 0x88, 0x03,
+    0x08, 0x00, 0x08, 0x00, 0x01, 0x00, 0x20, 0x00, 0x02, 0x00, 0xff, 0x01,
+    0x06, 0x00, 0x09, 0x00, 0x02, 0x00, 0x20, 0x00, 0x02, 0x00,
+};
+
+/* 32767 and entry 136, 29973, with wrap-around: -2796, in bytes 14 f5; 100 and 3; -2796 and -1; 103 and 1; silence. */
+static const uint8_t samples[] = {
+    0xff, 0x7f, 0x64, 0x00, 0x14, 0xf5, 0x67, 0x00, 0x13, 0xf5, 0x68, 0x00, 0x00, 0x00, 0x00, 0x00,
+};
+
+/* Every field: the padding behind the last one is nobody's. */
+static int is_same(struct mve_state s, struct mve_state t) {
+    return s.position == t.position && s.chunk_end == t.chunk_end && s.width == t.width && s.height == t.height &&
+           s.front == t.front && s.has_map == t.has_map && s.map_start == t.map_start &&
+           s.map_length == t.map_length && s.unsent == t.unsent && s.stream == t.stream &&
+           s.has_format == t.has_format && s.stereo == t.stereo && s.wide == t.wide &&
+           s.compressed == t.compressed && s.begun == t.begun && s.left == t.left && s.right == t.right;
+}
+
+static int sound(void) {
+    uint8_t palette[768] = {0}, none[1] = {0}, room[16], heard[sizeof samples];
+    size_t place = 0, length = 0, refused = 0;
+    EXPECT(MVE_VERSION == 2 && MVE_ROOM_BYTES == 2 * 65535);
+
+    struct mve_stepped s = mve_open(sound_film, sizeof sound_film, 5);
+    EXPECT(s.kind == MVE_TAKEN && s.bytes == 0 && s.state.stream == 5 && s.state.has_format == 0);
+    for (;;) {
+        struct mve_state found = s.state;
+        memset(room, 0x5a, sizeof room);
+        s = mve_step(sound_film, sizeof sound_film, found, palette, sizeof palette, none, 0, none, 0, &place, room, 0, 0);
+        EXPECT(s.bytes == 0);
+        if (s.kind == MVE_ENDED) {
+            break;
+        }
+        if (s.kind == MVE_TAKEN) {
+            continue;
+        }
+        /* Nothing has changed, so the step is called again with more room. */
+        EXPECT(s.kind == MVE_REFUSED && s.number == MVE_ROOM && is_same(s.state, found) && room[0] == 0x5a);
+        s = mve_step(sound_film, sizeof sound_film, found, palette, sizeof palette, none, 0, none, 0, &place, room,
+                     sizeof room, 0);
+        EXPECT(s.kind == MVE_TAKEN && s.bytes > 0 && length + s.bytes <= sizeof heard && room[s.bytes] == 0x5a);
+        memcpy(heard + length, room, s.bytes);
+        length += s.bytes;
+        refused += 1;
+    }
+    EXPECT(refused == 3 && length == sizeof samples && memcmp(heard, samples, sizeof samples) == 0);
+    EXPECT(s.state.has_format == 1 && s.state.stereo == 1 && s.state.wide == 1 && s.state.compressed == 1);
+    EXPECT(s.state.begun == 1 && s.state.left == 0xf513 && s.state.right == 104);
+
+    /* Without a stream all of it is passed over. */
+    s = mve_open(sound_film, sizeof sound_film, 16);
+    for (length = 0; s.kind == MVE_TAKEN; length += 1) {
+        s = mve_step(sound_film, sizeof sound_film, s.state, palette, sizeof palette, none, 0, none, 0, &place, room, 0, 0);
+    }
+    EXPECT(s.kind == MVE_ENDED && length == 6 && s.state.has_format == 0);
+    return 0;
+}
+
+static int pictures(void) {
+    uint8_t palette[768] = {0}, a[64] = {0}, b[64] = {0}, drawn[64], room[1];
     size_t place = 0, whole = 0, unfinished = 0;
     memset(drawn, 0x2a, sizeof drawn);
     EXPECT(sizeof film == 82);
 
-    struct mve_stepped s = mve_open(film, sizeof film);
+    struct mve_stepped s = mve_open(film, sizeof film, 0);
     EXPECT(s.kind == MVE_TAKEN && s.state.position == 26 && s.state.chunk_end == 26);
     EXPECT(mve_shown(s.state, a, sizeof a, b, sizeof b) == 0);
     while (s.kind != MVE_ENDED) {
         /* 40 is too few for the block: as a stop, it leaves a block begun. */
         size_t allowed = unfinished == 0 ? 40 : 70;
-        s = mve_step(film, sizeof film, s.state, palette, sizeof palette, a, sizeof a, b, sizeof b, &place, allowed);
-        EXPECT(s.kind != MVE_REFUSED);
+        s = mve_step(film, sizeof film, s.state, palette, sizeof palette, a, sizeof a, b, sizeof b, &place, room, 0,
+                     allowed);
+        EXPECT(s.kind != MVE_REFUSED && s.bytes == 0);
         if (s.kind == MVE_UNFINISHED) {
             EXPECT(s.stores == 40 && place == 0 && s.state.position == 51);
             unfinished += 1;
@@ -53,14 +120,16 @@ int main(void) {
     struct mve_state odd = s.state;
     odd.map_start = 7;
     odd.unsent = 2;
-    s = mve_step(film, sizeof film, odd, palette, sizeof palette, a, sizeof a, b, sizeof b, &place, 70);
-    EXPECT(s.kind == MVE_ENDED && memcmp(&s.state, &odd, sizeof odd) == 0);
+    odd.begun = 3;
+    odd.right = 4;
+    s = mve_step(film, sizeof film, odd, palette, sizeof palette, a, sizeof a, b, sizeof b, &place, room, 0, 70);
+    EXPECT(s.kind == MVE_ENDED && is_same(s.state, odd));
 
     struct mve_stepped short_palette =
-        mve_step(film, sizeof film, s.state, palette, 767, a, sizeof a, b, sizeof b, &place, 70);
+        mve_step(film, sizeof film, s.state, palette, 767, a, sizeof a, b, sizeof b, &place, room, 0, 70);
     EXPECT(short_palette.kind == MVE_REFUSED && short_palette.number == MVE_LENT_LENGTH);
     EXPECT(short_palette.state.position == 82);
-    EXPECT(mve_open(film, 25).number == MVE_HEADER);
+    EXPECT(mve_open(film, 25, 0).number == MVE_HEADER);
 
     /* 16x8, code 1 and then code 6, which is refused in block 1. */
     const uint8_t map[] = {0x61}, none[] = {0};
@@ -75,4 +144,8 @@ int main(void) {
     answer = mve_draw(8, 8, map, 1, none, 0, a, sizeof a, b, sizeof b, &place, 70);
     EXPECT(answer.kind == MVE_REFUSED && answer.number == MVE_PLACE && place == 2);
     return 0;
+}
+
+int main(void) {
+    return pictures() | sound();
 }

@@ -3,6 +3,7 @@
 #![allow(dead_code)] // each test file uses a part of it
 
 use reference::film::{self, State, Stepped};
+use reference::sound::NO_STREAM;
 use reference::Refusal;
 
 /// Bytes from hex digits; blanks and line ends are skipped.
@@ -65,43 +66,45 @@ pub struct Lent {
     pub a: Vec<u8>,
     pub b: Vec<u8>,
     pub place: usize,
+    pub room: Vec<u8>,
 }
 
 impl Lent {
-    /// Zero palette, two zero pictures of this length, place 0.
+    /// Zero palette, two zero pictures of this length, place 0, no room.
     pub fn zero(pixels: usize) -> Lent {
-        Lent { palette: vec![0; 768], a: vec![0; pixels], b: vec![0; pixels], place: 0 }
+        let picture = vec![0; pixels];
+        let (palette, room) = (vec![0; 768], Vec::new());
+        Lent { palette, a: picture.clone(), b: picture, place: 0, room }
     }
 
     pub fn step(&mut self, film: &[u8], state: State, allowed: usize) -> Stepped {
-        film::step(
-            film,
-            state,
-            &mut self.palette,
-            &mut self.a,
-            &mut self.b,
-            &mut self.place,
-            allowed,
-        )
+        let lent = film::Lent {
+            palette: &mut self.palette,
+            picture_a: &mut self.a,
+            picture_b: &mut self.b,
+            place: &mut self.place,
+            room: &mut self.room,
+        };
+        film::step(film, state, lent, allowed)
     }
 
     /// Takes `count` steps that must be taken or whole.
     pub fn steps(&mut self, film: &[u8], mut state: State, count: usize) -> State {
         for number in 0..count {
             state = match self.step(film, state, 312_000) {
-                Stepped::Taken(state) | Stepped::Whole(state, _) => state,
+                Stepped::Taken(state, _) | Stepped::Whole(state, _) => state,
                 other => panic!("step {number}: {other:?}"),
             };
         }
         state
     }
 
-    /// Steps from the opening on until the film ends or a step is refused.
+    /// Steps from the opening on, with no stream chosen, until the film ends or a step is refused.
     pub fn run(&mut self, film: &[u8]) -> (State, Option<Refusal>) {
-        let mut state = film::open(film).expect("a good header");
+        let mut state = film::open(film, NO_STREAM).expect("a good header");
         loop {
             match self.step(film, state, 312_000) {
-                Stepped::Taken(after) | Stepped::Whole(after, _) => state = after,
+                Stepped::Taken(after, _) | Stepped::Whole(after, _) => state = after,
                 Stepped::Ended(after) => return (after, None),
                 Stepped::Refused(refusal) => return (state, Some(refusal)),
                 Stepped::Unfinished(..) => panic!("312,000 stores draw any frame"),

@@ -10,7 +10,7 @@ behind-requires : tie.Need-behind-requires
 behind-requires c κs = search needs
 
 returns : tie.Need-returns
-returns c = finished-is _ _ _ (c .behind .ensures)
+returns c = finished-is _ _ _ (c .before .behind .ensures)
 
 pub finished-spec : {M : Type 1} → statement M
 finished-spec = tie.close (tie.spec behind-requires returns)

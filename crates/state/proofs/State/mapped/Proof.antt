@@ -10,7 +10,7 @@ behind-requires : tie.Need-behind-requires
 behind-requires c κs = search needs
 
 returns : tie.Need-returns
-returns c = mapped-is _ _ _ (c .behind .ensures) _
+returns c = mapped-is _ _ _ (c .before .behind .ensures) _
 
 pub mapped-spec : {M : Type 1} → statement M
 mapped-spec = tie.close (tie.spec behind-requires returns)

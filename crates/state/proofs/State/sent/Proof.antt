@@ -14,7 +14,7 @@ shown-next-requires : tie.Need-shown-next-requires
 shown-next-requires c κs = search needs
 
 returns : tie.Need-returns
-returns c = sent-is _ _ _ (c .before .behind .ensures) _ (c .shown-next .ensures)
+returns c = sent-is _ _ _ (c .before .before .behind .ensures) _ (c .before .shown-next .ensures)
 
 pub sent-spec : {M : Type 1} → statement M
 sent-spec = tie.close (tie.spec behind-requires shown-next-requires returns)

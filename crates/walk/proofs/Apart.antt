@@ -1,0 +1,136 @@
+-- `step-apart`: of every step.
+-- Assumes nothing.
+use mathlib.Core.Path.{_≡_, refl}
+use mathlib.Core.Bool.{Bool, true, false, cond}
+use mathlib.Core.List.{List, []}
+use Prim.Native.Nat.{ℕ, _+_, _≤_}
+use native.Mathlib.Omega.{arith}
+use lib.Dec.{eqb}
+use lib.ListN.{length, drop}
+use lib.Seq.{drop-at}
+use Rattle.room.specs.Room.{written}
+use Rattle.stores.specs.Stores.{memory}
+use Rattle.stores.specs.Calls as drawing
+use Rattle.draw.specs.Call.{Reason, request, calling}
+use Rattle.words.specs.Word.{wordAt}
+use Rattle.sound.specs.declared.Sound.{Sound}
+use Rattle.sound.specs.Format.{chosen, formatOf, possibleFormat, afresh}
+use Rattle.sound.specs.Step as sound
+use Rattle.sound.specs.Sound.{answer, initializeAudio, audioData, audioSilence}
+use Rattle.sound.proofs.Kept.{data-kept, silence-kept}
+use Rattle.state.specs.declared.Map.{Map}
+use Rattle.state.specs.declared.Map.the-variants.{Missing, Part}
+use Rattle.state.specs.declared.State.{State}
+use Rattle.heads.specs.declared.Opcode.{Opcode}
+use Rattle.heads.specs.Heads.{hears}
+use Rattle.next.specs.Next.{Standing, nextOf}
+use Rattle.next.specs.Next as found
+use Rattle.opcodes.specs.Opcodes.{heardStep, drawnAs, drawnStep}
+use Rattle.film.specs.Film.{Lent, withRoom, swap, Outcome, after, called, drawSecond, drawOn, part, drawBy, act, heardBy, hear, takeOn, standing, stepOf}
+use Rattle.walk.specs.Apart.{RoomKept, OthersKept, AtSound, Apart}
+
+silent-by : (l : Lent) (b : Bool) {x y : Outcome} → RoomKept l x → RoomKept l y → RoomKept l (cond b x y)
+silent-by l true p q = p
+silent-by l false p q = q
+
+-- a step that is no sound, whatever else it does
+silent : (l : Lent) {o : Outcome} → o .lent .room ≡ l .room → o .step .bytes ≡ 0 → RoomKept l o
+silent l e f = record { room = e; bytes = f }
+
+-- ---- drawing
+
+drawn-silent : (st : State) (p : ℕ) (x : drawing.Answer Reason) (n : ℕ) → drawnAs st p x n .bytes ≡ 0
+unfolding drawnAs
+drawn-silent st p drawing.whole n = refl
+drawn-silent st p drawing.unfinished n = refl
+drawn-silent st p (drawing.refusal r) n = refl
+
+module _ (film : List ℕ) (st : State) (allowed : ℕ) (l : Lent) where
+  second-silent : (p : ℕ) (map packet : List ℕ) (m : Lent) → m .room ≡ l .room → RoomKept l (drawSecond st p map packet allowed m)
+  unfolding called
+  second-silent p map packet m e =
+      let r = drawing.reply calling (memory (m .second) (m .place)) (request (st .width) (st .height) map packet (m .first) allowed) in
+      silent l e (drawn-silent st p (r .answer) (r .count))
+
+  on-silent : (p : ℕ) (map packet : List ℕ) → RoomKept l (drawOn st p map packet allowed l)
+  unfolding drawOn
+  on-silent p map packet =
+      let x = second-silent p map packet (swap l) refl in
+      silent-by l (eqb (st .front) 0) (second-silent p map packet l refl) (silent l (x .room) (x .bytes))
+
+  by-silent : (map : Map) (body : List ℕ) (p : ℕ) → RoomKept l (drawBy map film st body p allowed l)
+  unfolding drawBy
+  by-silent Missing body p = silent l refl refl
+  by-silent (Part s long) body p =
+      silent-by l (eqb (st .width) 0) (silent l refl refl) (on-silent p (part film s (s + long)) (part body 14 (length body)))
+
+  act-silent : (kind version s : ℕ) (body : List ℕ) (p : ℕ) → RoomKept l (act film st kind version s body p allowed l)
+  unfolding act
+  act-silent kind version s body p =
+      silent-by l (eqb kind 15) (silent l refl refl)
+      (silent-by l (eqb kind 17) (by-silent (st .map) body p)
+      (silent-by l (eqb kind 11) (silent l refl refl)
+      (silent-by l (eqb kind 12) (silent l refl refl)
+      (silent-by l (eqb kind 13) (silent l refl refl) (silent l refl refl)))))
+
+  -- ---- sound
+
+  heard-apart : (p : ℕ) (x : sound.Step) → ((s : Sound) (bytes : List ℕ) → x ≡ sound.taken s bytes → length bytes ≤ length (l .room))
+      → OthersKept l (after (heardStep st p (answer x)) (withRoom l (sound.roomAfter x (l .room))))
+  unfolding heardStep answer sound.roomAfter written
+  heard-apart p (sound.taken s bytes) f =
+      record { others = refl; stores = refl; fits = f s bytes refl; rest = drop-at bytes (drop (length bytes) (l .room)) (length bytes) refl }
+  heard-apart p (sound.refused n k) f = record { others = refl; stores = refl; fits = omega arith; rest = refl }
+
+  -- 03 writes nothing
+  format-fits : (s : Sound) (version : ℕ) (body : List ℕ) (t : Sound) (bytes : List ℕ) → initializeAudio s version body ≡ sound.taken t bytes → length bytes ≤ length (l .room)
+  unfolding initializeAudio
+  format-fits s version body t bytes = by (possibleFormat (formatOf version (wordAt body 2)))
+    where
+      by : (b : Bool) → cond b (sound.taken (afresh s (formatOf version (wordAt body 2))) []) (sound.refused 17 0) ≡ sound.taken t bytes → length bytes ≤ length (l .room)
+      by true e = let q : [] ≡ bytes = cc in rw (← q) (omega arith)
+      by false e = absurd (let z : _≡_ {A = ℕ} 0 1 = cc in let y : ⊥ = omega arith in y)
+
+  sound-fits : (s : Sound) (kind version : ℕ) (body : List ℕ) (t : Sound) (bytes : List ℕ)
+      → heardBy s kind version body (length (l .room)) ≡ sound.taken t bytes → length bytes ≤ length (l .room)
+  unfolding heardBy
+  sound-fits s kind version body t bytes = by (eqb kind 3) (eqb kind 8)
+    where
+      by : (a b : Bool)
+          → cond a (initializeAudio s version body) (cond b (audioData s body (length (l .room))) (audioSilence s body (length (l .room)))) ≡ sound.taken t bytes
+          → length bytes ≤ length (l .room)
+      by true b e = format-fits s version body t bytes e
+      by false true e = data-kept s body (l .room) .fits t bytes e
+      by false false e = silence-kept s body (l .room) .fits t bytes e
+
+  taken-sound : (o : Opcode) → hears (chosen (st .sound .stream)) (o .kind) ≡ true → OthersKept l (takeOn film st o allowed l)
+  unfolding takeOn hear
+  taken-sound o e =
+      let body = part film (o .start) (o .start + o .long) in
+      rw e
+      (heard-apart (o .start + o .long) (heardBy (st .sound) (o .kind) (o .version) body (length (l .room)))
+      (sound-fits (st .sound) (o .kind) (o .version) body))
+
+  taken-other : (o : Opcode) → hears (chosen (st .sound .stream)) (o .kind) ≡ false → RoomKept l (takeOn film st o allowed l)
+  unfolding takeOn
+  taken-other o e =
+      rw e (act-silent (o .kind) (o .version) (o .start) (part film (o .start) (o .start + o .long)) (o .start + o .long))
+
+  standing-other : (s : Standing) → ((o : Opcode) → s ≡ found.opcode o → hears (chosen (st .sound .stream)) (o .kind) ≡ false) → RoomKept l (standing s film st allowed l)
+  unfolding standing
+  standing-other (found.refused n k) f = silent l refl refl
+  standing-other found.ended f = silent l refl refl
+  standing-other (found.chunk c) f = silent l refl refl
+  standing-other (found.opcode o) f = taken-other o (f o refl)
+
+  not-acted : (b : Bool) → (b ≡ true → ⊥) → b ≡ false
+  not-acted true f = absurd (f refl)
+  not-acted false f = refl
+
+  pub step-apart : Apart film st allowed l
+  unfolding stepOf standing
+  step-apart =
+      record {
+        sound = λ a. rw (a .stands) (taken-sound (a .found) (a .acted));
+        other = λ n. standing-other _ (λ o e. not-acted _ (λ q. n (record { found = o; stands = e; acted = q })));
+      }
