@@ -29,7 +29,7 @@ Rust.
 #include <unistd.h>
 
 enum {
-    LARGEST_PICTURE = 640 * 480,
+    LARGEST_PICTURE = 80 * 60 * 64, /* bytes: 80 by 60 blocks of 8x8 pixels */
     LEAST_ALLOWANCE = 65, /* the stores of a block with pixels: a step that is allowed fewer never finishes one */
     LEAST_EVERY = 2,      /* a player that is stopped at every opcode of sound never gets on */
     FILE_NAME = 32,       /* room for a slash and the name of a picture or a sound file */
@@ -198,7 +198,7 @@ static int scaled(uint8_t component) {
 static bool write_ppm(FILE *file, const struct kept *kept, struct mve_state state) {
     const uint8_t *front = state.front == 0 ? kept->a : kept->b;
     size_t shown = mve_shown(state, kept->a, sizeof kept->a, kept->b, sizeof kept->b);
-    fprintf(file, "P6\n%zu %zu\n255\n", state.width, state.height);
+    fprintf(file, "P6\n%zu %zu\n255\n", 8 * state.columns, 8 * state.rows); /* the size in pixels */
     for (size_t i = 0; i < shown; i++) {
         const uint8_t *colour = &kept->palette[3 * front[i]];
         putc(scaled(colour[0]), file);

@@ -69,8 +69,8 @@ Numbers are little-endian, a word is 16 bits.
     00    0        none, last in its chunk; ends the film
     01    0        none, last in its chunk; ends the chunk
     03    0, 1     8, 10 bytes: the format of the sound
-    05    0 to 2   4, 6, 8 bytes: words width and height in pixels, a count, and in version 2 the true-colour word 0.
-                   Multiples of 8, width 8 to 640, height 8 to 480, once in a film.
+    05    0 to 2   4, 6, 8 bytes: words columns and rows, a count, and in version 2 the true-colour word 0. Columns and
+                   rows count blocks of 8x8 pixels: 1 to 80 and 1 to 60, up to 640x480 pixels. Once in a film.
     07    0, 1     4, 6 bytes, not read: sends the frame. If one is finished and unsent, front and back change roles.
     08    0        6 bytes or more: sound
     09    0        6 bytes: silence
@@ -137,8 +137,8 @@ extern "C" {
 #endif
 
 /* The version of this interface. It changes with every change that a program must be compiled anew for; CHANGELOG.md says
-   what changed. 1 was without sound, and without this number. */
-#define MVE_VERSION 2
+   what changed. 1 was without sound, and without this number; 2 counted sizes in pixels. */
+#define MVE_VERSION 3
 
 /* A room that is always enough: a word counts a packet's samples, and each has two bytes at most. */
 #define MVE_ROOM_BYTES 131070
@@ -163,7 +163,7 @@ enum mve_refusal {
     MVE_OPCODE = 3,          /* an opcode or its head passes its chunk, or bytes follow 00 or 01 */
     MVE_TYPE = 4,            /* opcode type or version not taken */
     MVE_BODY_LENGTH = 5,     /* opcode body of a wrong length */
-    MVE_FRAME_SIZE = 6,      /* frame size or true-colour word wrong, or a second size */
+    MVE_FRAME_SIZE = 6,      /* columns not 1 to 80, rows not 1 to 60, true-colour word wrong, or a second size */
     MVE_PALETTE = 7,         /* palette range or colour component too large */
     MVE_NO_FRAME = 9,        /* 11 without a frame size or a map */
     MVE_MAP_LENGTH = 10,     /* map length does not fit the frame size */
@@ -182,8 +182,8 @@ enum mve_refusal {
 struct mve_state {
     size_t position;   /* in the film */
     size_t chunk_end;
-    size_t width;      /* 0 by 0 before opcode 05 */
-    size_t height;
+    size_t columns;    /* of 8x8 blocks; 0 by 0 before opcode 05 */
+    size_t rows;
     size_t front;      /* 0: picture a is shown, 1: picture b */
     size_t has_map;    /* 0: no map is pending */
     size_t map_start;  /* the pending map's part of the film */
@@ -222,27 +222,28 @@ struct mve_stepped {
 struct mve_stepped mve_open(const uint8_t *film, size_t film_length, size_t stream);
 
 /* One step. MVE_TAKEN: a chunk's head or an opcode but 11. MVE_WHOLE, MVE_UNFINISHED: opcode 11, by at most `allowed`
-   stores; while it is unfinished the position stays. a and b are the two pictures, each at least width times height
-   bytes once the size is known. The place starts at 0. The room is written by sound alone. Every number of refusal but 1
-   can be met. */
+   stores; while it is unfinished the position stays. a and b are the two pictures, a byte a pixel, row by row: each has
+   at least 64 times columns times rows bytes once the size is known. The place starts at 0. The room is written by sound
+   alone. Every number of refusal but 1 can be met. */
 struct mve_stepped mve_step(const uint8_t *film, size_t film_length, struct mve_state state,
                             uint8_t *palette, size_t palette_length, uint8_t *a, size_t a_length,
                             uint8_t *b, size_t b_length, size_t *place, uint8_t *room, size_t room_length,
                             size_t allowed);
 
-/* How many bytes of the front picture (a where state.front is 0, b where it is 1) are shown: width times height, or 0
-   where no size is known yet, front is above 1, the size is not one that 05 may give, or that picture is shorter. */
+/* How many bytes of the front picture (a where state.front is 0, b where it is 1) are shown: 64 times columns times rows
+   (8 times columns for each row of pixels), or 0 where no size is known yet, front is above 1, the size is not one that 05
+   may give, or that picture is shorter. */
 size_t mve_shown(struct mve_state state, const uint8_t *a, size_t a_length,
                  const uint8_t *b, size_t b_length);
 
-/* Whether a packet is accepted for a picture of width by height pixels: MVE_ACCEPTED, or MVE_REFUSED by 6, 10, 12 to
+/* Whether a packet is accepted for a picture of columns by rows blocks: MVE_ACCEPTED, or MVE_REFUSED by 6, 10, 12 to
    15. */
-struct mve_answer mve_check(size_t width, size_t height, const uint8_t *map, size_t map_length,
+struct mve_answer mve_check(size_t columns, size_t rows, const uint8_t *map, size_t map_length,
                             const uint8_t *data, size_t data_length);
 
-/* Draws a packet on `back` from the block *place on, by at most `allowed` stores: MVE_WHOLE, MVE_UNFINISHED, or
-   MVE_REFUSED by 6, 8, 10 to 15. A call that is refused makes no store. */
-struct mve_answer mve_draw(size_t width, size_t height, const uint8_t *map, size_t map_length,
+/* Draws a packet on `back`, a picture of columns by rows blocks, from the block *place on, by at most `allowed` stores:
+   MVE_WHOLE, MVE_UNFINISHED, or MVE_REFUSED by 6, 8, 10 to 15. A call that is refused makes no store. */
+struct mve_answer mve_draw(size_t columns, size_t rows, const uint8_t *map, size_t map_length,
                            const uint8_t *data, size_t data_length, const uint8_t *front,
                            size_t front_length, uint8_t *back, size_t back_length, size_t *place,
                            size_t allowed);

@@ -14,7 +14,6 @@ use Rattle.motion.specs.Motion.{PointsInside, aheadVector, negated, nearVector,
 use Rattle.block.specs.Block.{Kind, same, kept, ahead, behind, near, far, patterned, celled, dithered, refused, source, fetched}
 use Rattle.packet.specs.Packet.{Packet, blocks, width, height, left, top, dataOf, kind}
 use Rattle.packet.specs.Accepted.{CopyInside}
-use Rattle.packet.proofs.Sizes.{size-is}
 use Rattle.stores.specs.Stores.{Plan, Memory, memory, Off, after, count}
 use Rattle.stores.specs.Calls.{Call, allowed, Outcome, answered, Event, returns, cut, callOf, leave, leaveCut, outcome, happens, reply, step}
 use Rattle.stores.proofs.Steps.{run-length}
@@ -24,7 +23,7 @@ use Rattle.paint.specs.Value.{pixelValue}
 use Rattle.draw.specs.Drawing.{sizeAt, targetAt, valueAt, plan}
 use Rattle.draw.specs.Call.{Request, packetOf, callVerdict, drawVerdict, Reason, comes, calling}
 use Rattle.draw.specs.Asked.{Accepted}
-use Rattle.draw.proofs.Judged.{accepted-call, area as picture-area}
+use Rattle.draw.proofs.Judged.{accepted-call}
 use Rattle.book.specs.Beyond.{area, Unwritten, showing, SameTo, SameCalls, Unread}
 use Rattle.book.proofs.Lawful.{Framed, raster-below, framed, few, inside}
 
@@ -56,18 +55,13 @@ module _ (s : List ℕ) (w h x y i : ℕ) (f : Framed w h x y) (hi : i < 64) (fr
 
 module _ (c : Request) (m : Memory) (e : drawVerdict c m ≡ accept) where
   call : Accepted (packetOf c) (length (c .front)) (length (m .picture)) (m .place)
-  call = accepted-call (c .width) (c .height) (c .map) (c .bytes) (length (c .front)) (length (m .picture)) (m .place) e .1
-
-  long : height (packetOf c) * width (packetOf c) ≡ area c
-  long =
-      let l = size-is (c .width) (c .height) (accepted-call (c .width) (c .height) (c .map) (c .bytes) (length (c .front)) (length (m .picture)) (m .place) e .0) in
-      picture-area (c .width) (c .height) (l .0) (l .1)
+  call = accepted-call (c .columns) (c .rows) (c .map) (c .bytes) (length (c .front)) (length (m .picture)) (m .place) e .1
 
   -- n stores leave what lies beyond
   keeps : (n t : ℕ) → area c ≤ t → getD (after (plan (packetOf c) (c .front)) m n .picture) t 0 ≡ getD (m .picture) t 0
   keeps n t h =
       after-off (plan (packetOf c) (c .front)) t
-      (λ k hk j hj q. omega (arith, inside (packetOf c) (call .sized) k j hk (few (packetOf c) (call .sized) k j hj), long, q))
+      (λ k hk j hj q. omega (arith, inside (packetOf c) (call .sized) k j hk (few (packetOf c) (call .sized) k j hj), q))
       m n (call .at)
 
   -- two that are lent the same up to the size
@@ -79,7 +73,7 @@ module _ (c : Request) (m : Memory) (e : drawVerdict c m ≡ accept) where
       (λ k i hk hi x y z.
       reads-within (dataOf (packetOf c) k) (width (packetOf c)) (height (packetOf c)) (left (packetOf c) k) (top (packetOf c) k) i
       (framed (packetOf c) (call .sized) k hk) (few (packetOf c) (call .sized) k i hi) (c .front) front x y
-      (rw long f) (rw long z) (kind (packetOf c) k) (call .taken .each k hk .inside))
+      f z (kind (packetOf c) k) (call .taken .each k hk .inside))
       m n (call .at) b g
 
 -- ---- none is written
@@ -115,12 +109,11 @@ module _ (c : Request) (front : List ℕ) (m m′ : Memory) (f : take (area c) (
       → Both (area c) (after (plan (packetOf c) (c .front)) m n) (after (plan (packetOf c) front) m′ n)
   drawn-both n e =
       let r = call c m e in
-      let l = long c m e in
       subst (λ (k : ℕ). Both (area c) (after (plan (packetOf c) (c .front)) m n) (after (plan (packetOf c) front) (memory (m′ .picture) k) n))
       (s .place)
       (both c m e front (m′ .picture) n
-      (agree (c .front) front (omega (arith, l, r .front-room)) f)
-      (agree (m .picture) (m′ .picture) (omega (arith, l, r .back-room)) (s .picture)))
+      (agree (c .front) front (r .front-room) f)
+      (agree (m .picture) (m′ .picture) (r .back-room) (s .picture)))
 
   same-drawn : (n : ℕ) → drawVerdict c m ≡ accept → SameTo (area c) (after (plan (packetOf c) (c .front)) m n) (after (plan (packetOf c) front) m′ n)
   same-drawn n e = let g = drawn-both n e in record { picture = agree-take (area c) _ _ (g .pictures); place = g .place }

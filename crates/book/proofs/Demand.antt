@@ -9,8 +9,7 @@ use Prim.Native.Nat.{ℕ, _+_, _*_, _/_, _≤_, _<_}
 use native.Mathlib.Omega.{arith}
 use lib.ListN.{length}
 use Rattle.refusal.specs.Number.{Verdict, accept, refuse}
-use Rattle.packet.specs.Packet.{blocks, width, height, kind}
-use Rattle.packet.specs.Verdict.{sized}
+use Rattle.packet.specs.Packet.{packet, blocks, kind}
 use Rattle.packet.specs.Asked.{Sized}
 use Rattle.packet.proofs.Sizes.{is-size, is-sized}
 use Rattle.stores.specs.Stores.{Memory, memory, Lawful}
@@ -20,7 +19,6 @@ use Rattle.paint.proofs.Counts.{count-few}
 use Rattle.draw.specs.Drawing.{sizeAt, plan}
 use Rattle.draw.specs.Call.{Request, packetOf, drawVerdict, comes, calling}
 use Rattle.draw.specs.Taken.{DrawAccepts}
-use Rattle.draw.proofs.Judged.{area}
 use Rattle.draw.proofs.Exactly.{drawn-exactly}
 use Rattle.book.specs.Demand.{Same, OnlyRefusedDiffer, CutsWithin, Given, leavesAt, Progresses, Demand3}
 use Rattle.book.proofs.Lawful.{plan-lawful}
@@ -45,11 +43,11 @@ comes-on : (v : Verdict) (n : ℕ) → v ≡ accept → comes v n ≡ allowed n
 unfolding comes
 comes-on v n e = rw e
 
-same-plan : (w w′ h h′ : ℕ) (m m′ b b′ f f′ : List ℕ) → w ≡ w′ → h ≡ h′ → m ≡ m′ → b ≡ b′ → f ≡ f′ → plan (sized w h m b) f ≡ plan (sized w′ h′ m′ b′) f′
-same-plan w w′ h h′ m m′ b b′ f f′ p q r s t = rw (p, q, r, s, t) refl
+same-plan : (c c′ r r′ : ℕ) (m m′ b b′ f f′ : List ℕ) → c ≡ c′ → r ≡ r′ → m ≡ m′ → b ≡ b′ → f ≡ f′ → plan (packet c r m b) f ≡ plan (packet c′ r′ m′ b′) f′
+same-plan c c′ r r′ m m′ b b′ f f′ p q s t u = rw (p, q, s, t, u) refl
 
 plan-same : (r c : Request) → Same r c → plan (packetOf r) (r .front) ≡ plan (packetOf c) (c .front)
-plan-same r c s = same-plan _ _ _ _ _ _ _ _ _ _ (s .width) (s .height) (s .map) (s .bytes) (s .front)
+plan-same r c s = same-plan _ _ _ _ _ _ _ _ _ _ (s .columns) (s .rows) (s .map) (s .bytes) (s .front)
 
 fair : (c : Request) (m : Memory) (es : List (Event Request)) → OnlyRefusedDiffer c m es → CutsWithin m es
     → Fair calling (plan (packetOf c) (c .front)) m es
@@ -60,14 +58,11 @@ fair c m es o w =
 -- ---- the packet
 
 module _ (c : Request) (first : List ℕ) (g : Given c first) where
-  long : height (packetOf c) * width (packetOf c) ≡ c .width * c .height
-  long = area (c .width) (c .height) (g .accepted .wide) (g .accepted .high)
-
   is : Sized (packetOf c)
-  is = is-sized (c .width) (c .height) (c .map) (c .bytes) (is-size (c .width) (c .height) (g .accepted .wide) (g .accepted .high)) (g .accepted .mapped)
+  is = is-sized (c .columns) (c .rows) (c .map) (c .bytes) (is-size (c .columns) (c .rows) (g .accepted .wide) (g .accepted .high)) (g .accepted .mapped)
 
   lawful : Lawful (plan (packetOf c) (c .front)) (length first)
-  lawful = plan-lawful (packetOf c) is (g .accepted .drawn) (c .front) (length first) (omega (arith, long, g .back-long))
+  lawful = plan-lawful (packetOf c) is (g .accepted .drawn) (c .front) (length first) (g .back-long)
 
   at-most-64 : (k : ℕ) → k < blocks (packetOf c) → sizeAt (packetOf c) k ≤ 64
   unfolding sizeAt
@@ -76,8 +71,8 @@ module _ (c : Request) (first : List ℕ) (g : Given c first) where
   -- a call that brings what c brings, at a place that is not too high, on a picture that is as long as the first
   takes : (m : Memory) (r : Request) → m .place ≤ blocks (packetOf c) → length (m .picture) ≡ length first → Same r c → drawVerdict r m ≡ accept
   takes m r at l s =
-      rw (s .width, s .height, s .map, s .bytes, s .front)
-      (drawn-exactly (c .width) (c .height) (c .map) (c .bytes) (length (c .front)) (length (m .picture)) (m .place) .1
+      rw (s .columns, s .rows, s .map, s .bytes, s .front)
+      (drawn-exactly (c .columns) (c .rows) (c .map) (c .bytes) (length (c .front)) (length (m .picture)) (m .place) .1
       (record { accepted = g .accepted; front-long = g .front-long; back-long = rw l (g .back-long); within = at }))
 
   -- an event of which `goes-on` of the book is known

@@ -3,15 +3,16 @@
 -- Assumes nothing.
 use mathlib.Core.Path.{_≡_}
 use mathlib.Core.List.{List}
-use Prim.Native.Nat.{ℕ, _-_, _*_}
+use Prim.Native.Nat.{ℕ, _-_}
 use lib.ListN.{take, drop}
+use Rattle.packet.specs.Packet.{pixels}
 use Rattle.stores.specs.Stores.{Memory}
 use Rattle.stores.specs.Calls.{Event, cut, callOf, happens, reply, step}
 use Rattle.draw.specs.Call.{Request, request, calling}
 
 -- the bytes of a picture of a call's size
 abbrev pub area : Request → ℕ
-area c = c .width * c .height
+area c = pixels (c .columns) (c .rows)
 
 -- an event leaves the picture beyond the size as it was
 abbrev pub Unwritten : Memory → Event Request → Type 0
@@ -19,7 +20,7 @@ Unwritten m e = drop (area (callOf e)) (happens calling m e .picture) ≡ drop (
 
 -- the same call with another shown picture
 abbrev pub showing : Request → List ℕ → Request
-showing c front = request (c .width) (c .height) (c .map) (c .bytes) front (c .allowed)
+showing c front = request (c .columns) (c .rows) (c .map) (c .bytes) front (c .allowed)
 
 -- two memories with one place whose pictures are the same up to n
 pub record SameTo (n : ℕ) (m m′ : Memory) : Type 0 where

@@ -5,10 +5,10 @@
 use mathlib.Core.Path.{_≡_}
 use mathlib.Core.Logic.{_⊎_}
 use mathlib.Core.List.{List}
-use Prim.Native.Nat.{ℕ, _*_, _≤_, _<_}
+use Prim.Native.Nat.{ℕ, _≤_, _<_}
 use lib.ListN.{length, getD}
 use Rattle.refusal.specs.Number.{accept}
-use Rattle.packet.specs.Packet.{blocks}
+use Rattle.packet.specs.Packet.{blocks, pixels}
 use Rattle.packet.specs.Accepted.{Accepts}
 use Rattle.stores.specs.Stores.{Memory, memory, final}
 use Rattle.stores.specs.Calls.{whole, Event, returns, cut, callOf, step, reply, happens, Returning, CutWithin, finally, ampleCalls, Each, AsBooked}
@@ -17,8 +17,8 @@ use Rattle.draw.specs.Call.{Request, packetOf, drawVerdict, calling, Pictures, 
 
 -- two calls bring the same packet, map, size and shown picture
 pub record Same (a b : Request) : Type 0 where
-  pub width : a .width ≡ b .width
-  pub height : a .height ≡ b .height
+  pub columns : a .columns ≡ b .columns
+  pub rows : a .rows ≡ b .rows
   pub map : a .map ≡ b .map
   pub bytes : a .bytes ≡ b .bytes
   pub front : a .front ≡ b .front
@@ -33,9 +33,9 @@ CutsWithin m es = Each calling (CutWithin calling) m es
 
 -- an accepted packet with its map and size, and pictures that are long enough
 pub record Given (c : Request) (first : List ℕ) : Type 0 where
-  pub accepted : Accepts (c .width) (c .height) (c .map) (c .bytes)
-  pub front-long : c .width * c .height ≤ length (c .front)
-  pub back-long : c .width * c .height ≤ length first
+  pub accepted : Accepts (c .columns) (c .rows) (c .map) (c .bytes)
+  pub front-long : pixels (c .columns) (c .rows) ≤ length (c .front)
+  pub back-long : pixels (c .columns) (c .rows) ≤ length first
 
 -- what an event leaves of both pictures and the place: a call that returns what the contract of `draw` says; of a cut one the shown picture stays, too
 unfoldable pub leavesAt : Memory → Event Request → Pictures

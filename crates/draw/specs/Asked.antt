@@ -1,7 +1,7 @@
 -- What the functions of the drawing call ask of their callers.
 -- Assumes nothing.
-use Prim.Native.Nat.{ℕ, _*_, _≤_}
-use Rattle.packet.specs.Packet.{Packet, blocks, width, height}
+use Prim.Native.Nat.{ℕ, _≤_}
+use Rattle.packet.specs.Packet.{Packet, blocks, pixels}
 use Rattle.packet.specs.Asked.{Sized}
 use Rattle.packet.specs.Accepted.{Whole}
 
@@ -9,6 +9,6 @@ use Rattle.packet.specs.Accepted.{Whole}
 pub record Accepted (p : Packet) (front back place : ℕ) : Type 0 where
   pub sized : Sized p
   pub taken : Whole p
-  pub front-room : height p * width p ≤ front
-  pub back-room : height p * width p ≤ back
+  pub front-room : pixels (p .columns) (p .rows) ≤ front
+  pub back-room : pixels (p .columns) (p .rows) ≤ back
   pub at : place ≤ blocks p

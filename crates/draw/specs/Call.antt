@@ -3,47 +3,47 @@
 -- Assumes nothing.
 use mathlib.Core.Bool.{Bool, true, false, cond}
 use mathlib.Core.List.{List}
-use Prim.Native.Nat.{ℕ, _*_}
+use Prim.Native.Nat.{ℕ}
 use lib.Dec.{ltb}
 use lib.ListN.{length}
 use Rattle.refusal.specs.Number.{Verdict, accept, refuse, number, block}
-use Rattle.packet.specs.Packet.{Packet, blocks}
-use Rattle.packet.specs.Verdict.{legalSize, mapFits, blocksVerdict, sized}
+use Rattle.packet.specs.Packet.{Packet, packet, blocks, pixels}
+use Rattle.packet.specs.Verdict.{legalSize, mapFits, blocksVerdict}
 use Rattle.stores.specs.Stores.{Memory}
 use Rattle.stores.specs.Calls.{Call, refused, allowed, Answer, whole, unfinished, refusal, Outcome, Calling, step}
 use Rattle.draw.specs.Drawing.{plan}
 use Rattle.draw.specs.declared.Drawn.{Drawn}
 use Rattle.draw.specs.declared.Drawn.the-variants.{Whole, Unfinished, Refused}
 
--- the size in pixels, the map, the packet, the shown picture ("front"), and the stores allowed
+-- the size in blocks, the map, the packet, the shown picture ("front"), and the stores allowed
 pub record Request : Type 0 where
-  pub width : ℕ
-  pub height : ℕ
+  pub columns : ℕ
+  pub rows : ℕ
   pub map : List ℕ
   pub bytes : List ℕ
   pub front : List ℕ
   pub allowed : ℕ
 
 abbrev pub request : ℕ → ℕ → List ℕ → List ℕ → List ℕ → ℕ → Request
-request w h map bytes front n = record { width = w; height = h; map = map; bytes = bytes; front = front; allowed = n }
+request columns rows map bytes front n = record { columns = columns; rows = rows; map = map; bytes = bytes; front = front; allowed = n }
 
 abbrev pub packetOf : Request → Packet
-packetOf c = sized (c .width) (c .height) (c .map) (c .bytes)
+packetOf c = packet (c .columns) (c .rows) (c .map) (c .bytes)
 
 -- the verdict on a size, a map, a packet, pictures this long and a place
 unfoldable pub callVerdict : ℕ → ℕ → List ℕ → List ℕ → ℕ → ℕ → ℕ → Verdict
-callVerdict w h map bytes front back place =
-    cond (legalSize w h)
-    (cond (ltb front (w * h)) (refuse 8 0)
-    (cond (ltb back (w * h)) (refuse 8 0)
-    (cond (mapFits (sized w h map bytes))
-    (cond (ltb (blocks (sized w h map bytes)) place) (refuse 11 0) (blocksVerdict (sized w h map bytes)))
+callVerdict columns rows map bytes front back place =
+    cond (legalSize columns rows)
+    (cond (ltb front (pixels columns rows)) (refuse 8 0)
+    (cond (ltb back (pixels columns rows)) (refuse 8 0)
+    (cond (mapFits (packet columns rows map bytes))
+    (cond (ltb (blocks (packet columns rows map bytes)) place) (refuse 11 0) (blocksVerdict (packet columns rows map bytes)))
     (refuse 10 0))))
     (refuse 6 0)
 
 -- the verdict on a call at the memory that it finds
 abbrev pub drawVerdict : Request → Memory → Verdict
-drawVerdict c m = callVerdict (c .width) (c .height) (c .map) (c .bytes) (length (c .front)) (length (m .picture)) (m .place)
+drawVerdict c m = callVerdict (c .columns) (c .rows) (c .map) (c .bytes) (length (c .front)) (length (m .picture)) (m .place)
 
 -- a refusal's number and block
 pub record Reason : Type 0 where

@@ -44,25 +44,24 @@ fn pixel_count(code: u8, s: &[u8]) -> usize
 
 // The tests of a call, where the pictures are front and back bytes long.
 fn judge(
-    width: usize,
-    height: usize,
+    columns: usize,
+    rows: usize,
     map: &[u8],
     data: &[u8],
     front: usize,
     back: usize,
     place: usize,
 ) -> Checked
-    ensures { λ r. ⌜ told r ≡ callVerdict width height (now (map .entry)) (now («data» .entry)) front back place ⌝ }
+    ensures { λ r. ⌜ told r ≡ callVerdict columns rows (now (map .entry)) (now («data» .entry)) front back place ⌝ }
 {
-    if is_legal_size(width, height) {
-        if front < width * height {
+    if is_legal_size(columns, rows) {
+        let pixels = 8 * rows * (8 * columns);
+        if front < pixels {
             return Checked::Refused(Refusal::Buffer);
         }
-        if back < width * height {
+        if back < pixels {
             return Checked::Refused(Refusal::Buffer);
         }
-        let columns = width / 8;
-        let rows = height / 8;
         if map.len() == (columns * rows + 1) / 2 {
             if columns * rows < place {
                 return Checked::Refused(Refusal::Place);
@@ -120,8 +119,8 @@ fn draw_blocks(
 
 // Makes the first stores due from the place on, at most as many as are allowed, after every test; a refused call changes nothing.
 pub fn draw(
-    width: usize,
-    height: usize,
+    columns: usize,
+    rows: usize,
     map: &[u8],
     data: &[u8],
     front: &[u8],
@@ -129,15 +128,13 @@ pub fn draw(
     place: &mut usize,
     allowed: usize,
 ) -> Drawn
-    ensures { λ r. ⌜ pictures (now (front .exit)) (memory (now (back .exit)) (now (place .exit))) ≡ leaves (request width height (now (map .entry)) (now («data» .entry)) (now (front .entry)) allowed) (memory (now (back .entry)) (now (place .entry))) ⌝ }
-    ensures { λ r. ⌜ said r ≡ reply calling (memory (now (back .entry)) (now (place .entry))) (request width height (now (map .entry)) (now («data» .entry)) (now (front .entry)) allowed) ⌝ }
+    ensures { λ r. ⌜ pictures (now (front .exit)) (memory (now (back .exit)) (now (place .exit))) ≡ leaves (request columns rows (now (map .entry)) (now («data» .entry)) (now (front .entry)) allowed) (memory (now (back .entry)) (now (place .entry))) ⌝ }
+    ensures { λ r. ⌜ said r ≡ reply calling (memory (now (back .entry)) (now (place .entry))) (request columns rows (now (map .entry)) (now («data» .entry)) (now (front .entry)) allowed) ⌝ }
 {
     let at = *place;
-    match judge(width, height, map, data, front.len(), back.len(), at) {
+    match judge(columns, rows, map, data, front.len(), back.len(), at) {
         Checked::Refused(r) => Drawn::Refused(r),
         Checked::Accepted => {
-            let columns = width / 8;
-            let rows = height / 8;
             let count = draw_blocks(columns, rows, map, data, front, back, place, allowed);
             let next = *place;
             if next == columns * rows {

@@ -53,31 +53,31 @@ called-is st p q l x o c k f g h =
     ∙ ap (λ (m : Memory). after (drawnStep st p (reply calling (memory (l .second) (l .place)) q)) (withPictures l (l .first) (m .picture) (m .place))) h
 
 module _ (st : State) (p : ℕ) (map packet : List ℕ) (allowed : ℕ) (a b : List ℕ) (place : ℕ) (x : Step) (c : List ℕ) (k : ℕ) (o : Reply Reason) (f : x ≡ drawnStep st p o) (l : Lent) where
-  pub drew-second : st .front ≡ 0 → o ≡ reply calling (memory b place) (request (st .width) (st .height) map packet a allowed)
-      → pictures a (memory c k) ≡ leaves (request (st .width) (st .height) map packet a allowed) (memory b place)
+  pub drew-second : st .front ≡ 0 → o ≡ reply calling (memory b place) (request (st .columns) (st .rows) map packet a allowed)
+      → pictures a (memory c k) ≡ leaves (request (st .columns) (st .rows) map packet a allowed) (memory b place)
       → after x (withPictures l a c k) ≡ drawOn st p map packet allowed (withPictures l a b place)
   unfolding drawOn
-  drew-second e g h = rw (eq-eqb _ _ e) (called-is st p (request (st .width) (st .height) map packet a allowed) (withPictures l a b place) x o c k f g (ap (λ (y : Pictures). y .drawn) h))
+  drew-second e g h = rw (eq-eqb _ _ e) (called-is st p (request (st .columns) (st .rows) map packet a allowed) (withPictures l a b place) x o c k f g (ap (λ (y : Pictures). y .drawn) h))
 
-  pub drew-first : (st .front ≡ 0 → ⊥) → o ≡ reply calling (memory a place) (request (st .width) (st .height) map packet b allowed)
-      → pictures b (memory c k) ≡ leaves (request (st .width) (st .height) map packet b allowed) (memory a place)
+  pub drew-first : (st .front ≡ 0 → ⊥) → o ≡ reply calling (memory a place) (request (st .columns) (st .rows) map packet b allowed)
+      → pictures b (memory c k) ≡ leaves (request (st .columns) (st .rows) map packet b allowed) (memory a place)
       → after x (withPictures l c b k) ≡ drawOn st p map packet allowed (withPictures l a b place)
   unfolding drawOn
   drew-first n g h =
       rw (ne-eqb _ _ n)
       (ap (λ (o : Outcome). after (o .step) (swap (o .lent)))
-      (called-is st p (request (st .width) (st .height) map packet b allowed) (withPictures l b a place) x o c k f g (ap (λ (y : Pictures). y .drawn) h)))
+      (called-is st p (request (st .columns) (st .rows) map packet b allowed) (withPictures l b a place) x o c k f g (ap (λ (y : Pictures). y .drawn) h)))
 
 module _ (m : Map) (film : List ℕ) (st : State) (body : List ℕ) (p allowed : ℕ) (l : Lent) where
   pub no-map : m ≡ Missing → after (quiet (refused 9 0)) l ≡ drawBy m film st body p allowed l
   unfolding drawBy
   no-map e = rw e
 
-  pub no-size : (start long : ℕ) → m ≡ Part start long → st .width ≡ 0 → after (quiet (refused 9 0)) l ≡ drawBy m film st body p allowed l
+  pub no-size : (start long : ℕ) → m ≡ Part start long → st .columns ≡ 0 → after (quiet (refused 9 0)) l ≡ drawBy m film st body p allowed l
   unfolding drawBy
   no-size start long e q = rw (e, eq-eqb _ _ q)
 
-  pub draws : (start long : ℕ) (o : Outcome) → m ≡ Part start long → (st .width ≡ 0 → ⊥) → o ≡ drawOn st p (part film start (start + long)) (part body 14 (length body)) allowed l
+  pub draws : (start long : ℕ) (o : Outcome) → m ≡ Part start long → (st .columns ≡ 0 → ⊥) → o ≡ drawOn st p (part film start (start + long)) (part body 14 (length body)) allowed l
       → o ≡ drawBy m film st body p allowed l
   unfolding drawBy
   draws start long o e n h = rw (e, ne-eqb _ _ n) h

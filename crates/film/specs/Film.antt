@@ -71,7 +71,7 @@ called st p q l =
 
 -- where the first picture is front, which is shown and read, and the second is back, which is drawn on
 abbrev pub drawSecond : State → ℕ → List ℕ → List ℕ → ℕ → Lent → Outcome
-drawSecond st p map packet allowed l = called st p (request (st .width) (st .height) map packet (l .first) allowed) l
+drawSecond st p map packet allowed l = called st p (request (st .columns) (st .rows) map packet (l .first) allowed) l
 
 -- where the first picture is front, or the second
 unfoldable pub drawOn : State → ℕ → List ℕ → List ℕ → ℕ → Lent → Outcome
@@ -87,7 +87,7 @@ part film s e = take (e - s) (drop s film)
 unfoldable pub drawBy : Map → List ℕ → State → List ℕ → ℕ → ℕ → Lent → Outcome
 drawBy Missing film st body p allowed l = after (quiet (refused 9 0)) l
 drawBy (Part start long) film st body p allowed l =
-    cond (eqb (st .width) 0) (after (quiet (refused 9 0)) l) (drawOn st p (part film start (start + long)) (part body 14 (length body)) allowed l)
+    cond (eqb (st .columns) 0) (after (quiet (refused 9 0)) l) (drawOn st p (part film start (start + long)) (part body 14 (length body)) allowed l)
 
 -- ---- an opcode that is taken and is no sound
 

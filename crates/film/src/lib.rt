@@ -46,8 +46,8 @@ fn draw_on(
 {
     if st.front == 0 {
         let d = draw(
-            st.width,
-            st.height,
+            st.columns,
+            st.rows,
             map,
             packet,
             &a[..],
@@ -58,8 +58,8 @@ fn draw_on(
         return drawn_step(st, p, d);
     }
     let d = draw(
-        st.width,
-        st.height,
+        st.columns,
+        st.rows,
         map,
         packet,
         &b[..],
@@ -89,7 +89,7 @@ fn draw_by(
     match m {
         Map::Missing => Stepped::Refused(Refusal::NoMap),
         Map::Part(start, long) => {
-            if st.width == 0 {
+            if st.columns == 0 {
                 return Stepped::Refused(Refusal::NoMap);
             }
             let map = &film[start..start + long];

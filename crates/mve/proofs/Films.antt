@@ -64,16 +64,16 @@ module _ (s : Sound) (f : Format) (r : MveSound) where
 
 -- a state as code builds it
 abbrev pub state : ℕ → ℕ → ℕ → ℕ → ℕ → Map → Bool → Sound → State
-state p e w h f m u s = record { cursor = record { position = p; «chunk_end» = e }; width = w; height = h; front = f; map = m; unsent = u; sound = s }
+state p e columns rows f m u s = record { cursor = record { position = p; «chunk_end» = e }; columns = columns; rows = rows; front = f; map = m; unsent = u; sound = s }
 
 pub state-is : (m : MveState) (map : Map) (unsent : Bool) (sound : Sound) → map ≡ mapOf (m .«has_map») (m .«map_start») (m .«map_length») → unsent ≡ flagOf (m .unsent)
-    → sound ≡ soundOf (m .sound) → state (m .position) (m .«chunk_end») (m .width) (m .height) (m .front) map unsent sound ≡ stateOf m
+    → sound ≡ soundOf (m .sound) → state (m .position) (m .«chunk_end») (m .columns) (m .rows) (m .front) map unsent sound ≡ stateOf m
 unfolding stateOf
 state-is m map unsent sound e f g = rw (e, f, g)
 
 pub numbers-are : (st : State) (has start long u : ℕ) (s : MveSound) → u ≡ numberOf (st .unsent) → s ≡ ofSound (st .sound)
-    → numbers (st .cursor .position) (st .cursor .«chunk_end») (st .width) (st .height) (st .front) has start long u s
-    ≡ numbers (st .cursor .position) (st .cursor .«chunk_end») (st .width) (st .height) (st .front) has start long (numberOf (st .unsent)) (ofSound (st .sound))
+    → numbers (st .cursor .position) (st .cursor .«chunk_end») (st .columns) (st .rows) (st .front) has start long u s
+    ≡ numbers (st .cursor .position) (st .cursor .«chunk_end») (st .columns) (st .rows) (st .front) has start long (numberOf (st .unsent)) (ofSound (st .sound))
 numbers-are st has start long u s e f = rw (e, f)
 
 module _ (st : State) (m : Map) (r : MveState) where

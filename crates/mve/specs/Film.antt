@@ -60,8 +60,8 @@ unfoldable pub stateOf : MveState → State
 stateOf m =
     record {
       cursor = record { position = m .position; «chunk_end» = m .«chunk_end» };
-      width = m .width;
-      height = m .height;
+      columns = m .columns;
+      rows = m .rows;
       front = m .front;
       map = mapOf (m .«has_map») (m .«map_start») (m .«map_length»);
       unsent = flagOf (m .unsent);
@@ -69,12 +69,12 @@ stateOf m =
     }
 
 abbrev pub numbers : ℕ → ℕ → ℕ → ℕ → ℕ → ℕ → ℕ → ℕ → ℕ → MveSound → MveState
-numbers position end width height front has start long unsent sound =
-    record { position = position; «chunk_end» = end; width = width; height = height; front = front; «has_map» = has; «map_start» = start; «map_length» = long; unsent = unsent; sound = sound }
+numbers position end columns rows front has start long unsent sound =
+    record { position = position; «chunk_end» = end; columns = columns; rows = rows; front = front; «has_map» = has; «map_start» = start; «map_length» = long; unsent = unsent; sound = sound }
 
 unfoldable pub withMap : State → Map → MveState
-withMap st Missing = numbers (st .cursor .position) (st .cursor .«chunk_end») (st .width) (st .height) (st .front) 0 0 0 (numberOf (st .unsent)) (ofSound (st .sound))
-withMap st (Part start long) = numbers (st .cursor .position) (st .cursor .«chunk_end») (st .width) (st .height) (st .front) 1 start long (numberOf (st .unsent)) (ofSound (st .sound))
+withMap st Missing = numbers (st .cursor .position) (st .cursor .«chunk_end») (st .columns) (st .rows) (st .front) 0 0 0 (numberOf (st .unsent)) (ofSound (st .sound))
+withMap st (Part start long) = numbers (st .cursor .position) (st .cursor .«chunk_end») (st .columns) (st .rows) (st .front) 1 start long (numberOf (st .unsent)) (ofSound (st .sound))
 
 abbrev pub ofState : State → MveState
 ofState st = withMap st (st .map)

@@ -46,12 +46,12 @@ fn refused(r: Refusal) -> MveAnswer
     }
 }
 
-// Whether a packet is accepted for a picture of width by height pixels.
+// Whether a packet is accepted for a picture of columns by rows blocks.
 #[no_mangle]
-pub extern "C" fn mve_check(width: usize, height: usize, map: &[u8], data: &[u8]) -> MveAnswer
-    ensures { λ r. ⌜ r ≡ ofVerdict (verdict width height (now (map .entry)) (now («data» .entry))) ⌝ }
+pub extern "C" fn mve_check(columns: usize, rows: usize, map: &[u8], data: &[u8]) -> MveAnswer
+    ensures { λ r. ⌜ r ≡ ofVerdict (verdict columns rows (now (map .entry)) (now («data» .entry))) ⌝ }
 {
-    match packet::check(width, height, map, data) {
+    match packet::check(columns, rows, map, data) {
         Checked::Accepted => MveAnswer {
             kind: 0,
             number: 0,
@@ -65,8 +65,8 @@ pub extern "C" fn mve_check(width: usize, height: usize, map: &[u8], data: &[u8]
 // The drawing call.
 #[no_mangle]
 pub extern "C" fn mve_draw(
-    width: usize,
-    height: usize,
+    columns: usize,
+    rows: usize,
     map: &[u8],
     data: &[u8],
     front: &[u8],
@@ -74,10 +74,10 @@ pub extern "C" fn mve_draw(
     place: &mut usize,
     allowed: usize,
 ) -> MveAnswer
-    ensures { λ r. ⌜ pictures (now (front .exit)) (memory (now (back .exit)) (now (place .exit))) ≡ leaves (request width height (now (map .entry)) (now («data» .entry)) (now (front .entry)) allowed) (memory (now (back .entry)) (now (place .entry))) ⌝ }
-    ensures { λ r. ⌜ r ≡ ofOutcome (reply calling (memory (now (back .entry)) (now (place .entry))) (request width height (now (map .entry)) (now («data» .entry)) (now (front .entry)) allowed)) ⌝ }
+    ensures { λ r. ⌜ pictures (now (front .exit)) (memory (now (back .exit)) (now (place .exit))) ≡ leaves (request columns rows (now (map .entry)) (now («data» .entry)) (now (front .entry)) allowed) (memory (now (back .entry)) (now (place .entry))) ⌝ }
+    ensures { λ r. ⌜ r ≡ ofOutcome (reply calling (memory (now (back .entry)) (now (place .entry))) (request columns rows (now (map .entry)) (now («data» .entry)) (now (front .entry)) allowed)) ⌝ }
 {
-    match draw::draw(width, height, map, data, front, back, place, allowed) {
+    match draw::draw(columns, rows, map, data, front, back, place, allowed) {
         Drawn::Whole(n) => MveAnswer {
             kind: 1,
             number: 0,
@@ -113,8 +113,8 @@ pub struct MveSound {
 pub struct MveState {
     pub position: usize,
     pub chunk_end: usize,
-    pub width: usize,
-    pub height: usize,
+    pub columns: usize,
+    pub rows: usize,
     pub front: usize,
     pub has_map: usize,
     pub map_start: usize,
@@ -235,8 +235,8 @@ fn state_of(m: MveState) -> State
             position: m.position,
             chunk_end: m.chunk_end,
         },
-        width: m.width,
-        height: m.height,
+        columns: m.columns,
+        rows: m.rows,
         front: m.front,
         map,
         unsent,
@@ -245,7 +245,7 @@ fn state_of(m: MveState) -> State
 }
 
 fn numbers_of(st: State, has: usize, start: usize, long: usize) -> MveState
-    ensures { λ r. ⌜ r ≡ numbers (st .cursor .position) (st .cursor .«chunk_end») (st .width) (st .height) (st .front) has start long (numberOf (st .unsent)) (ofSound (st .sound)) ⌝ }
+    ensures { λ r. ⌜ r ≡ numbers (st .cursor .position) (st .cursor .«chunk_end») (st .columns) (st .rows) (st .front) has start long (numberOf (st .unsent)) (ofSound (st .sound)) ⌝ }
 {
     let unsent = number(st.unsent);
     let kept = st.sound;
@@ -254,8 +254,8 @@ fn numbers_of(st: State, has: usize, start: usize, long: usize) -> MveState
     MveState {
         position: c.position,
         chunk_end: c.chunk_end,
-        width: st.width,
-        height: st.height,
+        columns: st.columns,
+        rows: st.rows,
         front: st.front,
         has_map: has,
         map_start: start,
@@ -341,8 +341,8 @@ pub extern "C" fn mve_open(film: &[u8], stream: usize) -> MveStep
             MveState {
                 position: 0,
                 chunk_end: 0,
-                width: 0,
-                height: 0,
+                columns: 0,
+                rows: 0,
                 front: 0,
                 has_map: 0,
                 map_start: 0,

@@ -45,7 +45,7 @@ fn listed(film: &[u8], p: usize, inside: bool, next: State) -> bool {
     if inside {
         line(film, p);
     }
-    if 16384 < state::area_of(next.width, next.height) {
+    if 16384 < state::area_of(next.columns, next.rows) {
         io::write_all(1, b"too large\n");
         return true;
     }

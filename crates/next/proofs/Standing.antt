@@ -75,17 +75,17 @@ by-chosen b stream film c s e q = rw (← e) q
 
 -- ---- a state and what is lent
 
-pub judged-lent : (w h palette a b bytes : ℕ) (s t : Standing) (c : Checked) → bytes ≡ area w h → told c ≡ lentVerdict bytes palette a b
-    → c ≡ Accepted → t ≡ s → t ≡ on (lentVerdict (area w h) palette a b) s
-judged-lent w h palette a b bytes s t c e q k g = rw (← e) (goes-on (lentVerdict bytes palette a b) s c q t k g)
+pub judged-lent : (columns rows palette a b bytes : ℕ) (s t : Standing) (c : Checked) → bytes ≡ area columns rows → told c ≡ lentVerdict bytes palette a b
+    → c ≡ Accepted → t ≡ s → t ≡ on (lentVerdict (area columns rows) palette a b) s
+judged-lent columns rows palette a b bytes s t c e q k g = rw (← e) (goes-on (lentVerdict bytes palette a b) s c q t k g)
 
-pub short-lent : (w h palette a b bytes : ℕ) (s : Standing) (c : Checked) (r : Refusal) → bytes ≡ area w h
-    → told c ≡ lentVerdict bytes palette a b → c ≡ Refused r → refused (number r) (block r) ≡ on (lentVerdict (area w h) palette a b) s
-short-lent w h palette a b bytes s c r e q k = rw (← e) (stops (lentVerdict bytes palette a b) s c q r k)
+pub short-lent : (columns rows palette a b bytes : ℕ) (s : Standing) (c : Checked) (r : Refusal) → bytes ≡ area columns rows
+    → told c ≡ lentVerdict bytes palette a b → c ≡ Refused r → refused (number r) (block r) ≡ on (lentVerdict (area columns rows) palette a b) s
+short-lent columns rows palette a b bytes s c r e q k = rw (← e) (stops (lentVerdict bytes palette a b) s c q r k)
 
 module _ (film : List ℕ) (st : State) (palette a b : ℕ) (c : Checked) (e : told c ≡ stateVerdict st (length film)) where
   pub found-here : (t : Standing) → c ≡ Accepted
-      → t ≡ on (lentVerdict (area (st .width) (st .height)) palette a b) (standingAt (chosen (st .sound .stream)) film (st .cursor))
+      → t ≡ on (lentVerdict (area (st .columns) (st .rows)) palette a b) (standingAt (chosen (st .sound .stream)) film (st .cursor))
       → t ≡ nextOf film st palette a b
   unfolding nextOf
   found-here t k h = goes-on (stateVerdict st (length film)) _ c e t k h

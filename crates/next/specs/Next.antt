@@ -58,7 +58,7 @@ standingAt hears film c = cond (eqb (c .position) (c .«chunk_end»)) (chunkEnd 
 unfoldable pub nextOf : List ℕ → State → ℕ → ℕ → ℕ → Standing
 nextOf film st palette a b =
     on (stateVerdict st (length film))
-    (on (lentVerdict (area (st .width) (st .height)) palette a b) (standingAt (chosen (st .sound .stream)) film (st .cursor)))
+    (on (lentVerdict (area (st .columns) (st .rows)) palette a b) (standingAt (chosen (st .sound .stream)) film (st .cursor)))
 
 -- what is known of a state that 16 does not refuse
 pub record Possible (st : State) (film : ℕ) : Type 0 where

@@ -65,9 +65,9 @@ fn standing_at(film: &[u8], c: Cursor, hears: bool) -> Next
 
 fn next_with_lent(film: &[u8], st: State, palette: usize, a: usize, b: usize) -> Next
     requires { ⌜ Possible st (length (now film)) ⌝ }
-    ensures { λ r. ⌜ nextAs r ≡ on (lentVerdict (area (st .width) (st .height)) palette a b) (standingAt (chosen (st .sound .stream)) (now (film .entry)) (st .cursor)) ⌝ }
+    ensures { λ r. ⌜ nextAs r ≡ on (lentVerdict (area (st .columns) (st .rows)) palette a b) (standingAt (chosen (st .sound .stream)) (now (film .entry)) (st .cursor)) ⌝ }
 {
-    let bytes = area_of(st.width, st.height);
+    let bytes = area_of(st.columns, st.rows);
     match judge_lent(bytes, palette, a, b) {
         Checked::Accepted => {
             let c = st.cursor;

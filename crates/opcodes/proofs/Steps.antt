@@ -22,22 +22,22 @@ use Rattle.opcodes.specs.Opcodes.{Step, taken, whole, unfinished, refuse
 
 -- ---- 05
 
-module _ (st : State) (p w h colour : ℕ) where
-  pub second-size : (st .width ≡ 0 → ⊥) → quiet (refused 6 0) ≡ quiet (sizeAnswer st p w h colour)
+module _ (st : State) (p columns rows colour : ℕ) where
+  pub second-size : (st .columns ≡ 0 → ⊥) → quiet (refused 6 0) ≡ quiet (sizeAnswer st p columns rows colour)
   unfolding sizeAnswer
   second-size n = rw (ne-eqb _ _ n)
 
-  module _ (e : st .width ≡ 0) where
-    pub bad-size : legalSize w h ≡ false → quiet (refused 6 0) ≡ quiet (sizeAnswer st p w h colour)
+  module _ (e : st .columns ≡ 0) where
+    pub bad-size : legalSize columns rows ≡ false → quiet (refused 6 0) ≡ quiet (sizeAnswer st p columns rows colour)
     unfolding sizeAnswer
     bad-size q = rw (eq-eqb _ _ e, q)
 
-    module _ (q : legalSize w h ≡ true) where
-      pub true-colour : (colour ≡ 0 → ⊥) → quiet (refused 6 0) ≡ quiet (sizeAnswer st p w h colour)
+    module _ (q : legalSize columns rows ≡ true) where
+      pub true-colour : (colour ≡ 0 → ⊥) → quiet (refused 6 0) ≡ quiet (sizeAnswer st p columns rows colour)
       unfolding sizeAnswer
       true-colour n = rw (eq-eqb _ _ e, q, ne-eqb _ _ n)
 
-      pub size-taken : (x : State) → colour ≡ 0 → x ≡ sized st p w h → quiet (taken x) ≡ quiet (sizeAnswer st p w h colour)
+      pub size-taken : (x : State) → colour ≡ 0 → x ≡ sized st p columns rows → quiet (taken x) ≡ quiet (sizeAnswer st p columns rows colour)
       unfolding sizeAnswer
       size-taken x c f = rw (eq-eqb _ _ e, q, eq-eqb _ _ c) (ap (λ (s : State). quiet (taken s)) f)
 
@@ -56,10 +56,10 @@ module _ (film : ℕ) (st : State) (kind version : ℕ) (body : List ℕ) (p : �
   unfolding quietAnswer
   ends-film x e f = rw e (ap (λ (s : State). quiet (taken s)) f)
 
-  pub gives-size : (w h c : ℕ) (r : Step) → kind ≡ 5 → w ≡ wordAt body 0 → h ≡ wordAt body 2 → c ≡ colourOf body version → r ≡ quiet (sizeAnswer st p w h c)
+  pub gives-size : (columns rows c : ℕ) (r : Step) → kind ≡ 5 → columns ≡ wordAt body 0 → rows ≡ wordAt body 2 → c ≡ colourOf body version → r ≡ quiet (sizeAnswer st p columns rows c)
       → r ≡ quiet (quietAnswer film st kind version body p)
   unfolding quietAnswer
-  gives-size w h c r e a b d f = rw (e, ← a, ← b, ← d) f
+  gives-size columns rows c r e a b d f = rw (e, ← a, ← b, ← d) f
 
   pub sends : (x : State) → kind ≡ 7 → x ≡ sent st p → quiet (taken x) ≡ quiet (quietAnswer film st kind version body p)
   unfolding quietAnswer

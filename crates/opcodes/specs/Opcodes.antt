@@ -50,10 +50,10 @@ steppedAs (Refused r) = quiet (refused (number r) (block r))
 
 -- ---- opcodes that change nothing lent
 
--- 05: width, height and true-colour words; 6 for a size that is not legal, true colour, or a second 05
+-- 05: words columns, rows and true colour; 6 for a size that is not legal, true colour, or a second 05
 unfoldable pub sizeAnswer : State → ℕ → ℕ → ℕ → ℕ → Answer
-sizeAnswer st p w h colour =
-    cond (eqb (st .width) 0) (cond (legalSize w h) (cond (eqb colour 0) (taken (sized st p w h)) (refused 6 0)) (refused 6 0)) (refused 6 0)
+sizeAnswer st p columns rows colour =
+    cond (eqb (st .columns) 0) (cond (legalSize columns rows) (cond (eqb colour 0) (taken (sized st p columns rows)) (refused 6 0)) (refused 6 0)) (refused 6 0)
 
 -- version 2 alone has a true-colour word, behind the count word, which is not read
 unfoldable pub colourOf : List ℕ → ℕ → ℕ

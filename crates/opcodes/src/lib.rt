@@ -21,13 +21,13 @@ pub enum Stepped {
 }
 
 // 05.
-fn size_step(st: State, p: usize, w: usize, h: usize, colour: usize) -> Stepped
-    ensures { λ r. ⌜ steppedAs r ≡ quiet (sizeAnswer st p w h colour) ⌝ }
+fn size_step(st: State, p: usize, columns: usize, rows: usize, colour: usize) -> Stepped
+    ensures { λ r. ⌜ steppedAs r ≡ quiet (sizeAnswer st p columns rows colour) ⌝ }
 {
-    if st.width == 0 {
-        if is_legal_size(w, h) {
+    if st.columns == 0 {
+        if is_legal_size(columns, rows) {
             if colour == 0 {
-                return Stepped::Taken(st.sized(p, w, h));
+                return Stepped::Taken(st.sized(p, columns, rows));
             }
             return Stepped::Refused(Refusal::Size);
         }

@@ -14,8 +14,8 @@ use Rattle.words.proofs.Tests.{not-first, first}
 use Rattle.refusal.specs.Number.{Verdict, accept, refuse}
 use Rattle.motion.proofs.Vectors.{inside-each, inside-all}
 use Rattle.block.specs.Block.{Kind, same, kept, ahead, behind, near, far, patterned, celled, dithered, refused, kindOf, dataLength, copyInside}
-use Rattle.packet.specs.Packet.{Packet, blocks, width, height, left, top, code, startOf, start, dataOf, kind}
-use Rattle.packet.specs.Verdict.{andThen, blockVerdict, endVerdict, verdictFrom, blocksVerdict, mapFits, legalSize, sized, verdict}
+use Rattle.packet.specs.Packet.{Packet, packet, blocks, width, height, left, top, code, startOf, start, dataOf, kind}
+use Rattle.packet.specs.Verdict.{andThen, blockVerdict, endVerdict, verdictFrom, blocksVerdict, mapFits, legalSize, verdict}
 use Rattle.packet.specs.Accepted.{CopyInside, Takes, Whole, Accepts}
 use Rattle.block.proofs.Codes.{code-known, code-refused}
 use Rattle.packet.proofs.Walk.{code-below}
@@ -144,14 +144,14 @@ is-whole p w =
 
 -- ---- the whole check
 
-pub accepted-exactly : (w h : ℕ) (map bytes : List ℕ)
-    → (verdict w h map bytes ≡ accept → Accepts w h map bytes) × (Accepts w h map bytes → verdict w h map bytes ≡ accept)
+pub accepted-exactly : (columns rows : ℕ) (map bytes : List ℕ)
+    → (verdict columns rows map bytes ≡ accept → Accepts columns rows map bytes) × (Accepts columns rows map bytes → verdict columns rows map bytes ≡ accept)
 unfolding verdict mapFits
-accepted-exactly w h map bytes = (
+accepted-exactly columns rows map bytes = (
   λ e.
       let a = first _ _ _ _ (refuses 6 0) e in
       let b = first _ _ _ _ (refuses 10 0) (a .1) in
-      let l = size-is w h (a .0) in
-      record { wide = l .0; high = l .1; mapped = eqb-true _ _ (b .0); drawn = whole-is (sized w h map bytes) (b .1) },
-  λ a. rw (is-size w h (a .wide) (a .high), eq-eqb _ _ (a .mapped), is-whole (sized w h map bytes) (a .drawn)),
+      let l = size-is columns rows (a .0) in
+      record { wide = l .0; high = l .1; mapped = eqb-true _ _ (b .0); drawn = whole-is (packet columns rows map bytes) (b .1) },
+  λ a. rw (is-size columns rows (a .wide) (a .high), eq-eqb _ _ (a .mapped), is-whole (packet columns rows map bytes) (a .drawn)),
 )

@@ -3,15 +3,15 @@
 use mathlib.Core.Path.{_≡_, refl, sym, _∙_}
 use mathlib.Core.Bool.{Bool, true, false, cond}
 use mathlib.Core.List.{List}
-use Prim.Native.Nat.{ℕ, _+_, _*_, _/_, _%_, _≤_, _<_}
+use Prim.Native.Nat.{ℕ, _+_, _*_, _/_, _≤_, _<_}
 use native.Mathlib.Omega.{arith}
-use borrow.Author.Tests.{le-ltb, eq-eqb, ne-eqb, ltb-false, eqb-true}
+use borrow.Author.Tests.{le-ltb, le-leb, eq-eqb, ne-eqb, ltb-false, leb-true}
 use native.Mathlib.Nat.{mul-le-mul}
 use lib.ListN.{length}
 use Rattle.words.proofs.Tests.{not-first, first}
 use Rattle.refusal.specs.Number.{Verdict, accept, refuse}
-use Rattle.packet.specs.Packet.{Packet, blocks}
-use Rattle.packet.specs.Verdict.{legal, legalSize, mapFits, sized, blocksVerdict, verdict}
+use Rattle.packet.specs.Packet.{packet, blocks, pixels}
+use Rattle.packet.specs.Verdict.{legal, legalSize, mapFits, blocksVerdict, verdict}
 use Rattle.packet.specs.Accepted.{Legal}
 use Rattle.packet.specs.Asked.{Sized}
 
@@ -24,53 +24,55 @@ pub legal-is : (most n : ℕ) → legal most n ≡ true → Legal most n
 unfolding legal
 legal-is most n e =
     let a = not-first _ _ _ _ false-true e in
-    let b = not-first _ _ _ _ false-true (a .1) in
-    record { least = ltb-false _ _ (a .0); bound = ltb-false _ _ (b .0); whole = eqb-true _ _ (b .1) }
+    record { least = ltb-false _ _ (a .0); bound = leb-true _ _ (a .1) }
 
 pub is-legal : (most n : ℕ) → Legal most n → legal most n ≡ true
 unfolding legal
-is-legal most n l = rw (le-ltb _ _ (l .least), le-ltb _ _ (l .bound), eq-eqb _ _ (l .whole))
+is-legal most n l = rw (le-ltb _ _ (l .least), le-leb _ _ (l .bound))
 
-pub size-is : (w h : ℕ) → legalSize w h ≡ true → Legal 640 w × Legal 480 h
+pub size-is : (columns rows : ℕ) → legalSize columns rows ≡ true → Legal 80 columns × Legal 60 rows
 unfolding legalSize
-size-is w h e = let a = first _ _ _ _ false-true e in (legal-is 640 w (a .0), legal-is 480 h (a .1))
+size-is columns rows e = let a = first _ _ _ _ false-true e in (legal-is 80 columns (a .0), legal-is 60 rows (a .1))
 
-pub is-size : (w h : ℕ) → Legal 640 w → Legal 480 h → legalSize w h ≡ true
+pub is-size : (columns rows : ℕ) → Legal 80 columns → Legal 60 rows → legalSize columns rows ≡ true
 unfolding legalSize
-is-size w h a b = rw (is-legal 640 w a, is-legal 480 h b)
+is-size columns rows a b = rw (is-legal 80 columns a, is-legal 60 rows b)
 
 -- ---- the verdict
 
-module _ (w h : ℕ) (map bytes : List ℕ) where
-  pub refuses-6 : legalSize w h ≡ false → refuse 6 0 ≡ verdict w h map bytes
+module _ (columns rows : ℕ) (map bytes : List ℕ) where
+  pub refuses-6 : legalSize columns rows ≡ false → refuse 6 0 ≡ verdict columns rows map bytes
   unfolding verdict
   refuses-6 e = rw e
 
-  module _ (e : legalSize w h ≡ true) where
-    pub refuses-10 : (length map ≡ (blocks (sized w h map bytes) + 1) / 2 → ⊥) → refuse 10 0 ≡ verdict w h map bytes
+  module _ (e : legalSize columns rows ≡ true) where
+    pub refuses-10 : (length map ≡ (blocks (packet columns rows map bytes) + 1) / 2 → ⊥) → refuse 10 0 ≡ verdict columns rows map bytes
     unfolding verdict mapFits
     refuses-10 n = rw (e, ne-eqb _ _ n)
 
-    module _ (m : length map ≡ (blocks (sized w h map bytes) + 1) / 2) where
-      pub judges-blocks : (v : Verdict) → v ≡ blocksVerdict (sized w h map bytes) → v ≡ verdict w h map bytes
+    module _ (m : length map ≡ (blocks (packet columns rows map bytes) + 1) / 2) where
+      pub judges-blocks : (v : Verdict) → v ≡ blocksVerdict (packet columns rows map bytes) → v ≡ verdict columns rows map bytes
       unfolding verdict mapFits
       judges-blocks v q = rw (e, eq-eqb _ _ m) q
 
-      pub is-sized : Sized (sized w h map bytes)
+      pub is-sized : Sized (packet columns rows map bytes)
       is-sized =
-          let l = size-is w h e in
+          let l = size-is columns rows e in
           record {
-            some-columns = omega (arith, l .0);
-            columns = omega (arith, l .0);
-            some-rows = omega (arith, l .1);
-            rows = omega (arith, l .1);
+            some-columns = l .0 .least;
+            columns = l .0 .bound;
+            some-rows = l .1 .least;
+            rows = l .1 .bound;
             mapped = m;
           }
 
--- a picture has few blocks
-pub few : (w h : ℕ) → legalSize w h ≡ true → w / 8 * (h / 8) ≤ 4800
-few w h e =
-    let l = size-is w h e in
-    let a : w / 8 ≤ 80 = omega (arith, l .0) in
-    let b : h / 8 ≤ 60 = omega (arith, l .1) in
+-- a picture has few blocks, and few pixels
+pub few : (columns rows : ℕ) → legalSize columns rows ≡ true → columns * rows ≤ 4800
+few columns rows e = let l = size-is columns rows e in mul-le-mul (l .0 .bound) (l .1 .bound)
+
+pub pixels-few : (columns rows : ℕ) → legalSize columns rows ≡ true → pixels columns rows ≤ 307200
+pixels-few columns rows e =
+    let l = size-is columns rows e in
+    let a : 8 * rows ≤ 480 = omega (arith, l .1 .bound) in
+    let b : 8 * columns ≤ 640 = omega (arith, l .0 .bound) in
     mul-le-mul a b

@@ -3,18 +3,16 @@
 use mathlib.Core.Path.{_≡_}
 use mathlib.Core.Logic.{_≢_}
 use mathlib.Core.List.{List}
-use Prim.Native.Nat.{ℕ, _+_, _/_, _%_, _≤_, _<_}
+use Prim.Native.Nat.{ℕ, _+_, _/_, _≤_, _<_}
 use lib.ListN.{length}
 use Rattle.motion.specs.Motion.{PointsInside, aheadVector, negated, nearVector, farVector}
 use Rattle.block.specs.Block.{Kind, same, kept, ahead, behind, near, far, patterned, celled, dithered, refused, dataLength}
-use Rattle.packet.specs.Packet.{Packet, blocks, width, height, left, top, code, start, kind}
-use Rattle.packet.specs.Verdict.{sized}
+use Rattle.packet.specs.Packet.{Packet, packet, blocks, width, height, left, top, code, start, kind}
 
--- a side of the picture that is a multiple of 8, from 8 to the most
+-- a side of the picture, from 1 block to the most
 pub record Legal (most n : ℕ) : Type 0 where
-  pub least : 8 ≤ n
+  pub least : 1 ≤ n
   pub bound : n ≤ most
-  pub whole : n % 8 ≡ 0
 
 -- the 8x8 that a block at x, y is copied from lies inside the picture w by h
 unfoldable pub CopyInside : Kind → ℕ → ℕ → ℕ → ℕ → Type 0
@@ -40,8 +38,8 @@ pub record Whole (p : Packet) : Type 0 where
   pub each : (k : ℕ) → k < blocks p → Takes p k
   pub used : start p (blocks p) ≡ length (p .bytes)
 
-pub record Accepts (w h : ℕ) (map bytes : List ℕ) : Type 0 where
-  pub wide : Legal 640 w
-  pub high : Legal 480 h
-  pub mapped : length map ≡ (blocks (sized w h map bytes) + 1) / 2
-  pub drawn : Whole (sized w h map bytes)
+pub record Accepts (columns rows : ℕ) (map bytes : List ℕ) : Type 0 where
+  pub wide : Legal 80 columns
+  pub high : Legal 60 rows
+  pub mapped : length map ≡ (blocks (packet columns rows map bytes) + 1) / 2
+  pub drawn : Whole (packet columns rows map bytes)

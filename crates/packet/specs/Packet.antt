@@ -25,6 +25,10 @@ width p = 8 * p .columns
 abbrev pub height : Packet → ℕ
 height p = 8 * p .rows
 
+-- the pixels of a picture, a byte each: rows of pixels times pixels in a row
+abbrev pub pixels : ℕ → ℕ → ℕ
+pixels columns rows = 8 * rows * (8 * columns)
+
 -- of block k: its corner, its code
 abbrev pub left : Packet → ℕ → ℕ
 left p k = 8 * (k % p .columns)

@@ -2,8 +2,8 @@
 -- Assumes nothing.
 use mathlib.Core.Bool.{Bool, true, false, cond}
 use mathlib.Core.List.{List}
-use Prim.Native.Nat.{ℕ, zero, suc, _+_, _/_, _%_}
-use lib.Dec.{eqb, ltb}
+use Prim.Native.Nat.{ℕ, zero, suc, _+_, _/_}
+use lib.Dec.{eqb, leb, ltb}
 use lib.ListN.{length}
 use Rattle.refusal.specs.Number.{Verdict, accept, refuse, refusal}
 use Rattle.block.specs.Block.{dataLength, isRefused, copyInside}
@@ -45,18 +45,14 @@ blocksVerdict p = verdictFrom p (blocks p) 0
 unfoldable pub mapFits : Packet → Bool
 mapFits p = eqb (length (p .map)) ((blocks p + 1) / 2)
 
--- 6: a multiple of 8, from 8 to the most
+-- 6: from 1 block to the most
 unfoldable pub legal : ℕ → ℕ → Bool
-legal most n = cond (ltb n 8) false (cond (ltb most n) false (eqb (n % 8) 0))
+legal most n = cond (ltb n 1) false (leb n most)
 
 unfoldable pub legalSize : ℕ → ℕ → Bool
-legalSize w h = cond (legal 640 w) (legal 480 h) false
+legalSize columns rows = cond (legal 80 columns) (legal 60 rows) false
 
--- the packet of a size in pixels
-abbrev pub sized : ℕ → ℕ → List ℕ → List ℕ → Packet
-sized w h map bytes = packet (w / 8) (h / 8) map bytes
-
--- the check called alone: width and height in pixels, map, data
+-- the check called alone: columns and rows of blocks, map, data
 unfoldable pub verdict : ℕ → ℕ → List ℕ → List ℕ → Verdict
-verdict w h map bytes =
-    cond (legalSize w h) (cond (mapFits (sized w h map bytes)) (blocksVerdict (sized w h map bytes)) (refuse 10 0)) (refuse 6 0)
+verdict columns rows map bytes =
+    cond (legalSize columns rows) (cond (mapFits (packet columns rows map bytes)) (blocksVerdict (packet columns rows map bytes)) (refuse 10 0)) (refuse 6 0)

@@ -17,25 +17,22 @@ pub enum Checked {
     Refused(Refusal),
 }
 
-// Whether n is a multiple of 8 from 8 to most.
+// Whether n blocks, from 1 to most.
 fn is_legal(most: usize, n: usize) -> bool
     ensures { λ r. ⌜ r ≡ legal most n ⌝ }
 {
-    if n < 8 {
+    if n < 1 {
         return false;
     }
-    if most < n {
-        return false;
-    }
-    n % 8 == 0
+    n <= most
 }
 
-// Whether a picture may be w by h pixels.
-pub fn is_legal_size(w: usize, h: usize) -> bool
-    ensures { λ r. ⌜ r ≡ legalSize w h ⌝ }
+// Whether a picture may be so many columns and rows of blocks.
+pub fn is_legal_size(columns: usize, rows: usize) -> bool
+    ensures { λ r. ⌜ r ≡ legalSize columns rows ⌝ }
 {
-    if is_legal(640, w) {
-        return is_legal(480, h);
+    if is_legal(80, columns) {
+        return is_legal(60, rows);
     }
     false
 }
@@ -95,13 +92,11 @@ pub fn check_blocks(columns: usize, rows: usize, map: &[u8], data: &[u8]) -> Che
     Checked::Refused(Refusal::LeftOver)
 }
 
-// Whether the rules accept a packet for a picture of width by height pixels, and if not, why.
-pub fn check(width: usize, height: usize, map: &[u8], data: &[u8]) -> Checked
-    ensures { λ r. ⌜ told r ≡ verdict width height (now (map .entry)) (now («data» .entry)) ⌝ }
+// Whether the rules accept a packet for a picture of columns by rows blocks, and if not, why.
+pub fn check(columns: usize, rows: usize, map: &[u8], data: &[u8]) -> Checked
+    ensures { λ r. ⌜ told r ≡ verdict columns rows (now (map .entry)) (now («data» .entry)) ⌝ }
 {
-    if is_legal_size(width, height) {
-        let columns = width / 8;
-        let rows = height / 8;
+    if is_legal_size(columns, rows) {
         if map.len() == (columns * rows + 1) / 2 {
             return check_blocks(columns, rows, map, data);
         }

@@ -1,6 +1,6 @@
 // Checks the packets on standard input and writes a line for each: `accepted`, or `refused`, the number and the block.
 ghost use Prim.Native.Nat.{_<_};
-// A case is four words, width, height, map length and data length, and then the map and the data.
+// A case is four words, columns, rows, map length and data length, and then the map and the data.
 use packet::Checked;
 
 fn number(n: usize) {

@@ -16,30 +16,30 @@ at-is st c d r e h = h ∙ ap (at st) e
 
 -- a state as code builds it
 abbrev pub state : Cursor → ℕ → ℕ → ℕ → Map → Bool → Sound → State
-state c w h front map unsent sound = record { cursor = c; width = w; height = h; front = front; map = map; unsent = unsent; sound = sound }
+state c columns rows front map unsent sound = record { cursor = c; columns = columns; rows = rows; front = front; map = map; unsent = unsent; sound = sound }
 
 module _ (st : State) (p : ℕ) (c : Cursor) (e : c ≡ cursorBehind (st .cursor) p) where
-  pub sized-is : (w h : ℕ) → state c w h (st .front) (st .map) (st .unsent) (st .sound) ≡ sized st p w h
+  pub sized-is : (columns rows : ℕ) → state c columns rows (st .front) (st .map) (st .unsent) (st .sound) ≡ sized st p columns rows
   unfolding sized
-  sized-is w h = ap (λ (x : Cursor). state x w h (st .front) (st .map) (st .unsent) (st .sound)) e
+  sized-is columns rows = ap (λ (x : Cursor). state x columns rows (st .front) (st .map) (st .unsent) (st .sound)) e
 
-  pub sent-is : (f : ℕ) → f ≡ shownNext (st .unsent) (st .front) → state c (st .width) (st .height) f (st .map) false (st .sound) ≡ sent st p
+  pub sent-is : (f : ℕ) → f ≡ shownNext (st .unsent) (st .front) → state c (st .columns) (st .rows) f (st .map) false (st .sound) ≡ sent st p
   unfolding sent
   sent-is f q =
-      ap (λ (x : Cursor). state x (st .width) (st .height) f (st .map) false (st .sound)) e
-      ∙ ap (λ (x : ℕ). state (cursorBehind (st .cursor) p) (st .width) (st .height) x (st .map) false (st .sound)) q
+      ap (λ (x : Cursor). state x (st .columns) (st .rows) f (st .map) false (st .sound)) e
+      ∙ ap (λ (x : ℕ). state (cursorBehind (st .cursor) p) (st .columns) (st .rows) x (st .map) false (st .sound)) q
 
-  pub mapped-is : (map : Map) → state c (st .width) (st .height) (st .front) map (st .unsent) (st .sound) ≡ mapped st p map
+  pub mapped-is : (map : Map) → state c (st .columns) (st .rows) (st .front) map (st .unsent) (st .sound) ≡ mapped st p map
   unfolding mapped
-  mapped-is map = ap (λ (x : Cursor). state x (st .width) (st .height) (st .front) map (st .unsent) (st .sound)) e
+  mapped-is map = ap (λ (x : Cursor). state x (st .columns) (st .rows) (st .front) map (st .unsent) (st .sound)) e
 
-  pub heard-is : (sound : Sound) → state c (st .width) (st .height) (st .front) (st .map) (st .unsent) sound ≡ heard st p sound
+  pub heard-is : (sound : Sound) → state c (st .columns) (st .rows) (st .front) (st .map) (st .unsent) sound ≡ heard st p sound
   unfolding heard
-  heard-is sound = ap (λ (x : Cursor). state x (st .width) (st .height) (st .front) (st .map) (st .unsent) sound) e
+  heard-is sound = ap (λ (x : Cursor). state x (st .columns) (st .rows) (st .front) (st .map) (st .unsent) sound) e
 
-  pub finished-is : state c (st .width) (st .height) (st .front) Missing true (st .sound) ≡ finished st p
+  pub finished-is : state c (st .columns) (st .rows) (st .front) Missing true (st .sound) ≡ finished st p
   unfolding finished
-  finished-is = ap (λ (x : Cursor). state x (st .width) (st .height) (st .front) Missing true (st .sound)) e
+  finished-is = ap (λ (x : Cursor). state x (st .columns) (st .rows) (st .front) Missing true (st .sound)) e
 
 pub turned-0 : (u : Bool) (f : ℕ) → u ≡ true → f ≡ 0 → 1 ≡ shownNext u f
 unfolding shownNext

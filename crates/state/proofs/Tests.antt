@@ -8,6 +8,7 @@ use native.Mathlib.Omega.{arith}
 use borrow.Author.Tests.{lt-leb, le-leb, eq-eqb, ne-eqb}
 use lib.Dec.{eqb, leb}
 use Rattle.refusal.specs.Number.{Verdict}
+use Rattle.packet.specs.Packet.{pixels}
 use Rattle.packet.specs.Verdict.{legalSize}
 use Rattle.sound.specs.Format.{possibleSound}
 use Rattle.state.specs.declared.Map.{Map}
@@ -33,19 +34,19 @@ pub part-inside : (m : Map) (start long n : ℕ) (r : Bool) → m ≡ Part start
 unfolding mapInside
 part-inside m start long n r e q = rw e q
 
-pub no-size : (w h : ℕ) → w ≡ 0 → eqb h 0 ≡ possibleSize w h
+pub no-size : (columns rows : ℕ) → columns ≡ 0 → eqb rows 0 ≡ possibleSize columns rows
 unfolding possibleSize
-no-size w h e = rw (eq-eqb w 0 e)
+no-size columns rows e = rw (eq-eqb columns 0 e)
 
-pub some-size : (w h : ℕ) (r : Bool) → (w ≡ 0 → ⊥) → r ≡ legalSize w h → r ≡ possibleSize w h
+pub some-size : (columns rows : ℕ) (r : Bool) → (columns ≡ 0 → ⊥) → r ≡ legalSize columns rows → r ≡ possibleSize columns rows
 unfolding possibleSize
-some-size w h r n q = rw (ne-eqb w 0 n) q
+some-size columns rows r n q = rw (ne-eqb columns 0 n) q
 
-pub both-possible : (st : State) (r : Bool) → possibleSize (st .width) (st .height) ≡ true → r ≡ possibleSound (st .sound) → r ≡ possible st
+pub both-possible : (st : State) (r : Bool) → possibleSize (st .columns) (st .rows) ≡ true → r ≡ possibleSound (st .sound) → r ≡ possible st
 unfolding possible
 both-possible st r e q = rw e q
 
-pub no-possible : (st : State) → possibleSize (st .width) (st .height) ≡ false → false ≡ possible st
+pub no-possible : (st : State) → possibleSize (st .columns) (st .rows) ≡ false → false ≡ possible st
 unfolding possible
 no-possible st e = rw e
 
@@ -54,14 +55,14 @@ pub state-judged : (st : State) (film : ℕ) (map kept : Bool) (v : Verdict) →
 unfolding stateVerdict
 state-judged st film map kept v e f q = rw (← e, ← f) q
 
-pub area-legal : (w h : ℕ) → legalSize w h ≡ true → w * h ≡ area w h
+pub area-legal : (columns rows : ℕ) → legalSize columns rows ≡ true → pixels columns rows ≡ area columns rows
 unfolding area
-area-legal w h e = rw e
+area-legal columns rows e = rw e
 
-pub area-none : (w h : ℕ) → legalSize w h ≡ false → 0 ≡ area w h
+pub area-none : (columns rows : ℕ) → legalSize columns rows ≡ false → 0 ≡ area columns rows
 unfolding area
-area-none w h e = rw e
+area-none columns rows e = rw e
 
-pub shown-is : (st : State) (a b r : List ℕ) (n : ℕ) → n ≡ area (st .width) (st .height) → r ≡ chosen (st .front) n a b → r ≡ shownOf st a b
+pub shown-is : (st : State) (a b r : List ℕ) (n : ℕ) → n ≡ area (st .columns) (st .rows) → r ≡ chosen (st .front) n a b → r ≡ shownOf st a b
 unfolding shownOf
 shown-is st a b r n e q = rw (← e) q

@@ -30,7 +30,7 @@ cursorAtEnd c film = cursor film film
 
 -- with another cursor, and all else as it was
 unfoldable pub at : State → Cursor → State
-at st c = record { cursor = c; width = st .width; height = st .height; front = st .front; map = st .map; unsent = st .unsent; sound = st .sound }
+at st c = record { cursor = c; columns = st .columns; rows = st .rows; front = st .front; map = st .map; unsent = st .unsent; sound = st .sound }
 
 -- behind an opcode
 abbrev pub behind : State → ℕ → State
@@ -46,8 +46,8 @@ atEnd st film = at st (cursorAtEnd (st .cursor) film)
 
 -- 05: with a size
 unfoldable pub sized : State → ℕ → ℕ → ℕ → State
-sized st p w h =
-    record { cursor = cursorBehind (st .cursor) p; width = w; height = h; front = st .front; map = st .map; unsent = st .unsent; sound = st .sound }
+sized st p columns rows =
+    record { cursor = cursorBehind (st .cursor) p; columns = columns; rows = rows; front = st .front; map = st .map; unsent = st .unsent; sound = st .sound }
 
 -- if a frame is finished and unsent, front and back change roles; otherwise nothing does
 unfoldable pub shownNext : Bool → ℕ → ℕ
@@ -56,19 +56,19 @@ shownNext unsent front = cond unsent (cond (eqb front 0) 1 0) front
 -- 07: nothing is then unsent
 unfoldable pub sent : State → ℕ → State
 sent st p =
-    record { cursor = cursorBehind (st .cursor) p; width = st .width; height = st .height; front = shownNext (st .unsent) (st .front); map = st .map; unsent = false; sound = st .sound }
+    record { cursor = cursorBehind (st .cursor) p; columns = st .columns; rows = st .rows; front = shownNext (st .unsent) (st .front); map = st .map; unsent = false; sound = st .sound }
 
 -- 0F: with this pending map
 unfoldable pub mapped : State → ℕ → Map → State
 mapped st p map =
-    record { cursor = cursorBehind (st .cursor) p; width = st .width; height = st .height; front = st .front; map = map; unsent = st .unsent; sound = st .sound }
+    record { cursor = cursorBehind (st .cursor) p; columns = st .columns; rows = st .rows; front = st .front; map = map; unsent = st .unsent; sound = st .sound }
 
 -- 03, 08, 09 where a stream is chosen: with the sound that comes of them
 unfoldable pub heard : State → ℕ → Sound → State
 heard st p sound =
-    record { cursor = cursorBehind (st .cursor) p; width = st .width; height = st .height; front = st .front; map = st .map; unsent = st .unsent; sound = sound }
+    record { cursor = cursorBehind (st .cursor) p; columns = st .columns; rows = st .rows; front = st .front; map = st .map; unsent = st .unsent; sound = sound }
 
 -- 11, drawn whole: the map is used up, and a frame is finished and unsent
 unfoldable pub finished : State → ℕ → State
 finished st p =
-    record { cursor = cursorBehind (st .cursor) p; width = st .width; height = st .height; front = st .front; map = Missing; unsent = true; sound = st .sound }
+    record { cursor = cursorBehind (st .cursor) p; columns = st .columns; rows = st .rows; front = st .front; map = Missing; unsent = true; sound = st .sound }

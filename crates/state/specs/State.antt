@@ -2,10 +2,11 @@
 -- Assumes nothing.
 use mathlib.Core.Bool.{Bool, true, false, cond}
 use mathlib.Core.List.{List}
-use Prim.Native.Nat.{ℕ, _+_, _*_}
+use Prim.Native.Nat.{ℕ, _+_}
 use lib.Dec.{eqb, leb, ltb}
 use lib.ListN.{length, take}
 use Rattle.refusal.specs.Number.{Verdict, accept, refuse}
+use Rattle.packet.specs.Packet.{pixels}
 use Rattle.packet.specs.Verdict.{legalSize}
 use Rattle.sound.specs.Format.{possibleSound}
 use Rattle.state.specs.declared.Cursor.{Cursor}
@@ -17,7 +18,7 @@ use Rattle.state.specs.declared.State.{State}
 
 -- a size: none yet, which is 0x0, or a legal one
 unfoldable pub possibleSize : ℕ → ℕ → Bool
-possibleSize w h = cond (eqb w 0) (eqb h 0) (legalSize w h)
+possibleSize columns rows = cond (eqb columns 0) (eqb rows 0) (legalSize columns rows)
 
 -- a pending map lies inside a film this long
 unfoldable pub mapInside : Map → ℕ → Bool
@@ -26,7 +27,7 @@ mapInside (Part start long) film = leb (start + long) film
 
 -- the size and the sound that a state keeps: no format that is both 8-bit and compressed
 unfoldable pub possible : State → Bool
-possible st = cond (possibleSize (st .width) (st .height)) (possibleSound (st .sound)) false
+possible st = cond (possibleSize (st .columns) (st .rows)) (possibleSound (st .sound)) false
 
 -- a position, a chunk end, a film this long, whether the map lies inside, front, and whether what is kept is possible
 unfoldable pub boundsVerdict : ℕ → ℕ → ℕ → Bool → ℕ → Bool → Verdict
@@ -43,7 +44,7 @@ stateVerdict st film =
 
 -- the bytes of a picture of legal size; 0 where there is none
 unfoldable pub area : ℕ → ℕ → ℕ
-area w h = cond (legalSize w h) (w * h) 0
+area columns rows = cond (legalSize columns rows) (pixels columns rows) 0
 
 -- a palette and two pictures this long, where a picture has this many bytes
 unfoldable pub lentVerdict : ℕ → ℕ → ℕ → ℕ → Verdict
@@ -61,4 +62,4 @@ unfoldable pub chosen : ℕ → ℕ → List ℕ → List ℕ → List ℕ
 chosen front n a b = cond (eqb front 0) (leading a n) (cond (eqb front 1) (leading b n) (leading a 0))
 
 unfoldable pub shownOf : State → List ℕ → List ℕ → List ℕ
-shownOf st a b = chosen (st .front) (area (st .width) (st .height)) a b
+shownOf st a b = chosen (st .front) (area (st .columns) (st .rows)) a b

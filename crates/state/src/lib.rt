@@ -22,11 +22,11 @@ pub enum Map {
     Part(usize, usize),
 }
 
-// front: which lent picture is shown, 0 or 1. unsent: a frame is finished and not yet sent. sound: the chosen stream, its format and its last samples.
+// columns, rows: the size in blocks, 0 by 0 before opcode 05. front: which lent picture is shown, 0 or 1. unsent: a frame is finished and not yet sent. sound: the chosen stream, its format and its last samples.
 pub struct State {
     pub cursor: Cursor,
-    pub width: usize,
-    pub height: usize,
+    pub columns: usize,
+    pub rows: usize,
     pub front: usize,
     pub map: Map,
     pub unsent: bool,
@@ -77,8 +77,8 @@ impl State {
         let sound = self.sound;
         State {
             cursor,
-            width: self.width,
-            height: self.height,
+            columns: self.columns,
+            rows: self.rows,
             front: self.front,
             map,
             unsent: self.unsent,
@@ -110,8 +110,8 @@ impl State {
     }
 
     // 05: with a size.
-    pub fn sized(self, p: usize, w: usize, h: usize) -> State
-        ensures { λ r. ⌜ r ≡ sized self p w h ⌝ }
+    pub fn sized(self, p: usize, columns: usize, rows: usize) -> State
+        ensures { λ r. ⌜ r ≡ sized self p columns rows ⌝ }
     {
         let c = self.cursor;
         let cursor = c.behind(p);
@@ -119,8 +119,8 @@ impl State {
         let sound = self.sound;
         State {
             cursor,
-            width: w,
-            height: h,
+            columns,
+            rows,
             front: self.front,
             map,
             unsent: self.unsent,
@@ -139,8 +139,8 @@ impl State {
         let sound = self.sound;
         State {
             cursor,
-            width: self.width,
-            height: self.height,
+            columns: self.columns,
+            rows: self.rows,
             front,
             map,
             unsent: false,
@@ -157,8 +157,8 @@ impl State {
         let sound = self.sound;
         State {
             cursor,
-            width: self.width,
-            height: self.height,
+            columns: self.columns,
+            rows: self.rows,
             front: self.front,
             map,
             unsent: self.unsent,
@@ -175,8 +175,8 @@ impl State {
         let map = self.map;
         State {
             cursor,
-            width: self.width,
-            height: self.height,
+            columns: self.columns,
+            rows: self.rows,
             front: self.front,
             map,
             unsent: self.unsent,
@@ -193,8 +193,8 @@ impl State {
         let sound = self.sound;
         State {
             cursor,
-            width: self.width,
-            height: self.height,
+            columns: self.columns,
+            rows: self.rows,
             front: self.front,
             map: Map::Missing,
             unsent: true,
@@ -216,20 +216,20 @@ fn shown_next(unsent: bool, front: usize) -> usize
     front
 }
 
-fn is_possible_size(w: usize, h: usize) -> bool
-    ensures { λ r. ⌜ r ≡ possibleSize w h ⌝ }
+fn is_possible_size(columns: usize, rows: usize) -> bool
+    ensures { λ r. ⌜ r ≡ possibleSize columns rows ⌝ }
 {
-    if w == 0 {
-        return h == 0;
+    if columns == 0 {
+        return rows == 0;
     }
-    is_legal_size(w, h)
+    is_legal_size(columns, rows)
 }
 
 // Whether the size and the sound that a state keeps are possible.
 fn is_possible(st: State) -> bool
     ensures { λ r. ⌜ r ≡ possible st ⌝ }
 {
-    if is_possible_size(st.width, st.height) {
+    if is_possible_size(st.columns, st.rows) {
         let s = st.sound;
         return s.is_possible();
     }
@@ -298,11 +298,11 @@ pub fn judge_state(st: State, n: usize) -> Checked
 }
 
 // The bytes of a picture, 0 where the size is not a legal one.
-pub fn area_of(w: usize, h: usize) -> usize
-    ensures { λ r. ⌜ r ≡ area w h ⌝ }
+pub fn area_of(columns: usize, rows: usize) -> usize
+    ensures { λ r. ⌜ r ≡ area columns rows ⌝ }
 {
-    if is_legal_size(w, h) {
-        return w * h;
+    if is_legal_size(columns, rows) {
+        return 8 * rows * (8 * columns);
     }
     0
 }
@@ -344,10 +344,10 @@ fn chosen_part<'a>(front: usize, n: usize, a: &'a [u8], b: &'a [u8]) -> &'a [u8]
     leading_part(a, 0)
 }
 
-// The shown picture: the leading width times height bytes of the lent picture that is front.
+// The shown picture: the leading bytes, one a pixel, of the lent picture that is front.
 pub fn shown<'a>(st: State, a: &'a [u8], b: &'a [u8]) -> &'a [u8]
     ensures { λ r. ⌜ now r ≡ shownOf st (now (a .entry)) (now (b .entry)) ⌝ }
 {
-    let n = area_of(st.width, st.height);
+    let n = area_of(st.columns, st.rows);
     chosen_part(st.front, n, a, b)
 }

@@ -49,7 +49,7 @@ module _ (film : List ℕ) (st : State) (allowed : ℕ) (l : Lent) where
   second-silent : (p : ℕ) (map packet : List ℕ) (m : Lent) → m .room ≡ l .room → RoomKept l (drawSecond st p map packet allowed m)
   unfolding called
   second-silent p map packet m e =
-      let r = drawing.reply calling (memory (m .second) (m .place)) (request (st .width) (st .height) map packet (m .first) allowed) in
+      let r = drawing.reply calling (memory (m .second) (m .place)) (request (st .columns) (st .rows) map packet (m .first) allowed) in
       silent l e (drawn-silent st p (r .answer) (r .count))
 
   on-silent : (p : ℕ) (map packet : List ℕ) → RoomKept l (drawOn st p map packet allowed l)
@@ -62,7 +62,7 @@ module _ (film : List ℕ) (st : State) (allowed : ℕ) (l : Lent) where
   unfolding drawBy
   by-silent Missing body p = silent l refl refl
   by-silent (Part s long) body p =
-      silent-by l (eqb (st .width) 0) (silent l refl refl) (on-silent p (part film s (s + long)) (part body 14 (length body)))
+      silent-by l (eqb (st .columns) 0) (silent l refl refl) (on-silent p (part film s (s + long)) (part body 14 (length body)))
 
   act-silent : (kind version s : ℕ) (body : List ℕ) (p : ℕ) → RoomKept l (act film st kind version s body p allowed l)
   unfolding act

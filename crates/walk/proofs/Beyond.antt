@@ -4,10 +4,11 @@
 use mathlib.Core.Path.{_≡_, refl, sym, ap, _∙_}
 use mathlib.Core.Bool.{Bool, true, false, cond}
 use mathlib.Core.List.{List}
-use Prim.Native.Nat.{ℕ, _+_, _*_}
+use Prim.Native.Nat.{ℕ, _+_}
 use lib.Dec.{eqb}
 use lib.ListN.{length, take, drop}
 use Rattle.refusal.specs.Number.{Verdict, refuse}
+use Rattle.packet.specs.Packet.{pixels}
 use Rattle.packet.specs.Verdict.{legalSize}
 use Rattle.stores.specs.Stores.{Memory, memory}
 use Rattle.stores.specs.Calls.{refusal, returns, cut, callOf, leave, leaveCut, outcome, happens, step, reply}
@@ -39,35 +40,35 @@ use Rattle.walk.specs.Beyond.{bytes, KeptFrom, Unwritten, SameTo, SameSt
 -- ---- a drawing call of any size
 
 -- where the size is not a legal one the call is refused
-module _ (q : Request) (m : Memory) (e : legalSize (q .width) (q .height) ≡ false) where
+module _ (q : Request) (m : Memory) (e : legalSize (q .columns) (q .rows) ≡ false) where
   refused-leaves : step calling m q ≡ m
   unfolding leave comes
-  refused-leaves = rw (← judged-6 (q .width) (q .height) (q .map) (q .bytes) (length (q .front)) (length (m .picture)) (m .place) e) refl
+  refused-leaves = rw (← judged-6 (q .columns) (q .rows) (q .map) (q .bytes) (length (q .front)) (length (m .picture)) (m .place) e) refl
 
   refused-cuts : (j : ℕ) → happens calling m (cut q j) ≡ m
   unfolding happens leaveCut comes
-  refused-cuts j = rw (← judged-6 (q .width) (q .height) (q .map) (q .bytes) (length (q .front)) (length (m .picture)) (m .place) e) refl
+  refused-cuts j = rw (← judged-6 (q .columns) (q .rows) (q .map) (q .bytes) (length (q .front)) (length (m .picture)) (m .place) e) refl
 
   refused-says : reply calling m q ≡ record { answer = refusal (reason 6 0); count = 0 }
   unfolding outcome comes
-  refused-says = rw (← judged-6 (q .width) (q .height) (q .map) (q .bytes) (length (q .front)) (length (m .picture)) (m .place) e) refl
+  refused-says = rw (← judged-6 (q .columns) (q .rows) (q .map) (q .bytes) (length (q .front)) (length (m .picture)) (m .place) e) refl
 
-draw-kept : (q : Request) (m : Memory) → drop (area (q .width) (q .height)) (step calling m q .picture) ≡ drop (area (q .width) (q .height)) (m .picture)
+draw-kept : (q : Request) (m : Memory) → drop (area (q .columns) (q .rows)) (step calling m q .picture) ≡ drop (area (q .columns) (q .rows)) (m .picture)
 unfolding area callOf happens
-draw-kept q m = by (legalSize (q .width) (q .height)) refl
+draw-kept q m = by (legalSize (q .columns) (q .rows)) refl
   where
-    by : (b : Bool) → legalSize (q .width) (q .height) ≡ b
-        → drop (cond b (q .width * q .height) 0) (step calling m q .picture) ≡ drop (cond b (q .width * q .height) 0) (m .picture)
+    by : (b : Bool) → legalSize (q .columns) (q .rows) ≡ b
+        → drop (cond b (pixels (q .columns) (q .rows)) 0) (step calling m q .picture) ≡ drop (cond b (pixels (q .columns) (q .rows)) 0) (m .picture)
     by true e = beyond-unwritten m (returns q)
     by false e = ap (λ (x : Memory). drop 0 (x .picture)) (refused-leaves q m e)
 
-draw-same : (q : Request) (front : List ℕ) (m m′ : Memory) → take (area (q .width) (q .height)) (q .front) ≡ take (area (q .width) (q .height)) front
-    → SameMemory (area (q .width) (q .height)) m m′ → SameCalls (area (q .width) (q .height)) q front m m′
+draw-same : (q : Request) (front : List ℕ) (m m′ : Memory) → take (area (q .columns) (q .rows)) (q .front) ≡ take (area (q .columns) (q .rows)) front
+    → SameMemory (area (q .columns) (q .rows)) m m′ → SameCalls (area (q .columns) (q .rows)) q front m m′
 unfolding area
-draw-same q front m m′ f s = by (legalSize (q .width) (q .height)) refl f s
+draw-same q front m m′ f s = by (legalSize (q .columns) (q .rows)) refl f s
   where
-    by : (b : Bool) → legalSize (q .width) (q .height) ≡ b → take (cond b (q .width * q .height) 0) (q .front) ≡ take (cond b (q .width * q .height) 0) front
-        → SameMemory (cond b (q .width * q .height) 0) m m′ → SameCalls (cond b (q .width * q .height) 0) q front m m′
+    by : (b : Bool) → legalSize (q .columns) (q .rows) ≡ b → take (cond b (pixels (q .columns) (q .rows)) 0) (q .front) ≡ take (cond b (pixels (q .columns) (q .rows)) 0) front
+        → SameMemory (cond b (pixels (q .columns) (q .rows)) 0) m m′ → SameCalls (cond b (pixels (q .columns) (q .rows)) 0) q front m m′
     by true e f s = beyond-unread q front m m′ f s
     by false e f s =
         record {
@@ -95,7 +96,7 @@ module _ (film : List ℕ) (st : State) (allowed : ℕ) where
   kept-drawn p map packet l =
       record {
         first = refl;
-        second = draw-kept (request (st .width) (st .height) map packet (l .first) allowed) (memory (l .second) (l .place));
+        second = draw-kept (request (st .columns) (st .rows) map packet (l .first) allowed) (memory (l .second) (l .place));
       }
 
   kept-on : (p : ℕ) (map packet : List ℕ) (l : Lent) → KeptFrom (bytes st) l (drawOn st p map packet allowed l)
@@ -107,7 +108,7 @@ module _ (film : List ℕ) (st : State) (allowed : ℕ) where
   kept-map : (map : Map) (body : List ℕ) (p : ℕ) (l : Lent) → KeptFrom (bytes st) l (drawBy map film st body p allowed l)
   unfolding drawBy
   kept-map Missing body p l = kept (bytes st) l _ refl refl
-  kept-map (Part s long) body p l = kept-by (bytes st) l (eqb (st .width) 0) _ _ (kept (bytes st) l _ refl refl) (kept-on p (part film s (s + long)) (part body 14 (length body)) l)
+  kept-map (Part s long) body p l = kept-by (bytes st) l (eqb (st .columns) 0) _ _ (kept (bytes st) l _ refl refl) (kept-on p (part film s (s + long)) (part body 14 (length body)) l)
 
   kept-act : (kind version s : ℕ) (body : List ℕ) (p : ℕ) (l : Lent) → KeptFrom (bytes st) l (act film st kind version s body p allowed l)
   unfolding act
@@ -146,7 +147,7 @@ module _ (film : List ℕ) (st : State) (allowed : ℕ) where
   unfolding called
   same-drawn p map packet l m s =
       let c =
-      draw-same (request (st .width) (st .height) map packet (l .first) allowed) (m .first) (memory (l .second) (l .place)) (memory (m .second) (m .place))
+      draw-same (request (st .columns) (st .rows) map packet (l .first) allowed) (m .first) (memory (l .second) (l .place)) (memory (m .second) (m .place))
       (s .first) (record { picture = s .second; place = s .place }) in
       record {
         step = ap (drawnStep st p) (c .answers);
@@ -165,7 +166,7 @@ module _ (film : List ℕ) (st : State) (allowed : ℕ) where
   unfolding drawBy
   same-map Missing body p l m s = record { step = refl; lent = s }
   same-map (Part a long) body p l m s =
-      same-by (bytes st) (eqb (st .width) 0) _ _ _ _ (record { step = refl; lent = s }) (same-on p (part film a (a + long)) (part body 14 (length body)) l m s)
+      same-by (bytes st) (eqb (st .columns) 0) _ _ _ _ (record { step = refl; lent = s }) (same-on p (part film a (a + long)) (part body 14 (length body)) l m s)
 
   same-update : (p : ℕ) (u : Update) (l m : Lent) → SameTo (bytes st) l m → SameSteps (bytes st) (update st p u l) (update st p u m)
   same-update p u l m s =

@@ -79,9 +79,9 @@ room-is n p a b r =
     (ltb-false a n (y .0), ltb-false b n (z .0))
 
 long-enough : (film : List ℕ) (st : State) (p a b : ℕ) (o : Opcode) → nextOf film st p a b ≡ found.opcode o
-    → (area (st .width) (st .height) ≤ a) × (area (st .width) (st .height) ≤ b)
+    → (area (st .columns) (st .rows) ≤ a) × (area (st .columns) (st .rows) ≤ b)
 unfolding nextOf
-long-enough film st p a b o e = room-is (area (st .width) (st .height)) p a b (on-opcode _ _ o (on-opcode _ _ o e .1) .0)
+long-enough film st p a b o e = room-is (area (st .columns) (st .rows)) p a b (on-opcode _ _ o (on-opcode _ _ o e .1) .0)
 
 -- ---- answers that are none of a drawing
 
@@ -106,12 +106,12 @@ unfolding paletteAnswer
 not-palette st p accept = not-taken (behind st p)
 not-palette st p (refuse n k) = not-refused n k
 
-not-sized : (st : State) (p w h colour : ℕ) → Drew (sizeAnswer st p w h colour) → ⊥
+not-sized : (st : State) (p columns rows colour : ℕ) → Drew (sizeAnswer st p columns rows colour) → ⊥
 unfolding sizeAnswer
-not-sized st p w h colour =
+not-sized st p columns rows colour =
     let no = not-refused 6 0 in
-    not-by (eqb (st .width) 0) _ (refused 6 0)
-    (not-by (legalSize w h) _ (refused 6 0) (not-by (eqb colour 0) (taken (sized st p w h)) (refused 6 0) (not-taken (sized st p w h)) no) no) no
+    not-by (eqb (st .columns) 0) _ (refused 6 0)
+    (not-by (legalSize columns rows) _ (refused 6 0) (not-by (eqb colour 0) (taken (sized st p columns rows)) (refused 6 0) (not-taken (sized st p columns rows)) no) no) no
 
 not-quiet : (film : ℕ) (st : State) (kind version : ℕ) (body : List ℕ) (p : ℕ) → Drew (quietAnswer film st kind version body p) → ⊥
 unfolding quietAnswer
@@ -125,19 +125,19 @@ not-quiet film st kind version body p =
 module _ (film : List ℕ) (st : State) (allowed : ℕ) where
   -- the call's tests, by the packet, the map and the place
   abbrev Accepted : List ℕ → List ℕ → Lent → Type 0
-  Accepted map packet l = DrawAccepts (st .width) (st .height) map packet (length (l .first)) (length (l .second)) (l .place)
+  Accepted map packet l = DrawAccepts (st .columns) (st .rows) map packet (length (l .first)) (length (l .second)) (l .place)
 
   drew-second : (p : ℕ) (map packet : List ℕ) (l : Lent) → Accepted map packet l → Drew (drawSecond st p map packet allowed l .step .answer)
   unfolding called
   drew-second p map packet l a =
-      drew-accepted st p (request (st .width) (st .height) map packet (l .first) allowed) (memory (l .second) (l .place))
-      (drawn-exactly (st .width) (st .height) map packet (length (l .first)) (length (l .second)) (l .place) .1 a)
+      drew-accepted st p (request (st .columns) (st .rows) map packet (l .first) allowed) (memory (l .second) (l .place))
+      (drawn-exactly (st .columns) (st .rows) map packet (length (l .first)) (length (l .second)) (l .place) .1 a)
 
   second-drew : (p : ℕ) (map packet : List ℕ) (l : Lent) → Drew (drawSecond st p map packet allowed l .step .answer) → Accepted map packet l
   unfolding called
   second-drew p map packet l d =
-      drawn-exactly (st .width) (st .height) map packet (length (l .first)) (length (l .second)) (l .place) .0
-      (accepted-drew st p (request (st .width) (st .height) map packet (l .first) allowed) (memory (l .second) (l .place)) d)
+      drawn-exactly (st .columns) (st .rows) map packet (length (l .first)) (length (l .second)) (l .place) .0
+      (accepted-drew st p (request (st .columns) (st .rows) map packet (l .first) allowed) (memory (l .second) (l .place)) d)
 
   -- whichever picture is front
   other-way : (map packet : List ℕ) (l : Lent) → Accepted map packet l → Accepted map packet (swap l)
@@ -160,7 +160,7 @@ module _ (film : List ℕ) (st : State) (allowed : ℕ) where
       by true d = second-drew p map packet l d
       by false d = other-way map packet (swap l) (second-drew p map packet (swap l) d)
 
-  drew-by : (map : Map) (start long : ℕ) → map ≡ Part start long → eqb (st .width) 0 ≡ false → (body : List ℕ) (p : ℕ) (l : Lent)
+  drew-by : (map : Map) (start long : ℕ) → map ≡ Part start long → eqb (st .columns) 0 ≡ false → (body : List ℕ) (p : ℕ) (l : Lent)
       → Accepted (part film start (start + long)) (part body 14 (length body)) l → Drew (drawBy map film st body p allowed l .step .answer)
   unfolding drawBy
   drew-by map start long e n body p l a = rw (e, n) (drew-on p (part film start (start + long)) (part body 14 (length body)) l a)
@@ -200,7 +200,7 @@ module _ (film : List ℕ) (st : State) (allowed : ℕ) where
   by-drew : (map : Map) (body : List ℕ) (p : ℕ) (l : Lent) → Drew (drawBy map film st body p allowed l .step .answer) → Mapped map body l
   unfolding drawBy
   by-drew Missing body p l d = absurd (not-refused 9 0 d)
-  by-drew (Part start long) body p l d = by (eqb (st .width) 0) d
+  by-drew (Part start long) body p l d = by (eqb (st .columns) 0) d
     where
       by : (b : Bool) → Drew (cond b (after (quiet (refused 9 0)) l) (drawOn st p (part film start (start + long)) (part body 14 (length body)) allowed l) .step .answer)
           → Mapped (Part start long) body l
@@ -233,9 +233,9 @@ module _ (film : List ℕ) (st : State) (allowed : ℕ) where
     λ d.
         let o = d .found in
         let a = d .accepted in
-        let e = is-size (st .width) (st .height) (a .wide) (a .high) in
+        let e = is-size (st .columns) (st .rows) (a .wide) (a .high) in
         let r = long-enough film st (length (l .palette)) (length (l .first)) (length (l .second)) o (d .stands) in
-        let n : eqb (st .width) 0 ≡ false = ne-eqb (st .width) 0 (λ z. let y : ⊥ = omega (arith, a .wide .least, z) in y) in
+        let n : eqb (st .columns) 0 ≡ false = ne-eqb (st .columns) 0 (λ z. let y : ⊥ = omega (arith, a .wide .least, z) in y) in
         rw (d .stands)
         (drew-taken o l (d .is-11)
         (drew-act (o .kind) (o .version) (o .start) (bodyOf film o) (o .start + o .long) l (d .is-11)

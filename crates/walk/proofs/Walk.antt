@@ -52,9 +52,9 @@ module _ (film : List ℕ) (st : State) (p : ℕ) (rises : st .cursor .position 
   unfolding at cursorAtEnd
   on-end = record { rises = omega arith; ordered = omega arith; inside = omega arith }
 
-  on-sized : (w h : ℕ) → Forward (length film) st (sized st p w h)
+  on-sized : (columns rows : ℕ) → Forward (length film) st (sized st p columns rows)
   unfolding sized cursorBehind
-  on-sized w h = record { rises = rises; ordered = within; inside = inside }
+  on-sized columns rows = record { rises = rises; ordered = within; inside = inside }
 
   on-sent : Forward (length film) st (sent st p)
   unfolding sent cursorBehind
@@ -72,12 +72,12 @@ module _ (film : List ℕ) (st : State) (p : ℕ) (rises : st .cursor .position 
   unfolding heard cursorBehind
   on-heard s = record { rises = rises; ordered = within; inside = inside }
 
-  size-moves : (w h c : ℕ) → Moves (length film) st (sizeAnswer st p w h c)
+  size-moves : (columns rows c : ℕ) → Moves (length film) st (sizeAnswer st p columns rows c)
   unfolding sizeAnswer Moves
-  size-moves w h c = by (eqb (st .width) 0) (legalSize w h) (eqb c 0)
+  size-moves columns rows c = by (eqb (st .columns) 0) (legalSize columns rows) (eqb c 0)
     where
-      by : (t u v : Bool) → Moves (length film) st (cond t (cond u (cond v (taken (sized st p w h)) (refused 6 0)) (refused 6 0)) (refused 6 0))
-      by true true true = on-sized w h
+      by : (t u v : Bool) → Moves (length film) st (cond t (cond u (cond v (taken (sized st p columns rows)) (refused 6 0)) (refused 6 0)) (refused 6 0))
+      by true true true = on-sized columns rows
       by true true false = tt
       by true false v = tt
       by false u v = tt
@@ -132,7 +132,7 @@ module _ (film : List ℕ) (st : State) (p : ℕ) (rises : st .cursor .position 
   on-good map packet n l = by (eqb (st .front) 0)
     where
       q : List ℕ → Request
-      q front = request (st .width) (st .height) map packet front n
+      q front = request (st .columns) (st .rows) map packet front n
 
       by : (t : Bool)
           → Good (length film) st l (cond t (called st p (q (l .first)) l) (after (called st p (q (l .second)) (swap l) .step) (swap (called st p (q (l .second)) (swap l) .lent))))
@@ -142,7 +142,7 @@ module _ (film : List ℕ) (st : State) (p : ℕ) (rises : st .cursor .position 
   by-good : (m : Map) (body : List ℕ) (n : ℕ) (l : Lent) → Good (length film) st l (drawBy m film st body p n l)
   unfolding drawBy Moves
   by-good Missing body n l = quiet-good l (refused 9 0) tt
-  by-good (Part start long) body n l = by (eqb (st .width) 0)
+  by-good (Part start long) body n l = by (eqb (st .columns) 0)
     where
       by : (t : Bool) → Good (length film) st l (cond t (after (quiet (refused 9 0)) l) (drawOn st p (part film start (start + long)) (part body 14 (length body)) n l))
       by true = quiet-good l (refused 9 0) tt

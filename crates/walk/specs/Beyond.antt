@@ -11,7 +11,7 @@ use Rattle.film.specs.Film.{Lent, Outcome, stepOf}
 
 -- the bytes of a picture of the state's size; 0 where it has none
 abbrev pub bytes : State → ℕ
-bytes st = area (st .width) (st .height)
+bytes st = area (st .columns) (st .rows)
 
 -- after a step that was lent l the pictures are as they were from byte n on
 pub record KeptFrom (n : ℕ) (l : Lent) (o : Outcome) : Type 0 where

@@ -5,8 +5,7 @@ use mathlib.Core.Path.{_≡_}
 use mathlib.Core.List.{List}
 use Prim.Native.Nat.{ℕ, _+_, _≤_}
 use lib.ListN.{length}
-use Rattle.packet.specs.Packet.{blocks}
-use Rattle.packet.specs.Verdict.{sized}
+use Rattle.packet.specs.Packet.{packet, blocks}
 use Rattle.packet.specs.Accepted.{Accepts}
 use Rattle.state.specs.declared.Map.the-variants.{Part}
 use Rattle.state.specs.declared.State.{State}
@@ -32,8 +31,8 @@ pub record Draws (film : List ℕ) (st : State) (l : Lent) : Type 0 where
   pub start : ℕ
   pub long : ℕ
   pub mapped : st .map ≡ Part start long
-  pub accepted : Accepts (st .width) (st .height) (part film start (start + long)) (packetOf film found)
-  pub within : l .place ≤ blocks (sized (st .width) (st .height) (part film start (start + long)) (packetOf film found))
+  pub accepted : Accepts (st .columns) (st .rows) (part film start (start + long)) (packetOf film found)
+  pub within : l .place ≤ blocks (packet (st .columns) (st .rows) (part film start (start + long)) (packetOf film found))
 
 -- an answer of a drawing that is not refused
 unfoldable pub Drew : Answer → Type 0

@@ -46,7 +46,7 @@ entry e c = getD palette (3 * e + c) 0
 
 -- the case 16x8, map E2, data 00 07, back all 5
 unfoldable pub example : ℕ → Request
-example n = request 16 8 (0xe2 ∷ []) (0x00 ∷ 0x07 ∷ []) (replicate 128 0) n
+example n = request 2 1 (0xe2 ∷ []) (0x00 ∷ 0x07 ∷ []) (replicate 128 0) n
 
 -- what a call of it allowed n stores leaves and says
 abbrev pub drawn : ℕ → Memory

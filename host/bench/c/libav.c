@@ -8,11 +8,13 @@
 #include <stdlib.h>
 #include <string.h>
 
+enum { BLOCK_SIDE = 8 }; /* pixels */
+
 struct libav {
     AVCodecContext *context;
     AVFrame *frame; /* decoded last */
-    int width;      /* of a decoder of pictures */
-    int height;
+    int columns;    /* of blocks, of a decoder of pictures */
+    int rows;
     int channels; /* of a decoder of sound */
 };
 
@@ -58,14 +60,16 @@ static struct libav *opened(struct libav *decoder)
     return NULL;
 }
 
-/* Null where libavcodec has no such decoder or cannot open it. */
-struct libav *libav_open(int width, int height)
+/* Null where libavcodec has no such decoder or cannot open it. libavcodec is told the size in pixels. */
+struct libav *libav_open(int columns, int rows)
 {
     struct libav *decoder = new_decoder(AV_CODEC_ID_INTERPLAY_VIDEO);
     if (!decoder)
         return NULL;
-    decoder->width = decoder->context->width = width;
-    decoder->height = decoder->context->height = height;
+    decoder->columns = columns;
+    decoder->rows = rows;
+    decoder->context->width = BLOCK_SIDE * columns;
+    decoder->context->height = BLOCK_SIDE * rows;
     decoder->context->bits_per_coded_sample = 8;
     return opened(decoder);
 }
@@ -114,7 +118,7 @@ int libav_decode(struct libav *decoder, const AVPacket *packet)
 int libav_picture(const struct libav *decoder, uint8_t *picture)
 {
     const AVFrame *frame = decoder->frame;
-    int width = decoder->width, height = decoder->height;
+    int width = BLOCK_SIDE * decoder->columns, height = BLOCK_SIDE * decoder->rows;
     if (!frame->data[0] || frame->format != AV_PIX_FMT_PAL8 || frame->width != width || frame->height != height)
         return 0;
     for (int y = 0; y < height; y++)

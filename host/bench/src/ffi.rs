@@ -21,7 +21,7 @@ struct RawPacket {
 
 unsafe extern "C" {
     fn libav_version() -> c_uint;
-    fn libav_open(width: c_int, height: c_int) -> *mut RawDecoder;
+    fn libav_open(columns: c_int, rows: c_int) -> *mut RawDecoder;
     fn libav_open_sound(channels: c_int) -> *mut RawDecoder;
     fn libav_close(decoder: *mut RawDecoder);
     fn libav_packet(bytes: *const u8, length: usize) -> *mut RawPacket;
@@ -88,9 +88,9 @@ pub struct Decoder {
 impl Decoder {
     /// `None` where libavcodec has no such decoder or cannot open it.
     pub fn open(size: Size) -> Option<Decoder> {
-        let (width, height) = (size.width().try_into().ok()?, size.height().try_into().ok()?);
+        let (columns, rows) = (size.columns.try_into().ok()?, size.rows.try_into().ok()?);
         // SAFETY: it takes two numbers.
-        let raw = NonNull::new(unsafe { libav_open(width, height) })?;
+        let raw = NonNull::new(unsafe { libav_open(columns, rows) })?;
         Some(Decoder { open: Open(raw), size })
     }
 

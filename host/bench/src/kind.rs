@@ -156,8 +156,8 @@ mod tests {
     fn valid() {
         for kind in KINDS {
             for (number, Frame { packet, .. }) in frames(kind, 1).iter().enumerate() {
-                let Packet { width, height, map, data } = packet;
-                let blocks = reference::packet::blocks(*width, *height, map, data);
+                let Packet { columns, rows, map, data } = packet;
+                let blocks = reference::packet::blocks(*columns, *rows, map, data);
                 let codes = if number < PRIMERS { PAINTING } else { kind.codes };
                 for block in blocks.expect("a valid packet") {
                     assert!(codes.contains(&block.code), "{} has {:X}", kind.name, block.code);

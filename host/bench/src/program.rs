@@ -79,9 +79,9 @@ pub fn draw(
     place: &mut usize,
     allowed: usize,
 ) -> Result<bool, String> {
-    let Packet { width, height, map, data } = packet;
+    let Packet { columns, rows, map, data } = packet;
     let Pictures { front, back } = pictures;
-    match mve::draw(*width, *height, map, data, front, back, place, allowed) {
+    match mve::draw(*columns, *rows, map, data, front, back, place, allowed) {
         Ok(drawn) => Ok(matches!(drawn, mve::Drawn::Whole { .. })),
         Err(refusal) => Err(refusal.to_string()),
     }
@@ -95,9 +95,9 @@ pub fn draw_whole(packet: &Packet, pictures: &mut Pictures) -> Result<(), String
 
 /// Draws a frame by the second decoder.
 pub fn draw_second(packet: &Packet, pictures: &mut Pictures) -> Result<(), String> {
-    let Packet { width, height, map, data } = packet;
+    let Packet { columns, rows, map, data } = packet;
     let Pictures { front, back } = pictures;
-    match reference::draw(*width, *height, map, data, front, back, &mut 0, ALL_STORES) {
+    match reference::draw(*columns, *rows, map, data, front, back, &mut 0, ALL_STORES) {
         Ok(drawn) if drawn.whole => Ok(()),
         other => Err(format!("{other:?}")),
     }
@@ -126,8 +126,8 @@ impl Program for Check {
     }
 
     fn run(&mut self, number: usize) -> Result<(), String> {
-        let Packet { width, height, map, data } = &self.0[number];
-        mve::check(*width, *height, map, data).map_err(|refusal| refusal.to_string())
+        let Packet { columns, rows, map, data } = &self.0[number];
+        mve::check(*columns, *rows, map, data).map_err(|refusal| refusal.to_string())
     }
 }
 

@@ -31,12 +31,12 @@ pub fn list(seed: u64, number: u64) -> CallList {
         }
         5 | 6 => {
             let (packet, size) = damaged_packet(rng);
-            list_of_packet(rng, packet, size.pixels())
+            list_of_packet(rng, packet, size)
         }
         _ => {
             let packet = packet::hostile(rng);
-            let pixels = packet.width * packet.height;
-            list_of_packet(rng, packet, pixels)
+            let size = Size::new(packet.columns, packet.rows);
+            list_of_packet(rng, packet, size)
         }
     }
 }
@@ -132,10 +132,10 @@ pub fn sound(seed: u64, number: u64) -> Walk {
 }
 
 fn from_opening(rng: &mut Seeded, film: Vec<u8>) -> Walk {
-    let pixels = pixels(&film);
+    let size = size(&film);
     let pictures = [(); 2].map(|()| {
         let zero = rng.one_in(4);
-        let picture = picture(rng, pixels);
+        let picture = picture(rng, size.pixels());
         if zero {
             vec![0; picture.len()]
         } else {
@@ -145,7 +145,7 @@ fn from_opening(rng: &mut Seeded, film: Vec<u8>) -> Walk {
     let length = if rng.one_in(32) { rng.pick(&[0, 767, 769]) } else { 768 };
     let palette = if rng.one_in(4) { vec![0; length] } else { rng.bytes(length) };
     let place = if rng.one_in(8) { rng.pick(&[1, 5000, usize::MAX]) } else { 0 };
-    let allowances = allowances(rng, pixels.div_ceil(64));
+    let allowances = allowances(rng, size.blocks());
     let (state, stream, spare) = (None, NO_STREAM, Vec::new());
     Walk { film, stream, state, palette, pictures, place, allowances, spare }
 }
@@ -164,17 +164,17 @@ fn from_middle(rng: &mut Seeded, film: &Film) -> Walk {
     Walk { film, stream, state, palette, pictures, place, allowances, spare }
 }
 
-/// The pixels of a film's frames; 0 where no step gives it a size. Pictures without a byte do until
+/// The size of a film's frames; 0 by 0 where no step gives it one. Pictures without a byte do until
 /// then.
-fn pixels(film: &[u8]) -> usize {
-    let Ok(state) = reference::film::open(film, NO_STREAM) else { return 0 };
+fn size(film: &[u8]) -> Size {
+    let Ok(state) = reference::film::open(film, NO_STREAM) else { return Size::new(0, 0) };
     let (palette, picture_a, picture_b) = (vec![0; 768], Vec::new(), Vec::new());
     let (place, room, allowed) = (0, Vec::new(), 0);
     let mut walk = Start { state, palette, picture_a, picture_b, place, room, allowed };
     while let Stepped::Taken(state, _) = walk.step(film) {
         walk.state = state;
     }
-    walk.state.width * walk.state.height
+    Size::new(walk.state.columns, walk.state.rows)
 }
 
 /// Any allowances, all stores at each step, or few at each.
@@ -232,13 +232,13 @@ fn damaged_packet(rng: &mut Seeded) -> (Packet, Size) {
     (packet, draft.size)
 }
 
-/// Calls that all bring one packet, which may be refused, for pictures of about so many pixels.
-fn list_of_packet(rng: &mut Seeded, packet: Packet, pixels: usize) -> CallList {
-    let back = picture(rng, pixels);
-    let front = picture(rng, pixels);
+/// Calls that all bring one packet, which may be refused, for pictures of about this size.
+fn list_of_packet(rng: &mut Seeded, packet: Packet, size: Size) -> CallList {
+    let back = picture(rng, size.pixels());
+    let front = picture(rng, size.pixels());
     let calls = (0..rng.between(1, 8)).map(|_| {
-        let allowed = calls::allowance(rng, pixels.div_ceil(64));
-        let cut = rng.one_in(5).then(|| rng.below(allowed.min(pixels) + 1));
+        let allowed = calls::allowance(rng, size.blocks());
+        let cut = rng.one_in(5).then(|| rng.below(allowed.min(size.pixels()) + 1));
         // Not made to be refused, though it may be.
         Call { packet: packet.clone(), front: front.clone(), allowed, cut, refused: false }
     });

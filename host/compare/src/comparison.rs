@@ -168,10 +168,10 @@ impl<'a, D: Decoder> Drawing<'a, D> {
 
 /// The book's account of a call. "The shown picture stays" (01).
 fn enter<'a>(book: &'a mut Book, number: usize, call: &'a Call) -> Seen<'a> {
-    let Packet { width, height, map, data } = &call.packet;
+    let Packet { columns, rows, map, data } = &call.packet;
     let answer = book.enter(&book::Call {
-        width: *width,
-        height: *height,
+        columns: *columns,
+        rows: *rows,
         map,
         data,
         front: &call.front,
@@ -217,7 +217,7 @@ impl Seen<'_> {
 
     /// A refused call leaves the picture as it was found, any other the bytes beyond the frame.
     fn keeps(&self, found: &[u8], call: &Call) -> Result<(), Difference> {
-        let frame = FrameSize::new(call.packet.width, call.packet.height);
+        let frame = FrameSize::new(call.packet.columns, call.packet.rows);
         let from = match (self.answer, frame) {
             (Ok(_), Ok(frame)) => frame.pixels().min(found.len()),
             _ => 0,

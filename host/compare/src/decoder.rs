@@ -71,8 +71,8 @@ impl Decoder for Proved {
     }
 
     fn check(&self, packet: &Packet) -> Checked {
-        let Packet { width, height, map, data } = packet;
-        mve::check(*width, *height, map, data).map_err(common_refusal)
+        let Packet { columns, rows, map, data } = packet;
+        mve::check(*columns, *rows, map, data).map_err(common_refusal)
     }
 
     fn draw(
@@ -83,8 +83,8 @@ impl Decoder for Proved {
         place: &mut usize,
         allowed: usize,
     ) -> Answer {
-        let Packet { width, height, map, data } = packet;
-        mve::draw(*width, *height, map, data, front, back, place, allowed)
+        let Packet { columns, rows, map, data } = packet;
+        mve::draw(*columns, *rows, map, data, front, back, place, allowed)
             .map(common_drawn)
             .map_err(common_refusal)
     }
@@ -121,19 +121,19 @@ fn common_drawn(drawn: mve::Drawn) -> Drawn {
 }
 
 fn common_state(state: mve::State) -> State {
-    let mve::State { position, chunk_end, width, height, front, map, unsent, sound } = state;
+    let mve::State { position, chunk_end, columns, rows, front, map, unsent, sound } = state;
     let map = map.map(|(start, length)| Span { start, length });
     let mve::Sound { stream, has_format, stereo, wide, compressed, begun, left, right } = sound;
     let sound = Sound { stream, has_format, stereo, wide, compressed, begun, left, right };
-    State { position, chunk_end, width, height, front, map, unsent, sound }
+    State { position, chunk_end, columns, rows, front, map, unsent, sound }
 }
 
 fn own_state(state: &State) -> mve::State {
-    let State { position, chunk_end, width, height, front, map, unsent, sound } = *state;
+    let State { position, chunk_end, columns, rows, front, map, unsent, sound } = *state;
     let map = map.map(|Span { start, length }| (start, length));
     let Sound { stream, has_format, stereo, wide, compressed, begun, left, right } = sound;
     let sound = mve::Sound { stream, has_format, stereo, wide, compressed, begun, left, right };
-    mve::State { position, chunk_end, width, height, front, map, unsent, sound }
+    mve::State { position, chunk_end, columns, rows, front, map, unsent, sound }
 }
 
 /// The second decoder.
@@ -146,8 +146,8 @@ impl Decoder for Second {
     }
 
     fn check(&self, packet: &Packet) -> Checked {
-        let Packet { width, height, map, data } = packet;
-        reference::check(*width, *height, map, data)
+        let Packet { columns, rows, map, data } = packet;
+        reference::check(*columns, *rows, map, data)
     }
 
     fn draw(
@@ -158,8 +158,8 @@ impl Decoder for Second {
         place: &mut usize,
         allowed: usize,
     ) -> Answer {
-        let Packet { width, height, map, data } = packet;
-        reference::draw(*width, *height, map, data, front, back, place, allowed)
+        let Packet { columns, rows, map, data } = packet;
+        reference::draw(*columns, *rows, map, data, front, back, place, allowed)
     }
 
     fn open(&self, film: &[u8], stream: usize) -> Opened {

@@ -37,9 +37,9 @@ pub enum Event {
     Longer,
     /// A block of this form is in an accepted packet, or is finished by a drawing call or a step.
     Form(Form),
-    /// A frame of 8x8 is accepted, or finished.
+    /// A frame of one block is accepted, or finished.
     Smallest,
-    /// A frame of 640x480 is accepted, or finished.
+    /// A frame of 80x60 blocks is accepted, or finished.
     Largest,
     /// A film is opened.
     Opened,
@@ -119,7 +119,7 @@ impl Tally {
             }
             Ok(drawn) => {
                 self.drawn(call, places, drawn);
-                if back > call.packet.width * call.packet.height {
+                if back > call.packet.pixels() {
                     self.note(Event::Longer);
                 }
             }
@@ -194,12 +194,12 @@ impl Tally {
 
     /// The blocks that a step over opcode 11 finished.
     fn video(&mut self, film: &[u8], found: &Start, place: usize) {
-        let State { position, chunk_end, width, height, map, .. } = found.state;
+        let State { position, chunk_end, columns, rows, map, .. } = found.state;
         let body = opcode_head(film, position, chunk_end).ok().and_then(|head| head.body.of(film));
         let map = map.and_then(|map| map.of(film));
         let data = body.and_then(|body| body.get(14..));
         if let (Some(map), Some(data)) = (map, data) {
-            let packet = Packet { width, height, map: map.to_vec(), data: data.to_vec() };
+            let packet = Packet { columns, rows, map: map.to_vec(), data: data.to_vec() };
             self.forms(&packet, found.place..place);
         }
     }
@@ -233,16 +233,16 @@ impl Tally {
     }
 
     fn frame(&mut self, packet: &Packet) {
-        match (packet.width, packet.height) {
-            (8, 8) => self.note(Event::Smallest),
-            (640, 480) => self.note(Event::Largest),
+        match (packet.columns, packet.rows) {
+            (1, 1) => self.note(Event::Smallest),
+            (80, 60) => self.note(Event::Largest),
             _ => (),
         }
     }
 
     fn forms(&mut self, packet: &Packet, places: Range<usize>) {
-        let Packet { width, height, map, data } = packet;
-        let blocks = reference::packet::blocks(*width, *height, map, data).unwrap_or_default();
+        let Packet { columns, rows, map, data } = packet;
+        let blocks = reference::packet::blocks(*columns, *rows, map, data).unwrap_or_default();
         for block in blocks.iter().take(places.end).skip(places.start) {
             if let Some(form) = Form::of(block.code, block.data) {
                 self.note(Event::Form(form));

@@ -1,5 +1,5 @@
 //! Every allowance: a call that is allowed n stores makes the first n, for each n from none to all,
-//! in frames of up to 24x24 of every profile. A cut after n stores is such a call, too.
+//! in frames of up to 3x3 blocks of every profile. A cut after n stores is such a call, too.
 
 mod common;
 
@@ -53,7 +53,7 @@ fn profiles() -> impl Iterator<Item = Profile> {
     Profile::MANY.into_iter().chain(Form::ALL.map(Profile::Only))
 }
 
-/// The frames of up to 24x24 pixels, of every profile.
+/// The frames of up to 3x3 blocks, of every profile.
 fn frames() -> impl Iterator<Item = Frame> {
     let sizes = (1..=3).flat_map(|rows| (1..=3).map(move |columns| Size::new(columns, rows)));
     let kinds = sizes.flat_map(|size| profiles().map(move |profile| (size, profile)));

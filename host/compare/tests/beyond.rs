@@ -5,7 +5,7 @@
 use compare::{Answer, Decoder, Proved, Second, Step, Walked};
 use maker::packet_damage::{damaged, Damage};
 use maker::states::{self, Start};
-use maker::{calls, film, packet, Seeded};
+use maker::{calls, film, packet, Seeded, Size};
 use reference::Refusal;
 
 const CASES: u64 = 2000;
@@ -42,10 +42,11 @@ fn draw(decoder: &dyn Decoder, number: u64) -> [Answer; 2] {
     let rng = &mut Seeded::new(number);
     let (draft, damage) = (packet::small(rng), rng.pick(&Damage::ALL));
     let packet = if rng.one_in(2) { damaged(rng, &draft, damage) } else { draft.packet() };
-    let too_large = packet.width > 640 || packet.height > 480;
-    let pixels = if too_large { 0 } else { packet.width * packet.height };
-    let (front, back) = (rng.bytes(pixels), rng.bytes(pixels));
-    let allowances = [calls::allowance(rng, pixels.div_ceil(64)), 312_000];
+    let too_large = packet.columns > 80 || packet.rows > 60;
+    let (columns, rows) = if too_large { (0, 0) } else { (packet.columns, packet.rows) };
+    let size = Size::new(columns, rows);
+    let (front, back) = (rng.bytes(size.pixels()), rng.bytes(size.pixels()));
+    let allowances = [calls::allowance(rng, size.blocks()), 312_000];
     let left = with_any_tail(number, |tail| {
         let (mut front, mut back) = ([&front, tail].concat(), [&back, tail].concat());
         let mut place = 0;
@@ -73,7 +74,7 @@ fn walk(decoder: &dyn Decoder, number: u64) -> Vec<Walked> {
         walk.picture_b.extend(tail);
         let mut left = Vec::new();
         // A scratched 05 may give a larger frame, which a tail is not beyond.
-        while left.len() < 10 && walk.state.width * walk.state.height <= pixels {
+        while left.len() < 10 && walk.state.pixels() <= pixels {
             let answer = decoder.step(&film, &mut walk);
             let [picture_a, picture_b] =
                 [&walk.picture_a, &walk.picture_b].map(|picture| frame(number, picture, tail));

@@ -14,9 +14,9 @@ use reference::Refusal;
 use std::cmp::Ordering;
 use std::collections::BTreeSet;
 
-/// Numbers that no film gives, but that a caller can: some of them would wrap around.
-const EXTREMES: [usize; 6] =
-    [1 << 16, 1 << 32, (1 << 32) + 8, usize::MAX / 2 + 1, usize::MAX - 7, usize::MAX];
+/// Numbers that no film gives, but that a caller can: products of some of them would wrap around.
+const EXTREMES: [usize; 7] =
+    [1 << 16, 1 << 32, (1 << 32) + 1, (1 << 58) + 1, (1 << 61) + 1, usize::MAX / 2 + 1, usize::MAX];
 
 /// Asserts that the answers to a check are the same.
 #[track_caller]
@@ -29,7 +29,7 @@ fn check(packet: &Packet) -> Checked {
 /// Asserts that a call from this place, on pictures of any bytes, comes to the same.
 #[track_caller]
 fn draw(rng: &mut Seeded, packet: &Packet, found: usize, allowed: usize) -> Answer {
-    let pixels = packet.width * packet.height;
+    let pixels = packet.pixels();
     let (front, back) = (rng.bytes(pixels), rng.bytes(pixels));
     let call = |decoder: &dyn Decoder| {
         let (mut front, mut back, mut place) = (front.clone(), back.clone(), found);
@@ -41,31 +41,34 @@ fn draw(rng: &mut Seeded, packet: &Packet, found: usize, allowed: usize) -> Answ
     seen.0
 }
 
-/// Widths and heights past the limits, each with the map length that a legal size would have. They
-/// are checked, and drawn on pictures without a byte: 6, or 8 if the size is legal.
+/// Columns and rows past the limits, each with the map length that a legal size would have. They are
+/// checked, and drawn on pictures without a byte: 6, or 8 if the size is legal.
 #[test]
 fn every_size() {
-    let lengths = || (0..=700).chain(EXTREMES);
+    let numbers = || (0..=200).chain(EXTREMES);
     let mut accepted = 0;
-    for width in lengths() {
-        for height in lengths() {
-            let blocks = (width / 8).saturating_mul(height / 8).min(80 * 60);
+    for columns in numbers() {
+        for rows in numbers() {
+            let blocks = columns.saturating_mul(rows).min(80 * 60);
             let map = vec![0x11; blocks.div_ceil(2)];
-            let packet = Packet { width, height, map, data: Vec::new() };
-            accepted += usize::from(check(&packet).is_ok());
+            let packet = Packet { columns, rows, map, data: Vec::new() };
+            let legal = (1..=80).contains(&columns) && (1..=60).contains(&rows);
+            let expected = if legal { Ok(()) } else { Err(Refusal::new(6)) };
+            assert_eq!(check(&packet), expected, "{columns}x{rows}");
+            accepted += usize::from(legal);
             let drawn = |decoder: &dyn Decoder| decoder.draw(&packet, &mut [], &mut [], &mut 0, 65);
-            assert_eq!(drawn(&Proved), drawn(&Second), "{width}x{height}");
+            assert_eq!(drawn(&Proved), drawn(&Second), "{columns}x{rows}");
         }
     }
     assert_eq!(accepted, 80 * 60);
 }
 
-/// A frame of 40x40 with one block that is not code 1.
+/// A frame of 5x5 blocks, of which one is not code 1.
 fn with_block(number: usize, code: u8, data: &[u8]) -> Packet {
     let mut codes = [1; 26];
     codes[number] = code;
     let map = codes.chunks(2).map(|pair| pair[0] | pair[1] << 4).collect();
-    Packet { width: 40, height: 40, map, data: data.to_vec() }
+    Packet { columns: 5, rows: 5, map, data: data.to_vec() }
 }
 
 /// Each vector of codes 2 to 5, in the corners, at the edges and in the middle of a frame. The
@@ -173,7 +176,7 @@ fn starts(rng: &mut Seeded, film: &[u8], stream: usize) -> [Start; 5] {
     let opened = lent(rng, film, stream);
     let with = |state| Start { state, ..opened.clone() };
     let map = Some(Span { start: film.len() - 1, length: 1 });
-    let sized = with(State { width: 8, height: 8, ..opened.state });
+    let sized = with(State { columns: 1, rows: 1, ..opened.state });
     let mapped = with(State { map, ..opened.state });
     let both = with(State { map, front: 1, unsent: true, ..sized.state });
     let enough = Start { place: 0, ..both };
@@ -194,7 +197,7 @@ fn groups(entries: usize) -> Vec<u8> {
 /// A body for an opcode of this type, cut or filled up to this length where another is right.
 fn made_body(rng: &mut Seeded, kind: u8, length: usize) -> Vec<u8> {
     let mut body = match kind {
-        0x05 => [16_u16, 8, 0xFFFF, 0].map(u16::to_le_bytes).concat(),
+        0x05 => [2_u16, 1, 0xFFFF, 0].map(u16::to_le_bytes).concat(),
         0x0B => vec![3, 2, 4, 200, 1, 56],
         0x0C => [0, (length.saturating_sub(4) / 3) as u16].map(u16::to_le_bytes).concat(),
         0x0D => groups(length.saturating_sub(32) / 3),

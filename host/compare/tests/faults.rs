@@ -8,6 +8,7 @@ use compare::{
 use maker::states::Start;
 use maker::{Form, Packet};
 use reference::film::State;
+use reference::frame::MAX_PIXELS;
 use reference::{Drawn, Refusal};
 
 const SEED: u64 = 1;
@@ -151,7 +152,7 @@ fn places() {
     // Stored a row of blocks at a time.
     let by_rows = |made: &mut Made<'_>| {
         if made.answer.is_ok() {
-            *made.place -= *made.place % (made.packet.width / 8);
+            *made.place -= *made.place % made.packet.columns;
         }
     };
     assert_eq!(part(by_rows), Part::Place);
@@ -180,7 +181,7 @@ fn pictures() {
     assert!(matches!(part(refused_stores), Part::Kept(_)));
     // The first byte beyond the frame.
     let beyond = |made: &mut Made<'_>| {
-        let pixels = made.packet.width * made.packet.height;
+        let pixels = made.packet.pixels();
         if let (Ok(_), Some(byte)) = (made.answer, made.back.get_mut(pixels)) {
             *byte ^= 1;
         }
@@ -188,12 +189,12 @@ fn pictures() {
     assert!(matches!(part(beyond), Part::Kept(_)));
     // The last pixel of the largest frame.
     let last_pixel = |made: &mut Made<'_>| {
-        let largest = (made.packet.width, made.packet.height) == (640, 480);
+        let largest = (made.packet.columns, made.packet.rows) == (80, 60);
         if largest && made.answer.is_ok_and(|drawn| drawn.whole) {
-            made.back[640 * 480 - 1] ^= 1;
+            made.back[MAX_PIXELS - 1] ^= 1;
         }
     };
-    assert_eq!(part(last_pixel), Part::Back(640 * 480 - 1));
+    assert_eq!(part(last_pixel), Part::Back(MAX_PIXELS - 1));
 }
 
 /// A wrong last pixel in the blocks of one form alone.
@@ -201,14 +202,14 @@ fn pictures() {
 fn forms() {
     for form in Form::ALL {
         let fault = |made: &mut Made<'_>| {
-            let Packet { width, height, map, data } = made.packet;
+            let Packet { columns, rows, map, data } = made.packet;
             if made.answer.is_err() {
                 return;
             }
-            let blocks = reference::packet::blocks(*width, *height, map, data).expect("accepted");
+            let blocks = reference::packet::blocks(*columns, *rows, map, data).expect("accepted");
             for block in &blocks[made.found.1..*made.place] {
                 if Form::of(block.code, block.data) == Some(form) {
-                    made.back[(block.y + 7) * width + block.x + 7] ^= 1;
+                    made.back[(block.y + 7) * 8 * columns + block.x + 7] ^= 1;
                 }
             }
         };

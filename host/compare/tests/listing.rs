@@ -58,8 +58,8 @@ fn film_of(kind: u8, body: Vec<u8>) -> Vec<u8> {
     film.bytes()
 }
 
-fn sized(width: u16, height: u16) -> Vec<u8> {
-    film_of(0x05, [width, height].map(u16::to_le_bytes).concat())
+fn sized(columns: u16, rows: u16) -> Vec<u8> {
+    film_of(0x05, [columns, rows].map(u16::to_le_bytes).concat())
 }
 
 /// The made films, those at both limits last.
@@ -76,7 +76,7 @@ fn films() -> Vec<Vec<u8>> {
         let damage = rng.pick(&sound_damage::Damage::ALL);
         films.push(sound_damage::damaged(rng, stream, damage).bytes());
     }
-    films.extend([(128, 128), (136, 128), (640, 480)].map(|(width, height)| sized(width, height)));
+    films.extend([(16, 16), (17, 16), (80, 60)].map(|(columns, rows)| sized(columns, rows)));
     let lengths = [listing::MAX_FILM, listing::MAX_FILM + 1, 100_000];
     films.extend(lengths.map(|length| {
         let mut film = film_of(0x04, vec![7; 24_542]);
@@ -109,7 +109,7 @@ fn as_the_second_decoder_lists() {
     }
 }
 
-/// Both limits, with the text that 01 gives.
+/// Both limits, with the text that 01 gives: 16x16 blocks are 16,384 pixels.
 #[test]
 fn too_large() {
     let films = films();

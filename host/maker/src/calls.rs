@@ -105,8 +105,8 @@ fn refused_call(
                 Damage::CopyOutside,
                 Damage::ShortMap,
                 Damage::LongMap,
-                Damage::BadWidth,
-                Damage::BadHeight,
+                Damage::BadColumns,
+                Damage::BadRows,
             ]);
             if kind == Damage::CutData && draft.packet().data.is_empty() {
                 return None;

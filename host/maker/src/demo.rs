@@ -4,11 +4,11 @@
 //! small enough for the listing program.
 
 use crate::encode;
-use crate::film::{packet_opcodes, Chunk, Film, Opcode};
+use crate::film::{init_video, packet_opcodes, Chunk, Film, Opcode};
 use crate::seeded::Seeded;
 use crate::size::Size;
 
-/// 128x96 pixels.
+/// 16x12 blocks, which are 128x96 pixels.
 pub const SIZE: Size = Size { columns: 16, rows: 12 };
 /// The pictures that the film sends.
 pub const FRAMES: usize = 40;
@@ -110,14 +110,13 @@ fn sound_opcodes(frame: usize) -> [Opcode; 2] {
 /// Timer, size, mode, gradients and single colours. Timer and mode are passed over.
 fn first_chunk() -> Chunk {
     let timer = [&100_000_u32.to_le_bytes()[..], &1_u16.to_le_bytes()].concat();
-    let size = [SIZE.width(), SIZE.height()].map(|side| (side as u16).to_le_bytes()).concat();
     let mode = [640_u16, 480, 0].map(u16::to_le_bytes).concat();
     let gradients = vec![SKY as u8, SKY_ROWS as u8, 16, GROUND as u8, 3, 16];
     let count = SINGLE_COLOURS.len() as u16;
     let single = [&(SUN as u16).to_le_bytes()[..], &count.to_le_bytes(), &SINGLE_COLOURS.concat()];
     let opcodes = vec![
         Opcode::new(0x02, 0, timer),
-        Opcode::new(0x05, 0, size),
+        init_video(SIZE),
         Opcode::new(0x0A, 0, mode),
         Opcode::new(0x0B, 0, gradients),
         Opcode::new(0x0C, 0, single.concat()),

@@ -111,6 +111,20 @@ pub fn with_frames(rng: &mut Seeded, frames: usize) -> Film {
     of_opcodes(rng, size, NO_STREAM, opcodes)
 }
 
+/// A valid film of so many frames of this size, each of them sent, in the shape that other players
+/// look for: the size in a chunk of type 2, each frame in one of type 3, the end in one of type 5.
+pub fn plain(rng: &mut Seeded, size: Size, profile: Profile, frames: usize) -> Film {
+    let chunk = |kind, opcodes| Chunk { kind, opcodes, ..Chunk::default() };
+    let mut chunks = vec![chunk(2, vec![init_video(size)])];
+    for _ in 0..frames {
+        let packet = Draft::make(rng, size, profile).packet();
+        let [map, video] = packet_opcodes(rng, packet);
+        chunks.push(chunk(3, vec![map, video, send(rng)]));
+    }
+    chunks.push(chunk(5, vec![Opcode::new(0x00, 0, Vec::new())]));
+    Film { size, stream: NO_STREAM, chunks, tail: Vec::new() }
+}
+
 /// The opcodes of so many frames, and their size. There may be no opcode 05 only where there is no
 /// frame.
 pub(crate) fn pictures(rng: &mut Seeded, frames: usize) -> (Size, Vec<Opcode>) {
@@ -119,7 +133,7 @@ pub(crate) fn pictures(rng: &mut Seeded, frames: usize) -> (Size, Vec<Opcode>) {
     let mut opcodes = Vec::new();
     others(rng, &mut opcodes);
     if frames > 0 || !rng.one_in(4) {
-        opcodes.push(init_video(rng, size));
+        opcodes.push(any_init_video(rng, size));
     }
     for _ in 0..frames {
         let profile = if large { Profile::Light } else { rng.pick(&Profile::MANY) };
@@ -184,11 +198,18 @@ fn passed_over(rng: &mut Seeded) -> Opcode {
     Opcode::new(kind, rng.byte(), rng.bytes(length))
 }
 
+/// Opcode 05, version 0: words that count columns and rows of blocks (02, W1).
+pub fn init_video(size: Size) -> Opcode {
+    let words = [size.columns, size.rows].map(|blocks| (blocks as u16).to_le_bytes());
+    Opcode::new(0x05, 0, words.concat())
+}
+
 /// Opcode 05 in any version. The count word is any number, the true-colour word 0.
-fn init_video(rng: &mut Seeded, size: Size) -> Opcode {
+fn any_init_video(rng: &mut Seeded, size: Size) -> Opcode {
     let version = rng.below(3);
-    let words = [size.width() as u16, size.height() as u16, rng.number() as u16, 0];
-    let body = words[..2 + version].iter().flat_map(|word| word.to_le_bytes()).collect();
+    let words = [rng.number() as u16, 0];
+    let behind = words[..version].iter().flat_map(|word| word.to_le_bytes());
+    let body = init_video(size).body.into_iter().chain(behind).collect();
     Opcode::new(0x05, version as u8, body)
 }
 

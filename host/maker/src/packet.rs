@@ -7,14 +7,21 @@ use crate::size::Size;
 /// A packet as it is given to checking and drawing.
 #[derive(Clone, Debug, PartialEq, Eq)]
 pub struct Packet {
-    /// Frame width in pixels; damage may make it any number below 65,536.
-    pub width: usize,
-    /// Frame height in pixels, likewise.
-    pub height: usize,
+    /// Blocks in a row of the frame; damage may make it any number below 65,536.
+    pub columns: usize,
+    /// Rows of blocks, likewise.
+    pub rows: usize,
     /// One nibble a block.
     pub map: Vec<u8>,
     /// The blocks' data.
     pub data: Vec<u8>,
+}
+
+impl Packet {
+    /// Pixels of the frame, legal or not.
+    pub fn pixels(&self) -> usize {
+        Size::new(self.columns, self.rows).pixels()
+    }
 }
 
 /// Which blocks a packet is made of.
@@ -125,8 +132,8 @@ impl Draft {
         let mut codes: Vec<u8> = self.blocks.iter().map(|block| block.code).collect();
         codes.push(self.spare);
         Packet {
-            width: self.size.width(),
-            height: self.size.height(),
+            columns: self.size.columns,
+            rows: self.size.rows,
             map: codes.chunks_exact(2).map(|pair| pair[0] | pair[1] << 4).collect(),
             data: self.blocks.iter().flat_map(|block| block.data.clone()).collect(),
         }
@@ -153,9 +160,9 @@ pub fn small(rng: &mut Seeded) -> Draft {
 pub fn hostile(rng: &mut Seeded) -> Packet {
     let size = Size::small(rng);
     let legal = !rng.one_in(8);
-    let (width, height) =
-        if legal { (size.width(), size.height()) } else { (rng.below(700), rng.below(700)) };
+    let (columns, rows) =
+        if legal { (size.columns, size.rows) } else { (rng.below(100), rng.below(80)) };
     let map_length = if rng.one_in(8) { rng.below(40) } else { size.blocks().div_ceil(2) };
     let data_length = rng.below(size.blocks() * 20 + 2);
-    Packet { width, height, map: rng.bytes(map_length), data: rng.bytes(data_length) }
+    Packet { columns, rows, map: rng.bytes(map_length), data: rng.bytes(data_length) }
 }

@@ -30,10 +30,10 @@ pub enum Damage {
     ShortMap,
     /// Map bytes too many: 10.
     LongMap,
-    /// A width that is not taken: 6.
-    BadWidth,
-    /// A height that is not taken: 6.
-    BadHeight,
+    /// A number of columns that is not taken: 6.
+    BadColumns,
+    /// A number of rows that is not taken: 6.
+    BadRows,
 }
 
 impl Damage {
@@ -50,10 +50,15 @@ impl Damage {
         Damage::CopyOutside,
         Damage::ShortMap,
         Damage::LongMap,
-        Damage::BadWidth,
-        Damage::BadHeight,
+        Damage::BadColumns,
+        Damage::BadRows,
     ];
 }
+
+/// Numbers of columns, and of rows, that are not taken: none, just above the limit, the limit in
+/// pixels or in a word's high byte, and far above.
+pub(crate) const BAD_COLUMNS: [usize; 8] = [0, 81, 82, 128, 256 + 80, 640, 0x5000, 0xFFFF];
+pub(crate) const BAD_ROWS: [usize; 8] = [0, 61, 62, 80, 256 + 60, 480, 0x3C00, 0xFFFF];
 
 /// A damaged copy of a valid packet.
 pub fn damaged(rng: &mut Seeded, draft: &Draft, damage: Damage) -> Packet {
@@ -87,12 +92,8 @@ pub fn damaged(rng: &mut Seeded, draft: &Draft, damage: Damage) -> Packet {
             let length = rng.between(1, 3);
             packet.map.extend(rng.bytes(length));
         }
-        Damage::BadWidth => {
-            packet.width = rng.pick(&[0, 4, 7, 9, 12, 636, 641, 644, 648, 1280, 65_528, 65_535]);
-        }
-        Damage::BadHeight => {
-            packet.height = rng.pick(&[0, 4, 7, 9, 12, 476, 481, 484, 488, 640, 65_528, 65_535]);
-        }
+        Damage::BadColumns => packet.columns = rng.pick(&BAD_COLUMNS),
+        Damage::BadRows => packet.rows = rng.pick(&BAD_ROWS),
     }
     packet
 }

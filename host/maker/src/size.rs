@@ -2,7 +2,7 @@
 
 use crate::seeded::Seeded;
 
-/// Blocks of the widest frame, and of the highest (01: 640 and 480 pixels).
+/// Blocks of the widest frame, and of the highest (02, W1).
 const MAX_COLUMNS: usize = 80;
 const MAX_ROWS: usize = 60;
 

@@ -101,7 +101,7 @@ pub fn hostile(rng: &mut Seeded, film: &Film) -> Start {
                 state.position = rng.below(length + 1);
                 state.chunk_end = state.position;
             }
-            3 => (state.width, state.height) = hostile_size(rng),
+            3 => (state.columns, state.rows) = hostile_size(rng),
             4 => state.front = rng.pick(&[0, 1, 0, 1, 2, 255, 256, usize::MAX]),
             5 => state.map = hostile_map(rng, length),
             6 => state.unsent = !state.unsent,
@@ -193,14 +193,17 @@ fn hostile_place(rng: &mut Seeded, blocks: usize) -> usize {
     rng.pick(&[blocks - 1, blocks, blocks + 1, blocks + 2, usize::MAX])
 }
 
-/// A legal size that is not the film's, or one that cannot be.
+/// Columns and rows of a legal size that is not the film's, or of one that cannot be. Of some of the
+/// latter the product by 8 or 64 is small, if it wraps around.
 fn hostile_size(rng: &mut Seeded) -> (usize, usize) {
     if rng.one_in(2) {
         let size = Size::small(rng);
-        return (size.width(), size.height());
+        return (size.columns, size.rows);
     }
-    let sides = [0, 4, 8, 12, 16, 480, 488, 640, 648, 1 << 32, usize::MAX, usize::MAX - 7];
-    (rng.pick(&sides), rng.pick(&sides))
+    let near = [0, 0, 1, 2, 60, 61, 80, 81, 640];
+    let far = [1 << 32, (1 << 58) + 1, 1 << 61, usize::MAX];
+    let mut number = || if rng.one_in(4) { rng.pick(&far) } else { rng.pick(&near) };
+    (number(), number())
 }
 
 fn hostile_map(rng: &mut Seeded, film: usize) -> Option<Span> {

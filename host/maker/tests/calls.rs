@@ -24,16 +24,16 @@ fn hold_against_book(list: &CallList, reached: &mut Reached) {
     for (number, made) in list.calls.iter().enumerate() {
         let (packet, before) = (&made.packet, (back.clone(), place));
         let call = Call {
-            width: packet.width,
-            height: packet.height,
+            columns: packet.columns,
+            rows: packet.rows,
             map: &packet.map,
             data: &packet.data,
             front: &made.front,
             allowed: made.stores_fed(),
         };
         let answer = draw(
-            call.width,
-            call.height,
+            call.columns,
+            call.rows,
             call.map,
             call.data,
             call.front,
@@ -103,8 +103,8 @@ fn pieces_make_the_frame_of_one_call() {
         let packet = &accepted.packet;
         let draw_on = |back: &mut Vec<u8>, place: &mut usize, allowed| {
             draw(
-                packet.width,
-                packet.height,
+                packet.columns,
+                packet.rows,
                 &packet.map,
                 &packet.data,
                 &accepted.front,

@@ -98,8 +98,8 @@ fn encoded_exactly() {
         let (front, back) = (rng.bytes(size.pixels()), rng.bytes(size.pixels()));
         let drawn = |draft: &Draft| {
             let (made, mut picture) = (draft.packet(), back.clone());
-            let Packet { width, height, map, data } = &made;
-            let drawn = draw(*width, *height, map, data, &front, &mut picture, &mut 0, 312_000);
+            let Packet { columns, rows, map, data } = &made;
+            let drawn = draw(*columns, *rows, map, data, &front, &mut picture, &mut 0, 312_000);
             assert!(drawn.is_ok_and(|drawn| drawn.whole), "seed {seed}");
             picture
         };

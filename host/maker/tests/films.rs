@@ -6,6 +6,7 @@ use maker::film_damage::{self, Damage};
 use maker::states::{self, Start};
 use maker::{Seeded, Size};
 use reference::film::{opcode_head, open, shown, State, Stepped};
+use reference::frame::MAX_PIXELS;
 use reference::sound::NO_STREAM;
 use reference::{listing, Refusal};
 use std::collections::BTreeMap;
@@ -56,7 +57,7 @@ fn lend(pixels: usize, state: State) -> Start {
 
 /// Steps a film from its opening on to its end or its refusal.
 fn run(film: &[u8], mut each: impl FnMut(&State, &Stepped)) -> Result<State, Refusal> {
-    let mut start = lend(640 * 480, open(film, NO_STREAM)?);
+    let mut start = lend(MAX_PIXELS, open(film, NO_STREAM)?);
     loop {
         let before = start.state;
         let stepped = start.step(film);
@@ -218,7 +219,7 @@ fn assert_only_due_changes(before: &Start, after: &Start, stepped: &Stepped) {
     let shown_before = shown(&before.state, &before.picture_a, &before.picture_b);
     let shown_after = shown(&before.state, &after.picture_a, &after.picture_b);
     assert!(shown_before == shown_after, "{stepped:?}: the shown picture changed");
-    let frame = before.state.width.saturating_mul(before.state.height);
+    let frame = before.state.pixels();
     for (old, new) in [(&before.picture_a, &after.picture_a), (&before.picture_b, &after.picture_b)]
     {
         assert_eq!(old.get(frame..), new.get(frame..), "{stepped:?}: beyond the frame");

@@ -12,11 +12,11 @@ use std::collections::BTreeMap;
 const OFTEN: usize = 20;
 
 fn checked(packet: &Packet) -> Result<(), Refusal> {
-    check(packet.width, packet.height, &packet.map, &packet.data)
+    check(packet.columns, packet.rows, &packet.map, &packet.data)
 }
 
 fn blocks(packet: &Packet) -> Vec<Block<'_>> {
-    reference::packet::blocks(packet.width, packet.height, &packet.map, &packet.data)
+    reference::packet::blocks(packet.columns, packet.rows, &packet.map, &packet.data)
         .unwrap_or_else(|refusal| panic!("{refusal}: {packet:?}"))
 }
 
@@ -91,8 +91,8 @@ fn damage_made_for_a_number() {
         (Damage::CopyOutside, 14),
         (Damage::ShortMap, 10),
         (Damage::LongMap, 10),
-        (Damage::BadWidth, 6),
-        (Damage::BadHeight, 6),
+        (Damage::BadColumns, 6),
+        (Damage::BadRows, 6),
     ];
     for (damage, number) in made_for {
         for seed in 0..100 {
@@ -156,11 +156,12 @@ fn sources_of_any_block() {
     for seed in 0..20_000 {
         let mut rng = Seeded::new(seed);
         let any = [0, 7, 8, 16, 640, usize::MAX / 2, usize::MAX - 8, usize::MAX];
-        let (width, x, y) = (rng.pick(&any), rng.pick(&any), rng.pick(&any));
+        let columns = rng.pick(&[0, 1, 2, 80, usize::MAX / 8, usize::MAX / 8 + 1, usize::MAX]);
+        let (x, y) = (rng.pick(&any), rng.pick(&any));
         let (code, i) = (rng.byte() % 20, rng.pick(&[0, 7, 8, 40, 63, 64, usize::MAX]));
         let length = rng.below(70);
         let data = rng.bytes(length);
-        match source(width, code, &data, x, y, i) {
+        match source(columns, code, &data, x, y, i) {
             None => kinds.push("none"),
             Some(Source::Data(index)) => {
                 assert!(Some(index) < block::length(code, &data), "seed {seed}");
@@ -168,7 +169,7 @@ fn sources_of_any_block() {
             }
             Some(Source::Front(index) | Source::Back(index)) => {
                 let row = y as i128 + (i / 8) as i128 + i128::from(vertical(code, &data));
-                assert_eq!((index / width) as i128, row, "seed {seed}");
+                assert_eq!((index / (8 * columns)) as i128, row, "seed {seed}");
                 kinds.push("picture");
             }
         }

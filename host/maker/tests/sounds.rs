@@ -7,6 +7,7 @@ use maker::sound_damage::{self, Damage};
 use maker::states::{self, Start, ENOUGH_ROOM};
 use maker::Seeded;
 use reference::film::{opcode_head, open, OpcodeHead, State, Stepped};
+use reference::frame::MAX_PIXELS;
 use reference::pictures::{play, Played};
 use reference::sound::{Sound, NO_STREAM};
 use reference::Refusal;
@@ -66,7 +67,7 @@ fn run(
     stream: usize,
     mut each: impl FnMut(OpcodeHead, &State, &Stepped),
 ) -> Result<State, Refusal> {
-    let picture = vec![0; 640 * 480];
+    let picture = vec![0; MAX_PIXELS];
     let mut start = Start {
         state: open(film, stream)?,
         palette: vec![0; 768],
@@ -226,7 +227,7 @@ fn damage_made_for_a_number() {
             counts.note(format!("{damage:?} {:02}: {}", head.kind, words(&state.sound)));
             if [17, 18].contains(&damage.number()) {
                 // Whatever the room is.
-                let bytes = vec![0; 640 * 480];
+                let bytes = vec![0; MAX_PIXELS];
                 let (palette, room) = (vec![0; 768], Vec::new());
                 let (picture_a, picture_b) = (bytes.clone(), bytes);
                 let (place, allowed) = (0, 0);
@@ -277,9 +278,10 @@ fn scratched_and_hostile_films() {
 #[test]
 fn steps_from_any_state() {
     let mut counts = Counts::default();
-    for seed in 0..24_000 {
+    for seed in 0..36_000 {
         let rng = &mut Seeded::new(seed);
-        let film = sound::with_frames(rng, seed as usize % 16, 2);
+        let frames = 1 + seed as usize / 16 % 2;
+        let film = sound::with_frames(rng, seed as usize % 16, frames);
         let start = match seed % 2 {
             0 => states::middle(rng, &film),
             _ => states::hostile(rng, &film),

@@ -45,8 +45,8 @@ pub(crate) struct Moved {
 pub(crate) struct Numbers {
     pub position: usize,
     pub chunk_end: usize,
-    pub width: usize,
-    pub height: usize,
+    pub columns: usize,
+    pub rows: usize,
     pub front: usize,
     /// 0 where no map is pending, and then start and length are not read.
     pub has_map: usize,
@@ -102,7 +102,7 @@ impl Moved {
 impl Numbers {
     /// The state, where the numbers are such as the library gives back.
     fn state(self) -> Option<State> {
-        let Numbers { position, chunk_end, width, height, front, .. } = self;
+        let Numbers { position, chunk_end, columns, rows, front, .. } = self;
         let map = match (self.has_map, self.map_start, self.map_length) {
             (0, 0, 0) => None,
             (1, start, length) => Some((start, length)),
@@ -119,7 +119,7 @@ impl Numbers {
             left: self.left,
             right: self.right,
         };
-        Some(State { position, chunk_end, width, height, front, map, unsent, sound })
+        Some(State { position, chunk_end, columns, rows, front, map, unsent, sound })
     }
 }
 
@@ -133,14 +133,14 @@ fn flag(number: usize) -> Option<bool> {
 
 impl From<State> for Numbers {
     fn from(state: State) -> Numbers {
-        let State { position, chunk_end, width, height, front, map, unsent, sound } = state;
+        let State { position, chunk_end, columns, rows, front, map, unsent, sound } = state;
         let (map_start, map_length) = map.unwrap_or((0, 0));
         let Sound { stream, has_format, stereo, wide, compressed, begun, left, right } = sound;
         Numbers {
             position,
             chunk_end,
-            width,
-            height,
+            columns,
+            rows,
             front,
             has_map: map.is_some().into(),
             map_start,
@@ -177,8 +177,8 @@ mod tests {
     const STATE: State = State {
         position: 1,
         chunk_end: 2,
-        width: 3,
-        height: 4,
+        columns: 3,
+        rows: 4,
         front: 5,
         map: Some((6, 7)),
         unsent: true,

@@ -11,8 +11,8 @@ use crate::answer::{Answer, Moved, Numbers};
 
 unsafe extern "C" {
     fn mve_check(
-        width: usize,
-        height: usize,
+        columns: usize,
+        rows: usize,
         map: *const u8,
         map_length: usize,
         data: *const u8,
@@ -20,8 +20,8 @@ unsafe extern "C" {
     ) -> Answer;
 
     fn mve_draw(
-        width: usize,
-        height: usize,
+        columns: usize,
+        rows: usize,
         map: *const u8,
         map_length: usize,
         data: *const u8,
@@ -61,16 +61,16 @@ unsafe extern "C" {
     ) -> usize;
 }
 
-pub(crate) fn check(width: usize, height: usize, map: &[u8], data: &[u8]) -> Answer {
+pub(crate) fn check(columns: usize, rows: usize, map: &[u8], data: &[u8]) -> Answer {
     // SAFETY: each address and length are those of a slice that lives through the call; that of an
     // empty slice is not null. Both are only read.
-    unsafe { mve_check(width, height, map.as_ptr(), map.len(), data.as_ptr(), data.len()) }
+    unsafe { mve_check(columns, rows, map.as_ptr(), map.len(), data.as_ptr(), data.len()) }
 }
 
 #[allow(clippy::too_many_arguments)] // those of the library's function
 pub(crate) fn draw(
-    width: usize,
-    height: usize,
+    columns: usize,
+    rows: usize,
     map: &[u8],
     data: &[u8],
     front: &[u8],
@@ -83,8 +83,8 @@ pub(crate) fn draw(
     // they overlap neither each other nor anything that is only read.
     unsafe {
         mve_draw(
-            width,
-            height,
+            columns,
+            rows,
             map.as_ptr(),
             map.len(),
             data.as_ptr(),

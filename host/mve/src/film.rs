@@ -21,10 +21,10 @@ pub struct State {
     pub position: usize,
     /// The end of the chunk that is being read.
     pub chunk_end: usize,
-    /// The frame's width in pixels; 0 before opcode 05.
-    pub width: usize,
-    /// The frame's height in pixels; 0 before opcode 05.
-    pub height: usize,
+    /// Blocks in a row of the frame, each 8x8 pixels; 0 before opcode 05.
+    pub columns: usize,
+    /// Rows of blocks of the frame; 0 before opcode 05.
+    pub rows: usize,
     /// Which lent picture is the shown one: 0 the first, 1 the second. The other one is drawn on.
     pub front: usize,
     /// The start and the length of the map that waits in the film for its video data.
@@ -112,8 +112,8 @@ impl Step {
 /// let first = State {
 ///     position: 26,
 ///     chunk_end: 26,
-///     width: 0,
-///     height: 0,
+///     columns: 0,
+///     rows: 0,
 ///     front: 0,
 ///     map: None,
 ///     unsent: false,
@@ -136,10 +136,10 @@ pub fn open(film: &[u8], stream: usize) -> Result<State, Refusal> {
 /// Takes one step over a film: a chunk head where position and chunk end are equal, else an opcode.
 ///
 /// Lend the same film, palette, pictures and place to every step, and give each step the state that
-/// the one before gave; the room is only written. The palette has 256 entries of red, green and blue, 0 to 63. The pictures
-/// have a byte a pixel, row by row; one is shown, the other drawn on, and [`State::front`] tells
-/// which. They may be longer than the frame: what lies beyond it is never touched. The place is
-/// that of [`draw`](crate::draw); start with 0.
+/// the one before gave; the room is only written. The palette has 256 entries of red, green and
+/// blue, 0 to 63. The pictures have a byte a pixel, row by row, 64 for each block; one is shown, the
+/// other drawn on, and [`State::front`] tells which. They may be longer than the frame: what lies
+/// beyond it is never touched. The place is that of [`draw`](crate::draw); start with 0.
 ///
 /// Opcodes 08 and 09 of the stream write their samples to the room's front: of 16 bits low byte
 /// first, or of 8 bits, left and right in turn; [`State::sound`] tells which. The rest of the room
@@ -158,15 +158,15 @@ pub fn open(film: &[u8], stream: usize) -> Result<State, Refusal> {
 ///
 /// # Examples
 ///
-/// A film of one frame of one block. Its opcodes are 05, the size; 01, the chunk's end; 0F, a map
-/// of code E; 11, that block's colour; 07, which sends the frame to the display; 01.
+/// A film of one frame of one block. Its opcodes are 05, the size in blocks; 01, the chunk's end; 0F,
+/// a map of code E; 11, that block's colour; 07, which sends the frame to the display; 01.
 ///
 /// ```
 /// use mve::{open, shown, step, Refusal, State, Step, NO_STREAM};
 ///
 /// let film = [
 ///     &b"Interplay MVE File\x1A\0\x1A\0\0\x01\x33\x11"[..],
-///     &[0x0c, 0, 2, 0, 4, 0, 0x05, 0, 8, 0, 8, 0, 0, 0, 0x01, 0],
+///     &[0x0c, 0, 2, 0, 4, 0, 0x05, 0, 1, 0, 1, 0, 0, 0, 0x01, 0],
 ///     &[0x24, 0, 3, 0, 1, 0, 0x0f, 0, 0x0e, 15, 0, 0x11, 0],
 ///     &[0; 14],
 ///     &[0x2a, 4, 0, 0x07, 0, 0, 0, 0, 0, 0, 0, 0x01, 0],
@@ -264,7 +264,7 @@ pub fn step(
     }
 }
 
-/// The shown picture: the leading part of the lent picture that is front.
+/// The shown picture: the leading part of the lent picture that is front, 64 bytes for each block.
 ///
 /// It is empty where there is no size yet, where front or size is one that no film gives, and
 /// where that picture is shorter than the frame.
@@ -277,7 +277,7 @@ pub fn step(
 /// let (a, b) = ([1; 200], [2; 128]);
 /// let opened = open(b"Interplay MVE File\x1A\0\x1A\0\0\x01\x33\x11", NO_STREAM)?;
 /// assert_eq!(shown(&opened, &a, &b), []);
-/// let sized = State { width: 16, height: 8, ..opened };
+/// let sized = State { columns: 2, rows: 1, ..opened };
 /// assert_eq!(shown(&sized, &a, &b), [1; 128]);
 /// assert_eq!(shown(&State { front: 1, ..sized }, &a, &b), [2; 128]);
 /// assert_eq!(shown(&State { front: 2, ..sized }, &a, &b), []);

@@ -17,7 +17,7 @@
 //! let (map, data) = ([0x07], [0x22, 0x11, 0xff, 0x81]);
 //! let front = [0; 64];
 //! let (mut back, mut place) = ([0; 64], 0);
-//! let drawn = mve::draw(8, 8, &map, &data, &front, &mut back, &mut place, 312_000)?;
+//! let drawn = mve::draw(1, 1, &map, &data, &front, &mut back, &mut place, 312_000)?;
 //! assert_eq!(drawn, mve::Drawn::Whole { stores: 65 });
 //! assert_eq!(back[..32], [0x11; 32]);
 //! for row in back[32..48].chunks(8) {

@@ -3,10 +3,10 @@
 use crate::answer::{kind, Answer};
 use crate::{ffi, Refusal};
 
-/// Checks a packet for a frame of `width` by `height` pixels.
+/// Checks a packet for a frame of `columns` by `rows` blocks, each 8x8 pixels.
 ///
-/// The map has one nibble for each 8x8 block, low nibble first; the data has the blocks' bytes in
-/// the same order.
+/// The map has one nibble for each block, low nibble first; the data has the blocks' bytes in the
+/// same order.
 ///
 /// # Errors
 ///
@@ -15,14 +15,16 @@ use crate::{ffi, Refusal};
 ///
 /// # Examples
 ///
-/// A width is a multiple of 8 from 8 to 640.
+/// A frame has 1 to 80 columns and 1 to 60 rows.
 ///
 /// ```
 /// use mve::{check, Refusal};
 ///
-/// assert_eq!(check(640, 8, &[0x11; 40], &[]), Ok(()));
-/// for width in [0, 648, 12] {
-///     assert_eq!(check(width, 8, &[0x11; 40], &[]), Err(Refusal { number: 6, block: 0 }));
+/// assert_eq!(check(80, 1, &[0x11; 40], &[]), Ok(()));
+/// assert_eq!(check(1, 60, &[0x11; 30], &[]), Ok(()));
+/// for (columns, rows) in [(0, 1), (81, 1), (1, 0), (1, 61)] {
+///     let map = [0x11; 41];
+///     assert_eq!(check(columns, rows, &map, &[]), Err(Refusal { number: 6, block: 0 }));
 /// }
 /// ```
 ///
@@ -31,11 +33,11 @@ use crate::{ffi, Refusal};
 ///
 /// ```
 /// # use mve::{check, Refusal};
-/// assert_eq!(check(8, 8, &[0x05], &[0x00, 0x00]), Ok(()));
-/// assert_eq!(check(8, 8, &[0x05], &[0x01, 0x00]), Err(Refusal { number: 14, block: 0 }));
+/// assert_eq!(check(1, 1, &[0x05], &[0x00, 0x00]), Ok(()));
+/// assert_eq!(check(1, 1, &[0x05], &[0x01, 0x00]), Err(Refusal { number: 14, block: 0 }));
 /// ```
-pub fn check(width: usize, height: usize, map: &[u8], data: &[u8]) -> Result<(), Refusal> {
-    match ffi::check(width, height, map, data).taken()? {
+pub fn check(columns: usize, rows: usize, map: &[u8], data: &[u8]) -> Result<(), Refusal> {
+    match ffi::check(columns, rows, map, data).taken()? {
         Answer { kind: kind::ACCEPTED, number: 0, block: 0, stores: 0 } => Ok(()),
         other => other.unknown(),
     }
@@ -62,7 +64,7 @@ impl Drawn {
     /// ```
     /// // Code 1, which stores no pixel, then code E.
     /// let mut back = [5; 128];
-    /// let drawn = mve::draw(16, 8, &[0xE1], &[7], &[0; 128], &mut back, &mut 0, 1000)?;
+    /// let drawn = mve::draw(2, 1, &[0xE1], &[7], &[0; 128], &mut back, &mut 0, 1000)?;
     /// assert_eq!(drawn.stores(), 1 + 65);
     /// # Ok::<(), mve::Refusal>(())
     /// ```
@@ -73,10 +75,12 @@ impl Drawn {
     }
 }
 
-/// Draws a packet on `back`, going on from `place`, with at most `allowed` stores.
+/// Draws a packet on `back`, going on from `place`, with at most `allowed` stores. The frame has
+/// `columns` by `rows` blocks.
 ///
 /// `front` is the shown picture and `back` the one two frames old; both have a byte a pixel, row by
-/// row. They may be longer than the frame: what lies beyond it is never touched.
+/// row: 64 bytes for each block. They may be longer than the frame: what lies beyond it is never
+/// touched.
 ///
 /// The place is the number of the block to draw next. Start a frame with 0 and leave it alone: it
 /// is stored once behind each block, after the block's pixels. A call that ends inside a block
@@ -101,7 +105,7 @@ impl Drawn {
 ///
 /// let (map, data, front) = ([0xE2], [0x00, 0x07], [0; 128]);
 /// let (mut back, mut place) = ([5; 128], 0);
-/// let drawn = draw(16, 8, &map, &data, &front, &mut back, &mut place, 75)?;
+/// let drawn = draw(2, 1, &map, &data, &front, &mut back, &mut place, 75)?;
 /// assert_eq!(drawn, Drawn::Unfinished { stores: 75 });
 /// assert_eq!(place, 1);
 /// assert_eq!(back[..16], [5, 5, 5, 5, 5, 5, 5, 5, 7, 7, 7, 7, 7, 7, 7, 7]);
@@ -109,7 +113,7 @@ impl Drawn {
 /// assert_eq!(back[32..], [5; 96]);
 ///
 /// // The left block is not drawn again: it would now be 7.
-/// let drawn = draw(16, 8, &map, &data, &front, &mut back, &mut place, 75)?;
+/// let drawn = draw(2, 1, &map, &data, &front, &mut back, &mut place, 75)?;
 /// assert_eq!(drawn, Drawn::Whole { stores: 65 });
 /// assert_eq!(place, 2);
 /// for row in back.chunks(16) {
@@ -123,14 +127,14 @@ impl Drawn {
 /// ```
 /// # use mve::{draw, Drawn};
 /// let (mut back, mut place) = ([5; 128], 0);
-/// let drawn = draw(16, 8, &[0xE2], &[0, 7], &[0; 128], &mut back, &mut place, 312_000)?;
+/// let drawn = draw(2, 1, &[0xE2], &[0, 7], &[0; 128], &mut back, &mut place, 312_000)?;
 /// assert_eq!(drawn, Drawn::Whole { stores: 130 });
 /// # Ok::<(), mve::Refusal>(())
 /// ```
 #[allow(clippy::too_many_arguments)] // a packet, what is lent, and how far to go
 pub fn draw(
-    width: usize,
-    height: usize,
+    columns: usize,
+    rows: usize,
     map: &[u8],
     data: &[u8],
     front: &[u8],
@@ -138,7 +142,7 @@ pub fn draw(
     place: &mut usize,
     allowed: usize,
 ) -> Result<Drawn, Refusal> {
-    match ffi::draw(width, height, map, data, front, back, place, allowed).taken()? {
+    match ffi::draw(columns, rows, map, data, front, back, place, allowed).taken()? {
         Answer { kind: kind::WHOLE, number: 0, block: 0, stores } => Ok(Drawn::Whole { stores }),
         Answer { kind: kind::UNFINISHED, number: 0, block: 0, stores } => {
             Ok(Drawn::Unfinished { stores })

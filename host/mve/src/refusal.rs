@@ -6,7 +6,7 @@ use std::fmt;
 ///
 /// ```
 /// // Code 6 in the second of two blocks.
-/// let refusal = mve::check(16, 8, &[0x61], &[]).unwrap_err();
+/// let refusal = mve::check(2, 1, &[0x61], &[]).unwrap_err();
 /// assert_eq!(refusal, mve::Refusal { number: 12, block: 1 });
 /// assert_eq!(refusal.to_string(), "refused 12 in block 1: code 6 is not taken in 8-bit films");
 /// ```
@@ -22,7 +22,7 @@ impl Refusal {
     /// What the number means.
     ///
     /// ```
-    /// let refusal = mve::check(648, 8, &[0x11; 41], &[]).unwrap_err();
+    /// let refusal = mve::check(81, 1, &[0x11; 41], &[]).unwrap_err();
     /// assert_eq!(refusal.reason(), "frame size or true-colour word wrong, or a second size");
     /// ```
     pub const fn reason(&self) -> &'static str {

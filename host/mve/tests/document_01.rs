@@ -7,7 +7,7 @@ use mve::{check, draw, open, step, Drawn, Refusal, Step, NO_STREAM};
 /// The picture that a single block of this code and data gives.
 fn block(code: u8, data: &[u8]) -> [u8; 64] {
     let (mut back, mut place) = ([0; 64], 0);
-    let drawn = draw(8, 8, &[code], data, &[0; 64], &mut back, &mut place, 65);
+    let drawn = draw(1, 1, &[code], data, &[0; 64], &mut back, &mut place, 65);
     assert_eq!(drawn, Ok(Drawn::Whole { stores: 65 }));
     assert_eq!(place, 1);
     back
@@ -46,15 +46,15 @@ fn two_colours_quarters() {
     assert_eq!(row, [0x33, 0x33, 0x11, 0x11, 0x66, 0x66, 0x66, 0x66]);
 }
 
-/// The first pixel of the block at (16, 8) of a 40x40 frame. Back tells the number of each pixel,
-/// and so does front, with the high bit set.
+/// The first pixel of the block at (16, 8) of a frame of 5x5 blocks. Back tells the number of each
+/// pixel, and so does front, with the high bit set.
 fn first_pixel(code: u8, byte: u8, number: fn(usize) -> usize) -> u8 {
     let mut back: Vec<u8> = (0..1600).map(|index| number(index) as u8).collect();
     let front: Vec<u8> = back.iter().map(|pixel| pixel | 0x80).collect();
     // Five blocks a row: it is block 7, the high nibble of byte 3. The others are untouched.
     let mut map = [0x11; 13];
     map[3] = code << 4 | 0x1;
-    draw(40, 40, &map, &[byte], &front, &mut back, &mut 0, 312_000).expect("a copy inside");
+    draw(5, 5, &map, &[byte], &front, &mut back, &mut 0, 312_000).expect("a copy inside");
     back[8 * 40 + 16]
 }
 
@@ -110,7 +110,7 @@ fn gradient() {
 #[test]
 fn map_low_nibble_first() {
     let (mut back, mut place) = ([5; 128], 0);
-    let drawn = draw(16, 8, &[0xE1], &[7], &[0; 128], &mut back, &mut place, 312_000);
+    let drawn = draw(2, 1, &[0xE1], &[7], &[0; 128], &mut back, &mut place, 312_000);
     assert_eq!(drawn, Ok(Drawn::Whole { stores: 66 }));
     for row in back.chunks(16) {
         assert_eq!(row, [[5; 8], [7; 8]].concat());
@@ -126,28 +126,29 @@ fn slip_entry_240() {
     assert_eq!(palette_after(0x0D, &body), expected.as_flattened());
 }
 
-/// Each number that checking and drawing meet, in the table's order, on the 16x8 case. A refused
-/// call changes neither picture nor place.
+/// Each number that checking and drawing meet, in the table's order, on the case of 16x8 pixels. A
+/// refused call changes neither picture nor place.
 #[test]
 fn refusals() {
-    let meets = |width, map: &[u8], data: &[u8], front: usize, found: usize| {
+    let meets = |columns, map: &[u8], data: &[u8], front: usize, found: usize| {
         let (mut back, mut place) = ([5; 128], found);
-        let drawn = draw(width, 8, map, data, &[0; 128][..front], &mut back, &mut place, 312_000);
+        let front = &[0; 128][..front];
+        let drawn = draw(columns, 1, map, data, front, &mut back, &mut place, 312_000);
         assert_eq!(back, [5; 128]);
         assert_eq!(place, found);
         let refusal = drawn.expect_err("refused");
         (refusal.number, refusal.block)
     };
-    assert_eq!(meets(12, &[], &[], 0, 3), (6, 0));
-    assert_eq!(meets(16, &[], &[], 127, 3), (8, 0));
-    assert_eq!(meets(24, &[], &[], 128, 3), (8, 0));
-    assert_eq!(meets(16, &[], &[], 128, 3), (10, 0));
-    assert_eq!(meets(16, &[0x66], &[], 128, 3), (11, 0));
-    assert_eq!(meets(16, &[0x66], &[], 128, usize::MAX), (11, 0));
-    assert_eq!(meets(16, &[0x6E], &[0], 128, 2), (12, 1));
-    assert_eq!(meets(16, &[0xEE], &[0], 128, 2), (13, 1));
-    assert_eq!(meets(16, &[0x2E], &[0, 0], 128, 2), (14, 1));
-    assert_eq!(meets(16, &[0xEE], &[0, 0, 0], 128, 2), (15, 0));
+    assert_eq!(meets(81, &[], &[], 0, 3), (6, 0));
+    assert_eq!(meets(2, &[], &[], 127, 3), (8, 0));
+    assert_eq!(meets(3, &[], &[], 128, 3), (8, 0));
+    assert_eq!(meets(2, &[], &[], 128, 3), (10, 0));
+    assert_eq!(meets(2, &[0x66], &[], 128, 3), (11, 0));
+    assert_eq!(meets(2, &[0x66], &[], 128, usize::MAX), (11, 0));
+    assert_eq!(meets(2, &[0x6E], &[0], 128, 2), (12, 1));
+    assert_eq!(meets(2, &[0xEE], &[0], 128, 2), (13, 1));
+    assert_eq!(meets(2, &[0x2E], &[0, 0], 128, 2), (14, 1));
+    assert_eq!(meets(2, &[0xEE], &[0, 0, 0], 128, 2), (15, 0));
 }
 
 /// Slices without a byte are lent like others.
@@ -155,12 +156,12 @@ fn refusals() {
 fn empty_slices() {
     let refused = |number| Err(Refusal { number, block: 0 });
     assert_eq!(check(0, 0, &[], &[]), refused(6));
-    assert_eq!(check(8, 8, &[], &[]), refused(10));
-    assert_eq!(check(8, 8, &[0x01], &[]), Ok(()));
-    assert_eq!(check(8, 8, &[0x0E], &[]), refused(13));
+    assert_eq!(check(1, 1, &[], &[]), refused(10));
+    assert_eq!(check(1, 1, &[0x01], &[]), Ok(()));
+    assert_eq!(check(1, 1, &[0x0E], &[]), refused(13));
     let mut place = 0;
     assert_eq!(
-        draw(8, 8, &[], &[], &[], &mut [], &mut place, 65),
+        draw(1, 1, &[], &[], &[], &mut [], &mut place, 65),
         Err(Refusal { number: 8, block: 0 })
     );
     assert_eq!(place, 0);

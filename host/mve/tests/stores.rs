@@ -243,8 +243,8 @@ fn stores_are_found() {
         ("match k { 0 => b[0] = 1, _ => {} }", "b[0]"),
         ("let q = &mut b[1..]; q[0] = 1;", "q[0]"),
         ("let u = b[0] = 1;", "b[0]"),
-        ("s.width = 8;", "s.width"),
-        ("let mut q = s; q.width = 8;", "q.width"),
+        ("s.rows = 8;", "s.rows"),
+        ("let mut q = s; q.rows = 8;", "q.rows"),
         ("g(b'{'); /* } */ b[0] = b'\\''; // }", "b[0]"),
     ] {
         assert_eq!(targets(body), [target], "{body}");
@@ -258,9 +258,9 @@ fn stores_are_found() {
     ] {
         assert!(targets(body).is_empty(), "{body}: {:?}", targets(body));
     }
-    let rebound = stores("x", "fn f(mut s: &mut S) { s.width = 8; }");
+    let rebound = stores("x", "fn f(mut s: &mut S) { s.rows = 8; }");
     assert_eq!(rebound.len(), 1);
-    assert_eq!(rebound[0].target, "s.width");
+    assert_eq!(rebound[0].target, "s.rows");
     let contract =
         "ghost use l.{a};\nfn f(b: &mut [u8])\n requires { b[0] = { 1 } }\n{ b[0] = 1; }";
     let found = stores("x", contract);

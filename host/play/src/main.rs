@@ -23,7 +23,8 @@ use std::path::{Path, PathBuf};
 use std::process::ExitCode;
 use std::sync::atomic::{AtomicUsize, Ordering};
 
-const LARGEST_PICTURE: usize = 640 * 480;
+/// The bytes of the largest picture: 80 by 60 blocks of 8x8 pixels.
+const LARGEST_PICTURE: usize = 80 * 60 * 64;
 /// The stores of a block with pixels: a step that is allowed fewer never finishes one.
 const LEAST_ALLOWANCE: usize = 65;
 /// A player that is stopped at every opcode of sound never gets on.
@@ -258,9 +259,9 @@ fn write_picture(
     Ok(())
 }
 
-/// The shown picture as a PPM file.
+/// The shown picture as a PPM file, whose heading has the size in pixels.
 fn ppm(kept: &Kept, state: &State) -> Vec<u8> {
-    let mut bytes = format!("P6\n{} {}\n255\n", state.width, state.height).into_bytes();
+    let mut bytes = format!("P6\n{} {}\n255\n", 8 * state.columns, 8 * state.rows).into_bytes();
     for &pixel in mve::shown(state, &kept.a, &kept.b) {
         let colour = &kept.palette[3 * usize::from(pixel)..][..3];
         bytes.extend(colour.iter().copied().map(scaled));

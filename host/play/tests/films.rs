@@ -4,10 +4,8 @@
 mod common;
 
 use common::{assert_played, assert_refused, Options};
-use maker::film::{self, packet_opcodes, Chunk, Film, Opcode};
 use maker::film_damage::{self, Damage};
-use maker::packet::Draft;
-use maker::{demo, Profile, Seeded, Size};
+use maker::{demo, film, Profile, Seeded, Size};
 use reference::pictures;
 use reference::sound::NO_STREAM;
 use std::collections::{BTreeMap, BTreeSet};
@@ -15,21 +13,6 @@ use std::collections::{BTreeMap, BTreeSet};
 const ALLOWANCES: [usize; 4] = [65, 66, 1000, 312_000];
 /// The refusals that a film alone can meet: the players lend enough and start at place 0.
 const NUMBERS: [u8; 13] = [1, 2, 3, 4, 5, 6, 7, 9, 10, 12, 13, 14, 15];
-
-/// A film of the largest size; each frame is alone in its chunk.
-fn largest(rng: &mut Seeded, frames: usize) -> Film {
-    let size = Size::new(80, 60);
-    let sides = [640_u16, 480].map(u16::to_le_bytes).concat();
-    let sized = Chunk { opcodes: vec![Opcode::new(0x05, 0, sides)], ..Chunk::default() };
-    let mut chunks = vec![sized];
-    for _ in 0..frames {
-        let packet = Draft::make(rng, size, Profile::Light).packet();
-        let mut opcodes = packet_opcodes(rng, packet).to_vec();
-        opcodes.push(Opcode::new(0x07, 0, vec![0; 4]));
-        chunks.push(Chunk { opcodes, ..Chunk::default() });
-    }
-    Film { size, stream: NO_STREAM, chunks, tail: Vec::new() }
-}
 
 /// Pictures alone.
 fn silent(allowance: usize) -> Options {
@@ -59,9 +42,13 @@ fn good_films() {
 #[test]
 fn long_and_large_films() {
     let long = demo::film().bytes();
-    let large = largest(&mut Seeded::new(1), 2).bytes();
-    for (film, allowances) in [(long, &ALLOWANCES[..]), (large, &ALLOWANCES[2..])] {
+    let large = film::plain(&mut Seeded::new(1), Size::new(80, 60), Profile::Light, 2).bytes();
+    for (film, allowances, sides) in
+        [(long, &ALLOWANCES[..], "128 96"), (large, &ALLOWANCES[2..], "640 480")]
+    {
         let played = pictures::play(&film, NO_STREAM);
+        let heading = format!("P6\n{sides}\n255\n");
+        assert!(played.pictures.iter().all(|picture| picture.starts_with(heading.as_bytes())));
         for &allowance in allowances {
             assert_played("long_and_large_films", &film, &played, &silent(allowance));
         }

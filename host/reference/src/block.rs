@@ -44,8 +44,9 @@ impl BlockCopy {
     }
 
     /// The pixel that a pixel of the block at (x, y) is copied from; none left of, right of or
-    /// above a picture of this width.
-    fn source(&self, width: usize, x: usize, y: usize, pixel: Pixel) -> Option<Source> {
+    /// above a picture of so many columns of blocks.
+    fn source(&self, columns: usize, x: usize, y: usize, pixel: Pixel) -> Option<Source> {
+        let width = columns.checked_mul(BLOCK_SIDE)?;
         let column = x.checked_add(pixel.column)?.checked_add_signed(self.dx)?;
         let row = y.checked_add(pixel.row)?.checked_add_signed(self.dy)?;
         if column >= width {
@@ -135,16 +136,24 @@ fn signed(byte: u8) -> isize {
     isize::from(byte as i8)
 }
 
-/// The source of pixel `i` (row by row, 0 to 63) of a block whose left and top pixel is (x, y).
-/// `None` where the rules name none: a code not taken, data short, `i` outside the block, or a
-/// copied pixel left of, right of or above the picture. (Below it needs the height: `is_inside`.)
-pub fn source(width: usize, code: u8, data: &[u8], x: usize, y: usize, i: usize) -> Option<Source> {
+/// The source of pixel `i` (row by row, 0 to 63) of a block whose left and top pixel is (x, y), in a
+/// picture of so many columns of blocks. `None` where the rules name none: a code not taken, data
+/// short, `i` outside the block, or a copied pixel left of, right of or above the picture. (Below it
+/// needs the rows: `is_inside`.)
+pub fn source(
+    columns: usize,
+    code: u8,
+    data: &[u8],
+    x: usize,
+    y: usize,
+    i: usize,
+) -> Option<Source> {
     if i >= BLOCK_PIXELS || data.len() < length(code, data)? {
         return None;
     }
     let pixel = Pixel { column: i % BLOCK_SIDE, row: i / BLOCK_SIDE };
     match copy(code, data) {
-        Some(copy) => copy.source(width, x, y, pixel),
+        Some(copy) => copy.source(columns, x, y, pixel),
         None => colour_byte(code, data, pixel).map(Source::Data),
     }
 }

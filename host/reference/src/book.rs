@@ -13,10 +13,10 @@ use crate::refusal::Refusal;
 /// One drawing call as the book is fed it. A call cut at j is fed as one allowed j.
 #[derive(Clone, Copy, Debug)]
 pub struct Call<'a> {
-    /// Frame width in pixels.
-    pub width: usize,
-    /// Frame height in pixels.
-    pub height: usize,
+    /// Blocks in a row of the frame.
+    pub columns: usize,
+    /// Rows of blocks.
+    pub rows: usize,
     /// The map, one nibble a block.
     pub map: &'a [u8],
     /// The packet's data.
@@ -66,7 +66,7 @@ impl Book {
     /// Enters one call: makes the stores that are due of it and gives its answer. A call that
     /// meets a refusal makes none.
     pub fn enter(&mut self, call: &Call<'_>) -> Result<Drawn, Refusal> {
-        let size = FrameSize::new(call.width, call.height)?;
+        let size = FrameSize::new(call.columns, call.rows)?;
         let blocks = packet::accepted_blocks(
             size,
             call.map,

@@ -1,5 +1,5 @@
 //! The film: header, chunks, opcodes, one step, the shown picture
-//! (01, "Film, chunks, opcodes" and "Numbers of refusal"; 02, W5).
+//! (01, "Film, chunks, opcodes" and "Numbers of refusal"; 02, W1 and W5).
 
 use crate::frame::FrameSize;
 use crate::packet;
@@ -71,10 +71,10 @@ pub struct State {
     pub position: usize,
     /// End of the chunk that is being read.
     pub chunk_end: usize,
-    /// Frame width in pixels; 0 before opcode 05.
-    pub width: usize,
-    /// Frame height in pixels; 0 before opcode 05.
-    pub height: usize,
+    /// Blocks in a row of a frame; 0 before opcode 05.
+    pub columns: usize,
+    /// Rows of blocks of a frame; 0 before opcode 05.
+    pub rows: usize,
     /// Which lent picture is front, the shown one: 0 the first, 1 the second. The other one is
     /// back, the one that is drawn on.
     pub front: usize,
@@ -88,12 +88,17 @@ pub struct State {
 
 impl State {
     fn has_no_size(&self) -> bool {
-        (self.width, self.height) == (0, 0)
+        (self.columns, self.rows) == (0, 0)
     }
 
     /// The legal frame size of the state, if it has one.
     fn size(&self) -> Option<FrameSize> {
-        FrameSize::new(self.width, self.height).ok()
+        FrameSize::new(self.columns, self.rows).ok()
+    }
+
+    /// Pixels of a frame; 0 where the state has no legal size.
+    pub fn pixels(&self) -> usize {
+        self.size().map_or(0, FrameSize::pixels)
     }
 
     /// As a step that moves the state gives it back.
@@ -163,8 +168,8 @@ pub fn open(film: &[u8], stream: usize) -> Result<State, Refusal> {
     Ok(State {
         position: HEADER.len(),
         chunk_end: HEADER.len(),
-        width: 0,
-        height: 0,
+        columns: 0,
+        rows: 0,
         front: 0,
         map: None,
         unsent: false,
@@ -258,7 +263,7 @@ fn check_state(film: &[u8], state: &State) -> Result<(), Refusal> {
 
 /// Refusal 8. Both pictures are tested at every step once a size is known.
 fn check_lent(state: &State, lent: &Lent<'_>) -> Result<(), Refusal> {
-    let pixels = state.size().map_or(0, FrameSize::pixels);
+    let pixels = state.pixels();
     let pictures_fit = lent.picture_a.len() >= pixels && lent.picture_b.len() >= pixels;
     if lent.palette.len() == palette::LENGTH && pictures_fit {
         Ok(())
@@ -376,8 +381,8 @@ fn at_end(film: &[u8], state: State) -> State {
     State { position: film.len(), chunk_end: film.len(), ..state }
 }
 
-/// Opcode 05: words width, height, from version 1 a count that is not read, in version 2 a
-/// true-colour word that must be 0. Only once in a film.
+/// Opcode 05: words columns and rows, which count blocks (02, W1), from version 1 a count that is not
+/// read, in version 2 a true-colour word that must be 0. Only once in a film.
 fn init_video(body: &[u8], state: State) -> Result<State, Refusal> {
     let words: Vec<usize> = body
         .chunks_exact(2)
@@ -387,9 +392,9 @@ fn init_video(body: &[u8], state: State) -> Result<State, Refusal> {
     if !state.has_no_size() || true_colour != 0 {
         return Err(Refusal::new(refusal::SIZE));
     }
-    let (width, height) = (words[0], words[1]);
-    FrameSize::new(width, height)?;
-    Ok(State { width, height, ..state })
+    let (columns, rows) = (words[0], words[1]);
+    FrameSize::new(columns, rows)?;
+    Ok(State { columns, rows, ..state })
 }
 
 /// Opcode 07: front and back change roles if a frame is finished and unsent.
@@ -411,7 +416,7 @@ fn draw_video(
     allowed: usize,
 ) -> Result<Stepped, Refusal> {
     let map = state.map.and_then(|map| map.of(film));
-    let (Some(map), Some(size)) = (map, state.size()) else {
+    let (Some(map), false) = (map, state.has_no_size()) else {
         return Err(Refusal::new(refusal::NO_SIZE_OR_MAP));
     };
     let (front, back) = if state.front == 0 {
@@ -419,8 +424,8 @@ fn draw_video(
     } else {
         (&*lent.picture_b, &mut *lent.picture_a)
     };
-    let (width, height) = (size.width(), size.height());
-    let drawn = packet::draw(width, height, map, packet, front, back, lent.place, allowed)?;
+    let State { columns, rows, .. } = state;
+    let drawn = packet::draw(columns, rows, map, packet, front, back, lent.place, allowed)?;
     Ok(if drawn.whole {
         let after = State { map: None, unsent: true, ..moved };
         Stepped::Whole(after, drawn.stores)

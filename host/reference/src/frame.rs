@@ -7,10 +7,14 @@ pub const BLOCK_SIDE: usize = 8;
 /// Pixels of a block.
 pub const BLOCK_PIXELS: usize = BLOCK_SIDE * BLOCK_SIDE;
 
-const MAX_WIDTH: usize = 640;
-const MAX_HEIGHT: usize = 480;
+/// Blocks in a row of the widest frame.
+const MAX_COLUMNS: usize = 80;
+/// Rows of blocks of the highest frame.
+const MAX_ROWS: usize = 60;
+/// Pixels of the largest frame.
+pub const MAX_PIXELS: usize = MAX_COLUMNS * MAX_ROWS * BLOCK_PIXELS;
 
-/// A legal frame size, kept in blocks.
+/// A legal frame size in blocks.
 #[derive(Clone, Copy, Debug, PartialEq, Eq)]
 pub struct FrameSize {
     columns: usize,
@@ -18,12 +22,19 @@ pub struct FrameSize {
 }
 
 impl FrameSize {
-    /// The size given by two numbers, or refusal 6. The unit (pixels) and the limits are known
-    /// here and nowhere else (01, opcode 05).
-    pub fn new(width: usize, height: usize) -> Result<FrameSize, Refusal> {
-        let columns = blocks_along(width, MAX_WIDTH)?;
-        let rows = blocks_along(height, MAX_HEIGHT)?;
-        Ok(FrameSize { columns, rows })
+    /// A frame of so many blocks, or refusal 6: 1 to 80 columns, 1 to 60 rows (02, W1). The limits
+    /// are known here and nowhere else.
+    pub fn new(columns: usize, rows: usize) -> Result<FrameSize, Refusal> {
+        if (1..=MAX_COLUMNS).contains(&columns) && (1..=MAX_ROWS).contains(&rows) {
+            Ok(FrameSize { columns, rows })
+        } else {
+            Err(Refusal::new(refusal::SIZE))
+        }
+    }
+
+    /// Blocks in a row.
+    pub(crate) fn columns(self) -> usize {
+        self.columns
     }
 
     /// Width in pixels.
@@ -38,7 +49,7 @@ impl FrameSize {
 
     /// Pixels of a frame: the bytes of a lent picture that belong to it.
     pub fn pixels(self) -> usize {
-        self.width() * self.height()
+        self.blocks() * BLOCK_PIXELS
     }
 
     /// Blocks of a frame.
@@ -55,14 +66,5 @@ impl FrameSize {
     pub(crate) fn corner(self, block: usize) -> (usize, usize) {
         let (column, row) = (block % self.columns, block / self.columns);
         (column * BLOCK_SIDE, row * BLOCK_SIDE)
-    }
-}
-
-fn blocks_along(length: usize, limit: usize) -> Result<usize, Refusal> {
-    let legal = (BLOCK_SIDE..=limit).contains(&length) && length % BLOCK_SIDE == 0;
-    if legal {
-        Ok(length / BLOCK_SIDE)
-    } else {
-        Err(Refusal::new(refusal::SIZE))
     }
 }

@@ -44,7 +44,7 @@ fn lines(film: &[u8], opened: State) -> String {
         match film::step(film, state, lent, STORES_A_STEP) {
             Stepped::Taken(after, _) | Stepped::Whole(after, _) => {
                 lines += &opcode_line(film, &state);
-                if after.width * after.height > MAX_PIXELS {
+                if after.pixels() > MAX_PIXELS {
                     return lines + TOO_LARGE;
                 }
                 state = after;

@@ -43,7 +43,7 @@ impl Block<'_> {
 
     /// Value of the block's pixel `i`, read from the pictures as they are now.
     pub fn value(&self, size: FrameSize, i: usize, front: &[u8], back: &[u8]) -> u8 {
-        let source = block::source(size.width(), self.code, self.data, self.x, self.y, i);
+        let source = block::source(size.columns(), self.code, self.data, self.x, self.y, i);
         match source.expect("each pixel of an accepted block has a source") {
             Source::Data(index) => self.data[index],
             Source::Front(index) => front[index],
@@ -52,19 +52,20 @@ impl Block<'_> {
     }
 }
 
-/// Checks a packet: 6, 10, then block by block 12, 13, 14, then 15.
-pub fn check(width: usize, height: usize, map: &[u8], data: &[u8]) -> Result<(), Refusal> {
-    blocks(width, height, map, data).map(|_| ())
+/// Checks a packet for a frame of so many columns and rows of blocks: 6, 10, then block by block 12,
+/// 13, 14, then 15.
+pub fn check(columns: usize, rows: usize, map: &[u8], data: &[u8]) -> Result<(), Refusal> {
+    blocks(columns, rows, map, data).map(|_| ())
 }
 
 /// The blocks of a packet that [`check`] accepts, in order.
 pub fn blocks<'a>(
-    width: usize,
-    height: usize,
+    columns: usize,
+    rows: usize,
     map: &[u8],
     data: &'a [u8],
 ) -> Result<Vec<Block<'a>>, Refusal> {
-    let size = FrameSize::new(width, height)?;
+    let size = FrameSize::new(columns, rows)?;
     check_map_length(size, map)?;
     split(size, map, data)
 }
@@ -85,8 +86,8 @@ pub struct Drawn {
 /// first pixel. Refusals come in the order 6, 8, 10, 11, 12 to 15.
 #[allow(clippy::too_many_arguments)] // document 01's arguments, each a plain slice or number
 pub fn draw(
-    width: usize,
-    height: usize,
+    columns: usize,
+    rows: usize,
     map: &[u8],
     data: &[u8],
     front: &[u8],
@@ -94,7 +95,7 @@ pub fn draw(
     place: &mut usize,
     allowed: usize,
 ) -> Result<Drawn, Refusal> {
-    let size = FrameSize::new(width, height)?;
+    let size = FrameSize::new(columns, rows)?;
     let blocks = accepted_blocks(size, map, data, front, back, *place)?;
     let mut stores = 0;
     'drawing: for block in &blocks[*place..] {

@@ -2,11 +2,10 @@
 //! players are held to.
 
 use crate::film::{self, opcode, Lent, State, Stepped};
+use crate::frame::{BLOCK_SIDE, MAX_PIXELS};
 use crate::palette;
 use crate::refusal::Refusal;
 
-/// Pixels of the largest frame.
-const MAX_PIXELS: usize = 640 * 480;
 /// Stores of the largest frame: every packet is drawn by one step.
 const STORES_A_STEP: usize = 312_000;
 /// Bytes of the longest packet's samples: a word counts them, and each has two bytes at most.
@@ -108,9 +107,11 @@ fn rate_of_format(film: &[u8], state: &State) -> Option<u16> {
     is_acted_on.then(|| u16::from_le_bytes([rate[0], rate[1]]))
 }
 
-/// A picture as a PPM file: a heading, then red, green and blue of each pixel.
+/// A picture as a PPM file: a heading with its width and height in pixels, then red, green and blue
+/// of each pixel.
 fn ppm(state: &State, picture: &[u8], colours: &[u8]) -> Vec<u8> {
-    let heading = format!("P6\n{} {}\n255\n", state.width, state.height);
+    let [width, height] = [state.columns, state.rows].map(|blocks| blocks * BLOCK_SIDE);
+    let heading = format!("P6\n{width} {height}\n255\n");
     let entry = |&pixel: &u8| colours[usize::from(pixel) * 3..][..3].iter().map(|&c| full_range(c));
     heading.into_bytes().into_iter().chain(picture.iter().flat_map(entry)).collect()
 }

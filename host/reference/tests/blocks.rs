@@ -160,16 +160,17 @@ fn same_block_and_untouched() {
     assert_eq!(block(0x1, &[]), [0xBA; 64]);
 }
 
-/// A 24x24 picture whose pixel at (x, y) has the value base + y * 24 + x, taken modulo 256.
+/// A picture of 3x3 blocks, 24x24 pixels, whose pixel at (x, y) has the value base + y * 24 + x,
+/// taken modulo 256.
 fn numbered(base: usize) -> Vec<u8> {
     (0..24 * 24).map(|index| (base + index) as u8).collect()
 }
 
-/// Draws one block in the middle (block 4) of a 24x24 picture; the others are untouched.
+/// Draws one block in the middle (block 4) of that picture; the others are untouched.
 fn middle_block(code: u8, data: &[u8]) -> Vec<u8> {
     let map = [0x11, 0x11, code | 0x10, 0x11, 0x11];
     let (front, mut back, mut place) = (numbered(0), numbered(100), 0);
-    draw(24, 24, &map, data, &front, &mut back, &mut place, 312_000).expect("accepted");
+    draw(3, 3, &map, data, &front, &mut back, &mut place, 312_000).expect("accepted");
     back
 }
 
@@ -204,16 +205,16 @@ fn copied_blocks() {
 /// Code 3 reads what the same frame has drawn, code 2 what it has not.
 #[test]
 fn back_copies_read_the_frame_as_drawn_so_far() {
-    // 24x8: block 0 solid 7, block 1 by code 3 from block 0, block 2 untouched.
+    // 3x1 blocks: block 0 solid 7, block 1 by code 3 from block 0, block 2 untouched.
     let (front, mut back, mut place) = ([0; 192], [5; 192], 0);
     let map = [0x3E, 0x01];
-    draw(24, 8, &map, &[7, 0], &front, &mut back, &mut place, 312_000).expect("accepted");
+    draw(3, 1, &map, &[7, 0], &front, &mut back, &mut place, 312_000).expect("accepted");
     assert_eq!(back[..24], [[7; 8], [7; 8], [5; 8]].concat());
 
-    // 24x8: block 0 by code 2 from block 1, block 1 solid 7, block 2 untouched.
+    // 3x1 blocks: block 0 by code 2 from block 1, block 1 solid 7, block 2 untouched.
     let (mut back, mut place) = ([5; 192], 0);
     let map = [0xE2, 0x01];
-    draw(24, 8, &map, &[0, 7], &front, &mut back, &mut place, 312_000).expect("accepted");
+    draw(3, 1, &map, &[0, 7], &front, &mut back, &mut place, 312_000).expect("accepted");
     assert_eq!(back[..24], [[5; 8], [7; 8], [5; 8]].concat());
 }
 
@@ -222,28 +223,30 @@ fn back_copies_read_the_frame_as_drawn_so_far() {
 fn sources() {
     // Code 7 coarse, fields 0 to 7 are ones: pixel 0 is P1, pixel 63 (last field, a one) too.
     let coarse = hex("22 11 ff 81");
-    assert_eq!(source(8, 0x7, &coarse, 0, 0, 0), Some(Source::Data(1)));
-    assert_eq!(source(8, 0x7, &coarse, 0, 0, 34), Some(Source::Data(0)));
-    assert_eq!(source(8, 0x7, &coarse, 0, 0, 63), Some(Source::Data(1)));
-    // Pixel 9 is (1, 1) of the block at (8, 16) in a picture 32 wide: 17 * 32 + 9 = 553.
-    assert_eq!(source(32, 0x0, &[], 8, 16, 9), Some(Source::Front(553)));
-    assert_eq!(source(32, 0x1, &[], 8, 16, 9), Some(Source::Back(553)));
-    assert_eq!(source(32, 0x2, &[0], 8, 16, 9), Some(Source::Back(561)));
-    assert_eq!(source(32, 0x3, &[0], 8, 16, 9), Some(Source::Back(545)));
-    assert_eq!(source(32, 0x4, &[0x00], 8, 16, 9), Some(Source::Front(289)));
-    assert_eq!(source(32, 0x5, &[1, 1], 8, 16, 9), Some(Source::Front(586)));
+    assert_eq!(source(1, 0x7, &coarse, 0, 0, 0), Some(Source::Data(1)));
+    assert_eq!(source(1, 0x7, &coarse, 0, 0, 34), Some(Source::Data(0)));
+    assert_eq!(source(1, 0x7, &coarse, 0, 0, 63), Some(Source::Data(1)));
+    // Pixel 9 is (1, 1) of the block at (8, 16) in a picture of 4 columns, 32 pixels wide:
+    // 17 * 32 + 9 = 553.
+    assert_eq!(source(4, 0x0, &[], 8, 16, 9), Some(Source::Front(553)));
+    assert_eq!(source(4, 0x1, &[], 8, 16, 9), Some(Source::Back(553)));
+    assert_eq!(source(4, 0x2, &[0], 8, 16, 9), Some(Source::Back(561)));
+    assert_eq!(source(4, 0x3, &[0], 8, 16, 9), Some(Source::Back(545)));
+    assert_eq!(source(4, 0x4, &[0x00], 8, 16, 9), Some(Source::Front(289)));
+    assert_eq!(source(4, 0x5, &[1, 1], 8, 16, 9), Some(Source::Front(586)));
     // Bytes behind the block are not read.
-    assert_eq!(source(8, 0xE, &[1, 2], 0, 0, 63), Some(Source::Data(0)));
+    assert_eq!(source(1, 0xE, &[1, 2], 0, 0, 63), Some(Source::Data(0)));
 
-    assert_eq!(source(8, 0x6, &[0; 64], 0, 0, 0), None);
-    assert_eq!(source(8, 0x10, &[0; 64], 0, 0, 0), None);
-    assert_eq!(source(8, 0xE, &[], 0, 0, 0), None);
-    assert_eq!(source(8, 0xE, &[1], 0, 0, 64), None);
+    assert_eq!(source(1, 0x6, &[0; 64], 0, 0, 0), None);
+    assert_eq!(source(1, 0x10, &[0; 64], 0, 0, 0), None);
+    assert_eq!(source(1, 0xE, &[], 0, 0, 0), None);
+    assert_eq!(source(1, 0xE, &[1], 0, 0, 64), None);
     // One to the left, above, and to the right of the picture.
-    assert_eq!(source(16, 0x5, &[0xFF, 0], 0, 0, 0), None);
-    assert_eq!(source(16, 0x5, &[0, 0xFF], 0, 0, 0), None);
-    assert_eq!(source(16, 0x5, &[1, 0], 8, 0, 7), None);
-    assert_eq!(source(usize::MAX, 0x0, &[], usize::MAX, usize::MAX, 63), None);
+    assert_eq!(source(2, 0x5, &[0xFF, 0], 0, 0, 0), None);
+    assert_eq!(source(2, 0x5, &[0, 0xFF], 0, 0, 0), None);
+    assert_eq!(source(2, 0x5, &[1, 0], 8, 0, 7), None);
+    assert_eq!(source(1, 0x0, &[], usize::MAX, usize::MAX, 63), None);
+    assert_eq!(source(usize::MAX, 0x0, &[], 0, 0, 0), None);
 }
 
 /// One block of each form with the data length of 01's table; the bytes also choose the form.
@@ -284,26 +287,26 @@ fn forms() -> Vec<(u8, Vec<u8>)> {
 fn lengths() {
     for (code, data) in forms() {
         let case = format!("code {code:X} {data:?}");
-        assert_eq!(check(8, 8, &[code], &data), Ok(()), "{case}");
+        assert_eq!(check(1, 1, &[code], &data), Ok(()), "{case}");
         for length in 0..data.len() {
             let short = Refusal { number: 13, block: 0 };
-            let answer = check(8, 8, &[code], &data[..length]);
+            let answer = check(1, 1, &[code], &data[..length]);
             assert_eq!(answer, Err(short), "{case} cut to {length}");
         }
         let left = Refusal { number: 15, block: 0 };
         let longer = [&data[..], &[0]].concat();
-        assert_eq!(check(8, 8, &[code], &longer), Err(left), "{case}");
+        assert_eq!(check(1, 1, &[code], &longer), Err(left), "{case}");
     }
 }
 
-/// Codes 2 and 3 have one byte; in 16x8 the other block is in reach.
+/// Codes 2 and 3 have one byte; in 2x1 blocks the other one is in reach.
 #[test]
 fn lengths_of_back_copies() {
-    assert_eq!(check(16, 8, &[0x12], &[0]), Ok(()));
-    assert_eq!(check(16, 8, &[0x31], &[0]), Ok(()));
+    assert_eq!(check(2, 1, &[0x12], &[0]), Ok(()));
+    assert_eq!(check(2, 1, &[0x31], &[0]), Ok(()));
     let short = |block| Err(Refusal { number: 13, block });
-    assert_eq!(check(16, 8, &[0x12], &[]), short(0));
-    assert_eq!(check(16, 8, &[0x31], &[]), short(1));
+    assert_eq!(check(2, 1, &[0x12], &[]), short(0));
+    assert_eq!(check(2, 1, &[0x31], &[]), short(1));
 }
 
 /// Blocks run left to right, then down, and the data in the order of the blocks.
@@ -311,7 +314,7 @@ fn lengths_of_back_copies() {
 fn order_of_blocks() {
     let map = [0xEE, 0xEE, 0xEE];
     let data = [1, 2, 3, 4, 5, 6];
-    let blocks = packet::blocks(24, 16, &map, &data).expect("accepted");
+    let blocks = packet::blocks(3, 2, &map, &data).expect("accepted");
     let corners: Vec<_> = blocks.iter().map(|b| (b.x, b.y, b.data[0])).collect();
     let expected = [(0, 0, 1), (8, 0, 2), (16, 0, 3), (0, 8, 4), (8, 8, 5), (16, 8, 6)];
     assert_eq!(corners, expected);

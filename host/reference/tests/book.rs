@@ -6,9 +6,9 @@ use reference::{Drawn, Refusal};
 
 const FRONT: [u8; 128] = [1; 128];
 
-/// The marked case of 01: 16x8, map E2, data 00 07.
+/// The marked case of 01: 16x8 pixels, map E2, data 00 07.
 fn call(allowed: usize) -> Call<'static> {
-    Call { width: 16, height: 8, map: &[0xE2], data: &[0x00, 0x07], front: &FRONT, allowed }
+    Call { columns: 2, rows: 1, map: &[0xE2], data: &[0x00, 0x07], front: &FRONT, allowed }
 }
 
 fn drawn(whole: bool, stores: usize) -> Result<Drawn, Refusal> {
@@ -47,15 +47,15 @@ fn several_calls() {
 }
 
 /// The frame is worked out from the picture as the list finds it, not as earlier calls left it.
-/// 24x8: block 0 is block 1 as found (5), block 1 is solid 7, block 2 is copied from 14 to the
-/// left: six columns of block 0 and two of block 1. Worked out anew after block 1 is drawn, block
+/// 3x1 blocks: block 0 is block 1 as found (5), block 1 is solid 7, block 2 is copied from 14 to the
+/// left: six pixels a row of block 0 and two of block 1. Worked out anew after block 1 is drawn, block
 /// 0 and so block 2 would be all 7.
 #[test]
 fn frame_is_worked_out_from_the_picture_found() {
     let front = [1; 192];
     let call = |allowed| Call {
-        width: 24,
-        height: 8,
+        columns: 3,
+        rows: 1,
         map: &[0xE2, 0x03],
         data: &[0, 7, 6],
         front: &front,
@@ -77,13 +77,14 @@ fn frame_is_worked_out_from_the_picture_found() {
 fn refused_calls() {
     let refused = |number, block| Err(Refusal { number, block });
     let mut book = Book::open(&[5; 128]);
-    let small = Call { width: 8, map: &[0x01], data: &[], ..call(65) };
+    let small = Call { columns: 1, map: &[0x01], data: &[], ..call(65) };
     assert_eq!(book.enter(&call(130)), drawn(true, 130));
     let before = book.picture().to_vec();
     let calls = [
-        (Call { width: 12, ..call(65) }, refused(6, 0)),
+        (Call { columns: 81, ..call(65) }, refused(6, 0)),
+        (Call { rows: 61, ..call(65) }, refused(6, 0)),
         (Call { front: &FRONT[..127], ..call(65) }, refused(8, 0)),
-        (Call { height: 16, ..call(65) }, refused(8, 0)),
+        (Call { rows: 2, ..call(65) }, refused(8, 0)),
         (Call { map: &[], ..call(65) }, refused(10, 0)),
         (small, refused(11, 0)),
         (Call { map: &[0x6E], ..call(65) }, refused(12, 1)),

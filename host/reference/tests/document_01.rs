@@ -91,7 +91,7 @@ fn gradient() {
 #[test]
 fn map_low_nibble_first() {
     let (front, mut back, mut place) = ([1; 128], [5; 128], 0);
-    let drawn = draw(16, 8, &[0xE1], &[7], &front, &mut back, &mut place, 312_000);
+    let drawn = draw(2, 1, &[0xE1], &[7], &front, &mut back, &mut place, 312_000);
     // Code 1 has no pixel stores, so the two blocks have 1 and 65.
     let expected = Drawn { whole: true, stores: 66 };
     assert_eq!(drawn, Ok(expected));
@@ -100,12 +100,12 @@ fn map_low_nibble_first() {
     }
 }
 
-/// ★ 16x8, map E2, data 00 07, back all 5, in one call.
+/// ★ 16x8 pixels, map E2, data 00 07, back all 5, in one call.
 #[test]
 fn whole_picture() {
     let (front, mut back, mut place) = ([1; 128], [5; 128], 0);
     let data = [0x00, 0x07];
-    let drawn = draw(16, 8, &[0xE2], &data, &front, &mut back, &mut place, 130);
+    let drawn = draw(2, 1, &[0xE2], &data, &front, &mut back, &mut place, 130);
     let expected = Drawn { whole: true, stores: 130 };
     assert_eq!(drawn, Ok(expected));
     assert_eq!(place, 2);
@@ -120,7 +120,7 @@ fn whole_picture() {
 fn picture_after_75_stores() {
     let (front, mut back, mut place) = ([1; 128], [5; 128], 0);
     let data = [0x00, 0x07];
-    let drawn = draw(16, 8, &[0xE2], &data, &front, &mut back, &mut place, 75);
+    let drawn = draw(2, 1, &[0xE2], &data, &front, &mut back, &mut place, 75);
     let unfinished = Drawn { whole: false, stores: 75 };
     assert_eq!(drawn, Ok(unfinished));
     assert_eq!(place, 1);
@@ -129,7 +129,7 @@ fn picture_after_75_stores() {
     assert_eq!(back[32..], [5; 96]);
 
     // Block 1 from its first pixel again: 64 pixels and the place.
-    let drawn = draw(16, 8, &[0xE2], &data, &front, &mut back, &mut place, 65);
+    let drawn = draw(2, 1, &[0xE2], &data, &front, &mut back, &mut place, 65);
     let whole = Drawn { whole: true, stores: 65 };
     assert_eq!(drawn, Ok(whole));
     // Not set back to 0 when the frame is whole (third slip).
@@ -139,29 +139,33 @@ fn picture_after_75_stores() {
     }
 }
 
-/// 8x8: code 5 with 00 00 taken, 01 00 refused 14.
+/// 8x8 pixels: code 5 with 00 00 taken, 01 00 refused 14.
 #[test]
 fn copies_at_the_edge() {
-    assert_eq!(check(8, 8, &[0x05], &[0x00, 0x00]), Ok(()));
+    assert_eq!(check(1, 1, &[0x05], &[0x00, 0x00]), Ok(()));
     let outside = Refusal { number: 14, block: 0 };
-    assert_eq!(check(8, 8, &[0x05], &[0x01, 0x00]), Err(outside));
+    assert_eq!(check(1, 1, &[0x05], &[0x01, 0x00]), Err(outside));
 }
 
-/// Width 640 taken; 0, 648, 12 refused 6.
+/// "01's width cases become 80 taken, 0 and 81 refused" (02, W1); and the rows by the same rule.
 #[test]
-fn widths() {
-    assert_eq!(check(640, 8, &[0x11; 40], &[]), Ok(()));
+fn columns_and_rows() {
+    assert_eq!(check(80, 1, &[0x11; 40], &[]), Ok(()));
     let size = Refusal { number: 6, block: 0 };
-    for width in [0, 648, 12] {
-        assert_eq!(check(width, 8, &[0x11; 41], &[]), Err(size), "{width}");
+    for columns in [0, 81] {
+        assert_eq!(check(columns, 1, &[0x11; 41], &[]), Err(size), "{columns}");
+    }
+    assert_eq!(check(1, 60, &[0x11; 30], &[]), Ok(()));
+    for rows in [0, 61] {
+        assert_eq!(check(1, rows, &[0x11; 31], &[]), Err(size), "{rows}");
     }
 }
 
-/// The film of the listing case, 82 bytes.
+/// The film of the listing case, 82 bytes; its size is `01 00 01 00` (02, W1).
 fn listed_film() -> Vec<u8> {
     [
         common::header(),
-        hex("0c 00 02 00 04 00 05 00 08 00 08 00 00 00 01 00"),
+        hex("0c 00 02 00 04 00 05 00 01 00 01 00 00 00 01 00"),
         hex("24 00 03 00 01 00 0f 00 0e 0f 00 11 00"),
         vec![0; 14],
         hex("2a 04 00 07 00 00 00 00 00 00 00 01 00"),
@@ -199,13 +203,13 @@ fn listing_case_frame() {
 }
 
 /// Slip: a copy past the right edge reads the next line if judged by one linear address. Pixel 9
-/// and the seven behind it are inside the 256 bytes, but not inside the 16 columns.
+/// and the seven behind it are inside the 256 bytes, but not inside the 16 of a row.
 #[test]
 fn slip_linear_address() {
     let outside = |block| Err(Refusal { number: 14, block });
-    // 16x16: code 5 in block 1, one to the right; in block 2 (second row), one to the left.
-    assert_eq!(check(16, 16, &[0x51, 0x11], &[0x01, 0x00]), outside(1));
-    assert_eq!(check(16, 16, &[0x11, 0x15], &[0xFF, 0x00]), outside(2));
+    // 2x2 blocks: code 5 in block 1, one to the right; in block 2 (second row), one to the left.
+    assert_eq!(check(2, 2, &[0x51, 0x11], &[0x01, 0x00]), outside(1));
+    assert_eq!(check(2, 2, &[0x11, 0x15], &[0xFF, 0x00]), outside(2));
 }
 
 /// Slip: 28 zero masks, then 01, set entry 224, not 240.

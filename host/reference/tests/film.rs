@@ -28,9 +28,9 @@ fn is_taken(stepped: Stepped) -> bool {
     matches!(stepped, Stepped::Taken(..))
 }
 
-/// A film with one 8x8 frame of one solid block, unsent.
+/// A film with one frame of one solid block, unsent.
 fn one_frame() -> Vec<u8> {
-    film(&[chunk(&[size(8, 8), opcode(0x0F, 0, &[0x0E]), video(&[7])])])
+    film(&[chunk(&[size(1, 1), opcode(0x0F, 0, &[0x0E]), video(&[7])])])
 }
 
 // --- opening ---
@@ -41,8 +41,8 @@ fn number_1_header() {
     let opened = State {
         position: 26,
         chunk_end: 26,
-        width: 0,
-        height: 0,
+        columns: 0,
+        rows: 0,
         front: 0,
         map: None,
         unsent: false,
@@ -252,40 +252,48 @@ fn end_of_film() {
 
 // --- 05 ---
 
-/// The count word is not read; the true-colour word must be 0 and is in version 2 alone.
+/// The words count blocks. The count word is not read; the true-colour word must be 0 and is in
+/// version 2 alone.
 #[test]
 fn init_video() {
     for (version, body) in
-        [(0, "08 00 10 00"), (1, "08 00 10 00 ff ff"), (2, "08 00 10 00 ff ff 00 00")]
+        [(0, "50 00 3c 00"), (1, "50 00 3c 00 ff ff"), (2, "50 00 3c 00 ff ff 00 00")]
     {
         let Stepped::Taken(state, 0) = first_opcode(&[opcode(0x05, version, &hex(body))]) else {
             panic!("version {version} not taken");
         };
-        assert_eq!((state.width, state.height), (8, 16));
+        assert_eq!((state.columns, state.rows), (80, 60));
+        // "Our first real film says 80 by 60 and should fill a 640 by 480 picture" (02, W1).
+        assert_eq!(state.pixels(), 640 * 480);
     }
 }
 
 #[test]
 fn number_6_size() {
-    for (width, height, taken) in [
-        (8, 8, true),
-        (640, 480, true),
+    for (columns, rows, taken) in [
+        (1, 1, true),
+        (80, 60, true),
+        (80, 1, true),
+        (1, 60, true),
+        (7, 9, true),
         (0, 0, false),
-        (0, 8, false),
-        (8, 0, false),
-        (12, 8, false),
-        (8, 12, false),
-        (648, 8, false),
-        (8, 488, false),
-        (480, 640, false),
-        (65_528, 8, false),
+        (0, 1, false),
+        (1, 0, false),
+        (81, 1, false),
+        (1, 61, false),
+        (60, 80, false),
+        (640, 480, false),
+        (65_535, 1, false),
+        (1, 65_535, false),
+        // 80 and 60 in the high bytes of the words.
+        (0x5000, 0x3C00, false),
     ] {
-        let stepped = first_opcode(&[size(width, height)]);
-        assert_eq!(is_taken(stepped), taken, "{width}x{height}");
-        assert_eq!(stepped == refused(6), !taken, "{width}x{height}");
+        let stepped = first_opcode(&[size(columns, rows)]);
+        assert_eq!(is_taken(stepped), taken, "{columns}x{rows}");
+        assert_eq!(stepped == refused(6), !taken, "{columns}x{rows}");
     }
     for true_colour in ["01 00", "00 01"] {
-        let body = hex(&format!("08 00 08 00 01 00 {true_colour}"));
+        let body = hex(&format!("01 00 01 00 01 00 {true_colour}"));
         assert_eq!(first_opcode(&[opcode(0x05, 2, &body)]), refused(6));
     }
 }
@@ -293,11 +301,11 @@ fn number_6_size() {
 /// A second 05 is refused, even with the same size; its length is tested before that.
 #[test]
 fn number_6_second_size() {
-    let twice = film(&[chunk(&[size(8, 8), size(8, 8)])]);
+    let twice = film(&[chunk(&[size(1, 1), size(1, 1)])]);
     let (state, refusal) = Lent::zero(64).run(&twice);
     assert_eq!(refusal.map(|refusal| refusal.number), Some(6));
     assert_eq!(state.position, 38);
-    let wrong_length = film(&[chunk(&[size(8, 8), opcode(0x05, 1, &[0; 4])])]);
+    let wrong_length = film(&[chunk(&[size(1, 1), opcode(0x05, 1, &[0; 4])])]);
     let (_, refusal) = Lent::zero(64).run(&wrong_length);
     assert_eq!(refusal.map(|refusal| refusal.number), Some(5));
 }
@@ -352,12 +360,12 @@ fn number_8_palette() {
 /// pictures is itself taken.
 #[test]
 fn number_8_pictures() {
-    let film = film(&[chunk(&[size(16, 8), opcode(0x04, 0, &[])])]);
+    let film = film(&[chunk(&[size(2, 1), opcode(0x04, 0, &[])])]);
     for (a, b, taken) in [(128, 128, true), (127, 128, false), (128, 127, false), (0, 0, false)] {
         let mut lent = Lent::zero(0);
         (lent.a, lent.b) = (vec![0; a], vec![0; b]);
         let state = lent.steps(&film, open(&film).expect("a good header"), 2);
-        assert_eq!((state.width, state.height), (16, 8));
+        assert_eq!((state.columns, state.rows), (2, 1));
         let stepped = lent.step(&film, state, 0);
         assert_eq!(is_taken(stepped), taken, "{a} and {b}");
         assert_eq!(stepped == refused(8), !taken, "{a} and {b}");
@@ -386,10 +394,10 @@ fn number_9_without_size_or_map() {
     for (opcodes, number) in [
         (vec![video(&[7])], Some(9)),
         (vec![map.clone(), video(&[7])], Some(9)),
-        (vec![size(8, 8), video(&[7])], Some(9)),
-        (vec![map.clone(), size(8, 8), video(&[7])], None),
+        (vec![size(1, 1), video(&[7])], Some(9)),
+        (vec![map.clone(), size(1, 1), video(&[7])], None),
         // The first frame used the map up.
-        (vec![size(8, 8), map.clone(), video(&[7]), video(&[7])], Some(9)),
+        (vec![size(1, 1), map.clone(), video(&[7]), video(&[7])], Some(9)),
         // 5 comes before 9.
         (vec![opcode(0x11, 0, &[0; 13])], Some(5)),
     ] {
@@ -409,7 +417,7 @@ fn numbers_10_to_15() {
         (&[0x5E], &[1, 0x01, 0], 14, 1),
         (&[0xEE], &[1, 2, 3], 15, 0),
     ] {
-        let opcodes = [size(16, 8), opcode(0x0F, 0, map), video(packet)];
+        let opcodes = [size(2, 1), opcode(0x0F, 0, map), video(packet)];
         let mut lent = Lent::zero(128);
         let (state, refusal) = lent.run(&film(&[chunk(&opcodes)]));
         assert_eq!(refusal, Some(Refusal { number, block }));
@@ -460,7 +468,7 @@ fn drawing_in_pieces() {
 fn send_buffer() {
     let frame = |map: u8, data: &[u8]| [opcode(0x0F, 0, &[map]), video(data)].concat();
     let opcodes = [
-        size(8, 8),
+        size(1, 1),
         send(), // nothing finished yet: front stays the first picture
         frame(0x0E, &[7]),
         opcode(0x07, 1, &[0xFF; 6]), // sends 7: front is the second picture
@@ -544,12 +552,14 @@ fn number_16_state() {
         State { map: span(2, max - 1), ..good },
         State { front: 2, ..good },
         State { front: max, ..good },
-        State { width: 0, ..good },
-        State { height: 0, ..good },
-        State { width: 12, ..good },
-        State { width: 648, ..good },
-        State { height: 488, ..good },
-        State { width: max, height: max, ..good },
+        State { columns: 0, ..good },
+        State { rows: 0, ..good },
+        State { columns: 81, ..good },
+        State { rows: 61, ..good },
+        State { columns: 640, rows: 480, ..good },
+        // 64 pixels, if the product wraps around.
+        State { columns: (1 << 58) + 1, ..good },
+        State { columns: max, rows: max, ..good },
     ];
     for state in states {
         let mut lent = Lent::zero(64);
@@ -570,8 +580,8 @@ fn not_number_16() {
         State { position: 0, ..good },
         State { position: 0, chunk_end: 0, ..good },
         State { map: Some(Span { start: film.len(), length: 0 }), ..good },
-        State { width: 0, height: 0, ..good },
-        State { width: 0, height: 0, map: None, unsent: true, ..good },
+        State { columns: 0, rows: 0, ..good },
+        State { columns: 0, rows: 0, map: None, unsent: true, ..good },
         State { front: 1, ..good },
     ];
     for state in states {
@@ -598,12 +608,13 @@ fn shown_picture() {
     for none in [
         State { front: 2, ..state },
         State { front: usize::MAX, ..state },
-        State { width: 0, height: 0, ..state },
-        State { width: 0, ..state },
-        State { width: 12, ..state },
-        State { width: 648, ..state },
-        State { width: 16, ..state },
-        State { width: usize::MAX, height: usize::MAX, ..state },
+        State { columns: 0, rows: 0, ..state },
+        State { columns: 0, ..state },
+        State { columns: 81, ..state },
+        State { rows: 61, ..state },
+        State { columns: 2, ..state },
+        State { columns: (1 << 58) + 1, ..state },
+        State { columns: usize::MAX, rows: usize::MAX, ..state },
     ] {
         assert_eq!(shown(&none, &a, &b), empty, "{none:?}");
     }

@@ -21,19 +21,19 @@ fn longest_film() {
     assert_eq!(list(&vec![0xFF; 24_577]), "too large\n");
 }
 
-/// 128x128 is 16,384 pixels, 640x32 is 20,480.
+/// 16x16 blocks are 16,384 pixels, 80x4 are 20,480.
 #[test]
 fn largest_frame() {
-    let listed = list(&film(&[chunk(&[size(128, 128)])]));
+    let listed = list(&film(&[chunk(&[size(16, 16)])]));
     assert_eq!(listed, "at type version length\n30 5 0 4\nended 38\n");
-    let listed = list(&film(&[chunk(&[size(640, 32), opcode(0x01, 0, &[])])]));
+    let listed = list(&film(&[chunk(&[size(80, 4), opcode(0x01, 0, &[])])]));
     assert_eq!(listed, "at type version length\n30 5 0 4\ntoo large\n");
 }
 
 /// A 05 that is not taken writes no line.
 #[test]
 fn refused_size() {
-    let listed = list(&film(&[chunk(&[size(648, 480)])]));
+    let listed = list(&film(&[chunk(&[size(81, 60)])]));
     assert_eq!(listed, "at type version length\nrefused 6 30\n");
 }
 
@@ -50,7 +50,7 @@ fn refused_steps() {
     let cut_chunk = [film(&[chunk(&[])]), vec![1, 0, 0]].concat();
     assert_eq!(list(&cut_chunk), "at type version length\nrefused 2 30\n");
 
-    let opcodes = [size(8, 8), opcode(0x13, 7, &[1, 2, 3]), opcode(0x0F, 0, &[0x06]), video(&[])];
+    let opcodes = [size(1, 1), opcode(0x13, 7, &[1, 2, 3]), opcode(0x0F, 0, &[0x06]), video(&[])];
     let expected = "at type version length\n\
                     30 5 0 4\n\
                     38 19 7 3\n\

@@ -29,7 +29,7 @@ fn ppm(colour: [u8; 3]) -> Vec<u8> {
 #[test]
 fn palette_is_scaled() {
     let [map, frame] = solid(7);
-    let opcodes = [entry(7, [63, 1, 11]), size(8, 8), map, frame, send()];
+    let opcodes = [entry(7, [63, 1, 11]), size(1, 1), map, frame, send()];
     let played = play(&film(&[chunk(&opcodes)]));
     assert_eq!(played.pictures, [ppm([255, 4, 45])]);
     assert_eq!((played.position, played.refusal), (26 + 4 + 11 + 8 + 5 + 19 + 8, None));
@@ -41,7 +41,7 @@ fn palette_is_scaled() {
 fn one_for_each_sent() {
     let (one, two, three) = (solid(1), solid(2), solid(3));
     let opcodes = [
-        vec![send(), entry(1, [63, 0, 0]), size(8, 8), send()],
+        vec![send(), entry(1, [63, 0, 0]), size(1, 1), send()],
         one.to_vec(),
         vec![send(), send(), entry(1, [0, 63, 0])],
         two.to_vec(),
@@ -58,7 +58,7 @@ fn one_for_each_sent() {
 #[test]
 fn refused() {
     let [map, frame] = solid(0);
-    let film = film(&[chunk(&[size(8, 8), map, frame, send(), opcode(0x06, 0, &[])])]);
+    let film = film(&[chunk(&[size(1, 1), map, frame, send(), opcode(0x06, 0, &[])])]);
     let played = play(&film);
     assert_eq!(played.pictures, [ppm([0; 3])]);
     assert_eq!((played.position, played.refusal), (film.len() - 4, Some(Refusal::new(4))));

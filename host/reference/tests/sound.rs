@@ -626,7 +626,7 @@ fn unread_fields() {
         right: 0xFFFF,
         ..Sound::new(3)
     };
-    let frame = [size(8, 8), opcode(0x0F, 0, &[0x0E]), video(&[7])];
+    let frame = [size(1, 1), opcode(0x0F, 0, &[0x0E]), video(&[7])];
     let opcodes = [
         &frame[..],
         &[send(), opcode(0x04, 0, &[]), opcode(0x0C, 0, &[0; 4])],
@@ -657,7 +657,7 @@ fn unread_fields() {
 fn kept_fields() {
     for flags in ALL {
         let kept = Sound { begun: true, left: 0x1234, right: 0x5678, ..fresh(flags) };
-        let frame = [size(8, 8), opcode(0x0F, 0, &[0x0E]), video(&[7])];
+        let frame = [size(1, 1), opcode(0x0F, 0, &[0x0E]), video(&[7])];
         let others = [&frame[..], &[send(), silence(2), opcode(0x00, 0, &[])]].concat();
         let film = film(&[chunk(&others)]);
         let opened = open(&film, 0).expect("a good header");
@@ -687,7 +687,7 @@ fn kept_fields() {
 fn between_pictures() {
     let opcodes = [
         format(MONO_COMPRESSED),
-        size(8, 8),
+        size(1, 1),
         data(2, &hex("00 10 01")),
         opcode(0x0F, 0, &[0x0E]),
         data(1, &[1]),

@@ -56,24 +56,23 @@ impl Drawing {
 }
 
 fn listed(packet: &maker::Packet) -> Packet<'_> {
-    let maker::Packet { width, height, map, data } = packet;
-    Packet { width: *width, height: *height, map, data, front: 0 }
+    let maker::Packet { columns, rows, map, data } = packet;
+    Packet { columns: *columns, rows: *rows, map, data, front: 0 }
 }
 
 /// A call of the second decoder.
 fn second_draw(packet: &maker::Packet, memory: &mut Memory, allowed: usize) -> reference::Drawn {
-    let maker::Packet { width, height, map, data } = packet;
+    let maker::Packet { columns, rows, map, data } = packet;
     let Memory { pictures: [front, back], place, .. } = memory;
-    reference::draw(*width, *height, map, data, front, back, place, allowed)
+    reference::draw(*columns, *rows, map, data, front, back, place, allowed)
         .expect("a valid packet")
 }
 
 impl Case for Drawing {
     fn arguments(&self) -> Vec<String> {
-        let maker::Packet { width, height, map, data } = &self.packet;
-        let numbers = [width.to_string(), height.to_string(), self.allowed.to_string()];
+        let maker::Packet { columns, rows, map, data } = &self.packet;
         let mut words = vec!["--draw".to_string()];
-        words.extend(numbers);
+        words.extend([*columns, *rows, self.allowed].map(|number| number.to_string()));
         words.extend([hex(map), hex(data)]);
         words
     }
@@ -91,11 +90,11 @@ impl Case for Drawing {
     }
 
     fn go_on(&self, left: &Memory) -> Result<(), String> {
-        let maker::Packet { width, height, map, data } = &self.packet;
+        let maker::Packet { columns, rows, map, data } = &self.packet;
         let due = list::due(&listed(&self.packet), left.place);
         let mut memory = left.clone();
         let Memory { pictures: [front, back], place, .. } = &mut memory;
-        let drawn = mve::draw(*width, *height, map, data, front, back, place, usize::MAX);
+        let drawn = mve::draw(*columns, *rows, map, data, front, back, place, usize::MAX);
         if drawn != Ok(mve::Drawn::Whole { stores: due }) {
             return Err(format!("the new call answers {drawn:?}, with {due} stores due"));
         }

@@ -6,7 +6,7 @@ use crate::kept::{Kept, Shared};
 use crate::list::{self, Prefix};
 use crate::made;
 use crate::stopped;
-use maker::film::Film;
+use maker::film::{init_video, Film};
 use maker::{Profile, Seeded, Size};
 use mve::NO_STREAM;
 use std::env;
@@ -20,10 +20,10 @@ use std::sync::atomic::{AtomicUsize, Ordering};
 use std::thread;
 use std::time::{Duration, Instant};
 
-/// The frame, 320x200.
+/// The frame, 320x200 pixels.
 const SIZE: Size = Size { columns: 40, rows: 25 };
 /// The bytes of each picture that are lent.
-const LENT: usize = 320 * 200;
+const LENT: usize = 64 * SIZE.columns * SIZE.rows;
 /// The frames of the film.
 const FRAMES: usize = 96;
 /// Of so many frames the last is sent; the others are drawn over.
@@ -96,7 +96,7 @@ pub fn play(player: Player, film: &str, allowed: usize) -> io::Result<()> {
 
 /// A film of every kind of block, and of palettes that change.
 fn film(rng: &mut Seeded) -> Film {
-    let mut chunks = vec![made::chunk(vec![made::init_video(SIZE)])];
+    let mut chunks = vec![made::chunk(vec![init_video(SIZE)])];
     for frame in 1..=FRAMES {
         let profile = Profile::MANY[frame % Profile::MANY.len()];
         let [map, video, send] = made::frame(rng, SIZE, profile);

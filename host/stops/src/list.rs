@@ -43,9 +43,9 @@ pub enum Store {
 /// A drawing's stores from a place on, of a packet that is accepted: each pixel comes from memory as
 /// the stores before it left it.
 pub fn drawing(packet: &Packet<'_>, memory: &Memory) -> Result<Vec<Store>, Refusal> {
-    let Packet { width, height, map, data, front } = *packet;
-    let size = FrameSize::new(width, height)?;
-    let blocks = packet::blocks(width, height, map, data)?;
+    let Packet { columns, rows, map, data, front } = *packet;
+    let size = FrameSize::new(columns, rows)?;
+    let blocks = packet::blocks(columns, rows, map, data)?;
     let shown = &memory.pictures[front];
     let mut drawn = memory.pictures[1 - front].clone();
     let mut stores = Vec::new();
@@ -62,18 +62,18 @@ pub fn drawing(packet: &Packet<'_>, memory: &Memory) -> Result<Vec<Store>, Refus
 
 /// How many stores are due from a place on, of a packet that is accepted.
 pub fn due(packet: &Packet<'_>, place: usize) -> usize {
-    let Packet { width, height, map, data, .. } = *packet;
-    let blocks = packet::blocks(width, height, map, data).expect("a packet that is accepted");
+    let Packet { columns, rows, map, data, .. } = *packet;
+    let blocks = packet::blocks(columns, rows, map, data).expect("a packet that is accepted");
     blocks.iter().skip(place).map(|block| block.pixel_stores() + 1).sum()
 }
 
 /// A packet as it is drawn on one of the two pictures that are kept.
 #[derive(Clone, Copy, Debug)]
 pub struct Packet<'a> {
-    /// Width in pixels.
-    pub width: usize,
-    /// Height in pixels.
-    pub height: usize,
+    /// Blocks in a row.
+    pub columns: usize,
+    /// Rows of blocks.
+    pub rows: usize,
     /// The map.
     pub map: &'a [u8],
     /// The data.
@@ -88,9 +88,9 @@ pub fn packet_at<'a>(film: &'a [u8], state: &State) -> Option<Packet<'a>> {
     if state.position == state.chunk_end || head.kind != opcode::VIDEO {
         return None;
     }
-    let State { width, height, front, .. } = *state;
+    let State { columns, rows, front, .. } = *state;
     let map = state.map?.of(film)?;
-    Some(Packet { width, height, map, data: &head.body.of(film)?[14..], front })
+    Some(Packet { columns, rows, map, data: &head.body.of(film)?[14..], front })
 }
 
 /// The stores of a film's step at a state, if none is left out for want of an allowance.

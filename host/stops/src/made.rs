@@ -4,7 +4,7 @@ use crate::cases::{Drawing, Walk, NO_STATE};
 use crate::kept::Memory;
 use crate::stopped::LENT;
 use maker::calls::allowance;
-use maker::film::{packet_opcodes, Chunk, Film, Opcode};
+use maker::film::{init_video, packet_opcodes, Chunk, Film, Opcode};
 use maker::packet::Draft;
 use maker::sound::Format;
 use maker::{Form, Profile, Seeded, Size};
@@ -89,12 +89,6 @@ fn film_of(stream: usize, opcodes: Vec<Opcode>) -> Vec<u8> {
 /// A chunk of these opcodes.
 pub fn chunk(opcodes: Vec<Opcode>) -> Chunk {
     Chunk { opcodes, ..Chunk::default() }
-}
-
-/// Opcode 05.
-pub fn init_video(size: Size) -> Opcode {
-    let sides = [size.width(), size.height()].map(|side| (side as u16).to_le_bytes());
-    Opcode::new(0x05, 0, sides.concat())
 }
 
 /// Map, video data and send.

@@ -6,10 +6,10 @@ use reference::sound::Sound;
 
 /// The numbers of a state of the library.
 pub fn numbers(state: mve::State) -> Numbers {
-    let mve::State { position, chunk_end, width, height, front, map, unsent, sound } = state;
+    let mve::State { position, chunk_end, columns, rows, front, map, unsent, sound } = state;
     let (start, length) = map.unwrap_or((0, 0));
     let (has_map, unsent) = (map.is_some().into(), unsent.into());
-    let picture = [position, chunk_end, width, height, front, has_map, start, length, unsent];
+    let picture = [position, chunk_end, columns, rows, front, has_map, start, length, unsent];
     let mve::Sound { stream, has_format, stereo, wide, compressed, begun, left, right } = sound;
     let flags = [has_format, stereo, wide, compressed, begun].map(usize::from);
     joined(picture, stream, flags, [left, right])
@@ -17,7 +17,7 @@ pub fn numbers(state: mve::State) -> Numbers {
 
 /// The library's state of these numbers.
 pub fn of_numbers(numbers: Numbers) -> mve::State {
-    let [position, chunk_end, width, height, front, has_map, start, length, unsent, sound @ ..] =
+    let [position, chunk_end, columns, rows, front, has_map, start, length, unsent, sound @ ..] =
         numbers;
     let [stream, has_format, stereo, wide, compressed, begun, left, right] = sound;
     let [has_map, unsent, has_format, stereo, wide, compressed, begun] =
@@ -25,16 +25,16 @@ pub fn of_numbers(numbers: Numbers) -> mve::State {
     let [left, right] = [left, right].map(|sample| sample as u16);
     let map = has_map.then_some((start, length));
     let sound = mve::Sound { stream, has_format, stereo, wide, compressed, begun, left, right };
-    mve::State { position, chunk_end, width, height, front, map, unsent, sound }
+    mve::State { position, chunk_end, columns, rows, front, map, unsent, sound }
 }
 
 /// The numbers of a state of the second decoder.
 pub fn second_numbers(state: reference::film::State) -> Numbers {
-    let reference::film::State { position, chunk_end, width, height, front, map, unsent, sound } =
+    let reference::film::State { position, chunk_end, columns, rows, front, map, unsent, sound } =
         state;
     let (start, length) = map.map_or((0, 0), |Span { start, length }| (start, length));
     let (has_map, unsent) = (map.is_some().into(), unsent.into());
-    let picture = [position, chunk_end, width, height, front, has_map, start, length, unsent];
+    let picture = [position, chunk_end, columns, rows, front, has_map, start, length, unsent];
     let Sound { stream, has_format, stereo, wide, compressed, begun, left, right } = sound;
     let flags = [has_format, stereo, wide, compressed, begun].map(usize::from);
     joined(picture, stream, flags, [left, right])

@@ -19,13 +19,13 @@ pub fn run(arguments: &[String]) -> io::Result<String> {
     let kept = Kept::<LENT>::given()?;
     ffi::trace_me()?;
     match words[..] {
-        ["--draw", width, height, allowed, map, data] => {
-            let [width, height, allowed] = [width, height, allowed].map(number);
+        ["--draw", columns, rows, allowed, map, data] => {
+            let [columns, rows, allowed] = [columns, rows, allowed].map(number);
             let (map, data) = (hex_bytes(map), hex_bytes(data));
             ffi::stop();
             kept.enter();
             let Kept { a, b, place, .. } = &mut *kept;
-            let drawn = mve::draw(width, height, &map, &data, a, b, place, allowed);
+            let drawn = mve::draw(columns, rows, &map, &data, a, b, place, allowed);
             kept.leave();
             ffi::stop();
             Ok(match drawn.map_err(io::Error::other)? {
@@ -40,11 +40,11 @@ pub fn run(arguments: &[String]) -> io::Result<String> {
             ffi::stop();
             Ok(format!("ended after {steps} steps\n"))
         }
-        ["--wrong", name, width, height, map, data] => {
+        ["--wrong", name, columns, rows, map, data] => {
             let wrong = Wrong::named(name).expect("a wrong program");
-            let [width, height] = [width, height].map(number);
+            let [columns, rows] = [columns, rows].map(number);
             let stores =
-                wrong::stores(wrong, kept, width, height, &hex_bytes(map), &hex_bytes(data));
+                wrong::stores(wrong, kept, columns, rows, &hex_bytes(map), &hex_bytes(data));
             ffi::stop();
             kept.enter();
             wrong::make(&stores, kept);

@@ -47,14 +47,14 @@ impl Wrong {
 pub fn stores<const LENT: usize>(
     wrong: Wrong,
     kept: &Kept<LENT>,
-    width: usize,
-    height: usize,
+    columns: usize,
+    rows: usize,
     map: &[u8],
     data: &[u8],
 ) -> Vec<Store> {
     let pictures = [kept.a.to_vec(), kept.b.to_vec()];
     let memory = Memory { palette: kept.palette.to_vec(), pictures, place: 0, state: NO_STATE };
-    let packet = Packet { width, height, map, data, front: 0 };
+    let packet = Packet { columns, rows, map, data, front: 0 };
     let mut stores = list::drawing(&packet, &memory).expect("a valid packet");
     let (index, value) = (LENT - 1, kept.b[LENT - 1]);
     let blocks = stores.iter().filter(|store| matches!(store, Store::Place(_))).count();

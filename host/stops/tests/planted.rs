@@ -13,7 +13,7 @@ use stops::wrong::{Wrong, WrongDrawing};
 
 /// Two blocks: the left one is copied from where the right one is drawn later.
 fn drawn(wrong: Wrong) -> Watched {
-    let packet = Packet { width: 16, height: 8, map: vec![0xE2], data: vec![0x00, 0x07] };
+    let packet = Packet { columns: 2, rows: 1, map: vec![0xE2], data: vec![0x00, 0x07] };
     let memory = made::memory(&mut Seeded::new(1), LENT);
     let case = WrongDrawing { right: Drawing::new(packet, memory, 0, usize::MAX), wrong };
     let watched = watch(Path::new(env!("CARGO_BIN_EXE_stops")), &case);

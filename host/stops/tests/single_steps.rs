@@ -22,8 +22,8 @@ fn stepped(name: &str, case: &dyn Case) -> Counts {
 
 /// The forms of a packet's blocks.
 fn forms(drawing: &Drawing) -> Vec<Form> {
-    let maker::Packet { width, height, map, data } = drawing.packet();
-    let blocks = blocks(*width, *height, map, data).expect("a valid packet");
+    let maker::Packet { columns, rows, map, data } = drawing.packet();
+    let blocks = blocks(*columns, *rows, map, data).expect("a valid packet");
     blocks.iter().map(|block| Form::of(block.code, block.data).expect("a form")).collect()
 }
 

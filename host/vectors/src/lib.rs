@@ -1,7 +1,7 @@
 //! Cases of the packet check and the answers that the second decoder gives to them, as two files:
 //! what a checking program reads from standard input, and what it must write.
 //!
-//! Input, little-endian, for each case: words width, height, map length, data length, then the map
+//! Input, little-endian, for each case: words columns, rows, map length, data length, then the map
 //! and the data. The file ends with the last case. Output, for each case, a line: `accepted`, or
 //! `refused`, the number and the block, in decimal.
 
@@ -53,25 +53,27 @@ pub fn cases() -> Vec<Packet> {
     cases
 }
 
-/// Document 01's unmarked cases that concern a packet.
+/// Document 01's unmarked cases that concern a packet, its widths as document 02's W1 has them, and
+/// the same of the rows.
 fn hand_cases() -> Vec<Packet> {
     let one_copy =
-        |data: [u8; 2]| Packet { width: 8, height: 8, map: vec![0x05], data: data.to_vec() };
-    // Code 1 throughout, and the map as long as the width asks, so that only the width can be
-    // refused.
-    let untouched = |width: usize| Packet {
-        width,
-        height: 8,
-        map: vec![0x11; width.div_ceil(16)],
+        |data: [u8; 2]| Packet { columns: 1, rows: 1, map: vec![0x05], data: data.to_vec() };
+    // Code 1 throughout, and the map as long as the size asks, so that only the size can be refused.
+    let untouched = |columns: usize, rows: usize| Packet {
+        columns,
+        rows,
+        map: vec![0x11; (columns * rows).div_ceil(2)],
         data: Vec::new(),
     };
     vec![
         one_copy([0x00, 0x00]),
         one_copy([0x01, 0x00]),
-        untouched(640),
-        untouched(0),
-        untouched(648),
-        untouched(12),
+        untouched(80, 1),
+        untouched(0, 1),
+        untouched(81, 1),
+        untouched(1, 60),
+        untouched(1, 0),
+        untouched(1, 61),
     ]
 }
 
@@ -89,13 +91,13 @@ fn small_draft(rng: &mut Seeded) -> Draft {
 }
 
 fn case_bytes(packet: &Packet) -> Vec<u8> {
-    let numbers = [packet.width, packet.height, packet.map.len(), packet.data.len()];
+    let numbers = [packet.columns, packet.rows, packet.map.len(), packet.data.len()];
     let word = |number| u16::try_from(number).expect("cases are small").to_le_bytes();
     [numbers.map(word).concat(), packet.map.clone(), packet.data.clone()].concat()
 }
 
 fn answer_line(packet: &Packet) -> String {
-    match reference::check(packet.width, packet.height, &packet.map, &packet.data) {
+    match reference::check(packet.columns, packet.rows, &packet.map, &packet.data) {
         Ok(()) => "accepted\n".to_string(),
         Err(refusal) => format!("refused {} {}\n", refusal.number, refusal.block),
     }

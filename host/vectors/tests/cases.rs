@@ -13,10 +13,10 @@ fn read(input: &[u8]) -> Vec<Packet> {
     let mut rest = input;
     while !rest.is_empty() {
         let word = |at: usize| usize::from(rest[at]) + 256 * usize::from(rest[at + 1]);
-        let (width, height, map, data) = (word(0), word(2), word(4), word(6));
+        let (columns, rows, map, data) = (word(0), word(2), word(4), word(6));
         packets.push(Packet {
-            width,
-            height,
+            columns,
+            rows,
             map: rest[8..8 + map].to_vec(),
             data: rest[8 + map..8 + map + data].to_vec(),
         });
@@ -41,16 +41,26 @@ fn input_is_read_back() {
     assert!(packets.len() >= 300, "{} cases", packets.len());
 }
 
-/// The first case byte by byte, and the answers that document 01 gives to the first six.
+/// The first case byte by byte, and the answers that documents 01 and 02 give to the first eight.
 #[test]
 fn hand_cases() {
     let input = vectors::generate().input;
-    assert_eq!(input[..11], [8, 0, 8, 0, 1, 0, 2, 0, 0x05, 0x00, 0x00]);
-    let sizes: Vec<_> = read(&input).iter().take(6).map(|p| (p.width, p.height)).collect();
-    assert_eq!(sizes, [(8, 8), (8, 8), (640, 8), (0, 8), (648, 8), (12, 8)]);
-    let answers =
-        ["accepted", "refused 14 0", "accepted", "refused 6 0", "refused 6 0", "refused 6 0"];
-    assert_eq!(output_lines()[..6], answers);
+    assert_eq!(input[..11], [1, 0, 1, 0, 1, 0, 2, 0, 0x05, 0x00, 0x00]);
+    let expected = [
+        ((1, 1), "accepted"),
+        ((1, 1), "refused 14 0"),
+        ((80, 1), "accepted"),
+        ((0, 1), "refused 6 0"),
+        ((81, 1), "refused 6 0"),
+        ((1, 60), "accepted"),
+        ((1, 0), "refused 6 0"),
+        ((1, 61), "refused 6 0"),
+    ];
+    let (packets, answers) = (read(&input), output_lines());
+    for (number, (size, answer)) in expected.into_iter().enumerate() {
+        let packet = &packets[number];
+        assert_eq!(((packet.columns, packet.rows), &*answers[number]), (size, answer));
+    }
 }
 
 #[test]
@@ -78,7 +88,7 @@ fn every_form() {
     let mut counts: BTreeMap<Form, usize> = BTreeMap::new();
     for packet in read(&vectors::generate().input) {
         let blocks =
-            reference::packet::blocks(packet.width, packet.height, &packet.map, &packet.data);
+            reference::packet::blocks(packet.columns, packet.rows, &packet.map, &packet.data);
         for block in blocks.unwrap_or_default() {
             let form = Form::of(block.code, block.data).expect("an accepted block");
             *counts.entry(form).or_insert(0) += 1;

@@ -1,7 +1,7 @@
 use mathlib.Core.Path.{sym, _∙_}
 use native.Mathlib.Omega.{arith}
-use Rattle.packet.proofs.Sizes.{few, is-sized}
-use Rattle.draw.proofs.Judged.{area-few, judged-6, judged-8, judged-8-back, judged-10, judged-11, judged-blocks}
+use Rattle.packet.proofs.Sizes.{few, pixels-few, size-is, is-sized}
+use Rattle.draw.proofs.Judged.{judged-6, judged-8, judged-8-back, judged-10, judged-11, judged-blocks}
 use Rattle.draw.specs.Call.{callVerdict}
 use borrow.Author.Needs.{needs}
 use Rattle.draw.proofs.judge.Statement.{statement}
@@ -14,14 +14,17 @@ use Rattle.packet.proofs.is_legal_size.Reads as is-legal-size-reads
 is-legal-size-requires : tie.Need-is-legal-size-requires
 is-legal-size-requires c κs = search needs
 
-mul-if2 : tie.Need-mul-if2
-mul-if2 c = omega (arith, area-few _ _ (sym (c .before .is-legal-size .ensures) ∙ c .if1 .taken))
+mul-pixels : tie.Need-mul-pixels
+mul-pixels c = omega (arith, size-is _ _ (sym (c .before .is-legal-size .ensures) ∙ c .if1 .taken))
+
+mul-pixels-2 : tie.Need-mul-pixels-2
+mul-pixels-2 c = omega (arith, size-is _ _ (sym (c .before .is-legal-size .ensures) ∙ c .if1 .taken))
+
+mul-pixels-3 : tie.Need-mul-pixels-3
+mul-pixels-3 c = omega (arith, pixels-few _ _ (sym (c .before .is-legal-size .ensures) ∙ c .if1 .taken))
 
 returns : tie.Need-returns
 returns c = judged-8 _ _ _ _ _ _ _ (sym (c .before .before .is-legal-size .ensures) ∙ c .before .if1 .taken) (c .if2 .taken)
-
-mul-if3 : tie.Need-mul-if3
-mul-if3 c = omega (arith, area-few _ _ (sym (c .before .before .is-legal-size .ensures) ∙ c .before .if1 .taken))
 
 returns-2 : tie.Need-returns-2
 returns-2 c = judged-8-back _ _ _ _ _ _ _ (sym (c .before .before .before .is-legal-size .ensures) ∙ c .before .before .if1 .taken) (c .before .if2 .left) (c .if3 .taken)
@@ -55,9 +58,10 @@ judge-spec =
     tie.close
     (tie.spec
     is-legal-size-requires
-    mul-if2
+    mul-pixels
+    mul-pixels-2
+    mul-pixels-3
     returns
-    mul-if3
     returns-2
     mul-if4
     add-if4

@@ -14,9 +14,5 @@ returns-2 : tie.Need-returns-2
 unfolding legal
 returns-2 c = search decide
 
-returns-3 : tie.Need-returns-3
-unfolding legal
-returns-3 c = search decide
-
 pub is-legal-spec : {M : Type 1} → statement M
-is-legal-spec = tie.close (tie.spec returns returns-2 returns-3)
+is-legal-spec = tie.close (tie.spec returns returns-2)

@@ -1,7 +1,6 @@
 use mathlib.Core.Path.{sym, _∙_}
 use native.Mathlib.Omega.{arith}
-use native.Mathlib.Nat.{mul-le-mul}
-use Rattle.packet.proofs.Sizes.{size-is}
+use Rattle.packet.proofs.Sizes.{size-is, pixels-few}
 use Rattle.state.proofs.Tests.{area-legal, area-none}
 use Rattle.words.proofs.Tests.{decide}
 use Rattle.state.specs.State.{area}
@@ -16,7 +15,13 @@ is-legal-size-requires : tie.Need-is-legal-size-requires
 is-legal-size-requires c κs = search needs
 
 mul-result : tie.Need-mul-result
-mul-result c = let l = size-is _ _ (sym (c .before .is-legal-size .ensures) ∙ c .if1 .taken) in let q = mul-le-mul (l .0 .bound) (l .1 .bound) in omega (arith, q)
+mul-result c = omega (arith, size-is _ _ (sym (c .before .is-legal-size .ensures) ∙ c .if1 .taken))
+
+mul-result-2 : tie.Need-mul-result-2
+mul-result-2 c = omega (arith, size-is _ _ (sym (c .before .is-legal-size .ensures) ∙ c .if1 .taken))
+
+mul-result-3 : tie.Need-mul-result-3
+mul-result-3 c = omega (arith, pixels-few _ _ (sym (c .before .is-legal-size .ensures) ∙ c .if1 .taken))
 
 returns : tie.Need-returns
 returns c = area-legal _ _ (sym (c .before .is-legal-size .ensures) ∙ c .if1 .taken)
@@ -25,4 +30,4 @@ returns-2 : tie.Need-returns-2
 returns-2 c = area-none _ _ (sym (c .before .is-legal-size .ensures) ∙ c .if1 .left)
 
 pub area-of-spec : {M : Type 1} → statement M
-area-of-spec = tie.close (tie.spec is-legal-size-requires mul-result returns returns-2)
+area-of-spec = tie.close (tie.spec is-legal-size-requires mul-result mul-result-2 mul-result-3 returns returns-2)

@@ -8,7 +8,7 @@
 static const uint8_t film[] = {
     'I', 'n', 't', 'e', 'r', 'p', 'l', 'a', 'y', ' ', 'M', 'V', 'E', ' ', 'F', 'i', 'l', 'e', 0x1a, 0x00,
     0x1a, 0x00, 0x00, 0x01, 0x33, 0x11,
-    0x0c, 0x00, 0x02, 0x00, 0x04, 0x00, 0x05, 0x00, 0x08, 0x00, 0x08, 0x00, 0x00, 0x00, 0x01, 0x00,
+    0x0c, 0x00, 0x02, 0x00, 0x04, 0x00, 0x05, 0x00, 0x01, 0x00, 0x01, 0x00, 0x00, 0x00, 0x01, 0x00,
     0x24, 0x00, 0x03, 0x00, 0x01, 0x00, 0x0f, 0x00, 0x0e, 0x0f, 0x00, 0x11, 0x00,
     0, 0, 0, 0, 0, 0, 0, 0, 0, 0, 0, 0, 0, 0,
     0x2a, 0x04, 0x00, 0x07, 0x00, 0x00, 0x00, 0x00, 0x00, 0x00, 0x00, 0x01, 0x00,
@@ -41,7 +41,7 @@ static const uint8_t samples[] = {
 
 /* Every field: the padding behind the last one is nobody's. */
 static int is_same(struct mve_state s, struct mve_state t) {
-    return s.position == t.position && s.chunk_end == t.chunk_end && s.width == t.width && s.height == t.height &&
+    return s.position == t.position && s.chunk_end == t.chunk_end && s.columns == t.columns && s.rows == t.rows &&
            s.front == t.front && s.has_map == t.has_map && s.map_start == t.map_start &&
            s.map_length == t.map_length && s.unsent == t.unsent && s.stream == t.stream &&
            s.has_format == t.has_format && s.stereo == t.stereo && s.wide == t.wide &&
@@ -51,7 +51,7 @@ static int is_same(struct mve_state s, struct mve_state t) {
 static int sound(void) {
     uint8_t palette[768] = {0}, none[1] = {0}, room[16], heard[sizeof samples];
     size_t place = 0, length = 0, refused = 0;
-    EXPECT(MVE_VERSION == 2 && MVE_ROOM_BYTES == 2 * 65535);
+    EXPECT(MVE_VERSION == 3 && MVE_ROOM_BYTES == 2 * 65535);
 
     struct mve_stepped s = mve_open(sound_film, sizeof sound_film, 5);
     EXPECT(s.kind == MVE_TAKEN && s.bytes == 0 && s.state.stream == 5 && s.state.has_format == 0);
@@ -113,7 +113,7 @@ static int pictures(void) {
         }
     }
     EXPECT(unfinished == 1 && whole == 1 && s.state.position == 82 && s.state.front == 1);
-    EXPECT(s.state.width == 8 && s.state.height == 8 && s.state.unsent == 0 && s.state.has_map == 0);
+    EXPECT(s.state.columns == 1 && s.state.rows == 1 && s.state.unsent == 0 && s.state.has_map == 0);
     EXPECT(mve_shown(s.state, a, sizeof a, b, sizeof b) == 64 && memcmp(b, drawn, 64) == 0);
 
     /* Where the state stays, its numbers come back as they came. */
@@ -131,18 +131,24 @@ static int pictures(void) {
     EXPECT(short_palette.state.position == 82);
     EXPECT(mve_open(film, 25, 0).number == MVE_HEADER);
 
-    /* 16x8, code 1 and then code 6, which is refused in block 1. */
+    /* Two blocks in a row, code 1 and then code 6, which is refused in block 1. */
     const uint8_t map[] = {0x61}, none[] = {0};
-    struct mve_answer answer = mve_check(16, 8, map, 1, none, 0);
+    struct mve_answer answer = mve_check(2, 1, map, 1, none, 0);
     EXPECT(answer.kind == MVE_REFUSED && answer.number == MVE_CODE_6 && answer.block == 1);
-    answer = mve_check(8, 8, map, 1, none, 0);
+    answer = mve_check(1, 1, map, 1, none, 0);
     EXPECT(answer.kind == MVE_ACCEPTED);
     place = 0;
-    answer = mve_draw(8, 8, map, 1, none, 0, a, sizeof a, b, sizeof b, &place, 70);
+    answer = mve_draw(1, 1, map, 1, none, 0, a, sizeof a, b, sizeof b, &place, 70);
     EXPECT(answer.kind == MVE_WHOLE && answer.stores == 1 && place == 1 && memcmp(b, drawn, 64) == 0);
     place = 2;
-    answer = mve_draw(8, 8, map, 1, none, 0, a, sizeof a, b, sizeof b, &place, 70);
+    answer = mve_draw(1, 1, map, 1, none, 0, a, sizeof a, b, sizeof b, &place, 70);
     EXPECT(answer.kind == MVE_REFUSED && answer.number == MVE_PLACE && place == 2);
+
+    /* Columns come before rows: 80 of them are taken, 80 rows are not. */
+    uint8_t untouched[40];
+    memset(untouched, 0x11, sizeof untouched);
+    EXPECT(mve_check(80, 1, untouched, sizeof untouched, none, 0).kind == MVE_ACCEPTED);
+    EXPECT(mve_check(1, 80, untouched, sizeof untouched, none, 0).number == MVE_FRAME_SIZE);
     return 0;
 }
 

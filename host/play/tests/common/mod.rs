@@ -3,6 +3,7 @@
 #![allow(dead_code)] // each test file uses a part of it
 
 use reference::film::{opcode_head, open, step, Lent, State, Stepped};
+use reference::frame::MAX_PIXELS;
 use reference::pictures::{Played, Recording};
 use std::collections::BTreeMap;
 use std::env;
@@ -103,7 +104,7 @@ pub fn play(program: &Path, name: &str, film: &[u8], options: &Options) -> Left 
 /// which one that is taken again counts again.
 pub fn stops(film: &[u8], options: &Options) -> usize {
     let (mut palette, mut place, mut room) = ([0; 768], 0, vec![0; 131_070]);
-    let (mut a, mut b) = (vec![0; 640 * 480], vec![0; 640 * 480]);
+    let (mut a, mut b) = (vec![0; MAX_PIXELS], vec![0; MAX_PIXELS]);
     let Ok(mut state) = open(film, options.stream) else { return 0 };
     let (mut stops, mut sounds) = (0, 0);
     loop {

@@ -45,8 +45,8 @@ pub fn film(chunks: &[Vec<u8>]) -> Vec<u8> {
 }
 
 /// Opcode 05, version 0.
-pub fn size(width: usize, height: usize) -> Vec<u8> {
-    opcode(0x05, 0, &[word(width), word(height)].concat())
+pub fn size(columns: usize, rows: usize) -> Vec<u8> {
+    opcode(0x05, 0, &[word(columns), word(rows)].concat())
 }
 
 /// Opcode 11: fourteen bytes that are skipped, then the packet.
@@ -116,7 +116,7 @@ impl Lent {
 /// The frame of a single 8x8 block, decoded over a front of 0xF0 and a back of 0xBA.
 pub fn block(code: u8, data: &[u8]) -> Vec<u8> {
     let (front, mut back, mut place) = ([0xF0; 64], vec![0xBA; 64], 0);
-    let drawn = reference::draw(8, 8, &[code], data, &front, &mut back, &mut place, 312_000)
+    let drawn = reference::draw(1, 1, &[code], data, &front, &mut back, &mut place, 312_000)
         .unwrap_or_else(|refusal| panic!("code {code:X}: {refusal}"));
     assert!(drawn.whole);
     back
