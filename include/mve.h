@@ -124,6 +124,9 @@ frames old that is drawn on. A copied 8x8 lies inside its picture.
     A        32, 24          four colours for each quarter or half
     B to E   64, 16, 4, 1    a byte a pixel, 2x2, 4x4, 8x8
     F        2               two colours in turn, as on a chessboard
+
+The fields of 7 to A, of one bit or two, run left to right, then down, from the low end of each byte. docs/FORMAT.md tells
+how the colours choose a form, and the offsets.
 */
 
 #ifndef MVE_H
@@ -136,9 +139,10 @@ frames old that is drawn on. A copied 8x8 lies inside its picture.
 extern "C" {
 #endif
 
-/* The version of this interface. It changes with every change that a program must be compiled anew for; CHANGELOG.md says
-   what changed. 1 was without sound, and without this number; 2 counted sizes in pixels. */
-#define MVE_VERSION 3
+/* The version of this interface. It changes with every change of the calls, of the structs and of the pictures that
+   packets give; CHANGELOG.md says what changed. 1 was without sound, and without this number; 2 counted sizes in pixels; 3
+   took the fields of codes 7 to A from the high end of each byte. */
+#define MVE_VERSION 4
 
 /* A room that is always enough: a word counts a packet's samples, and each has two bytes at most. */
 #define MVE_ROOM_BYTES 131070

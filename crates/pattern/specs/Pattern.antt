@@ -4,7 +4,7 @@
 use mathlib.Core.List.{List}
 use mathlib.Core.Path.{_≡_}
 use mathlib.Core.Logic.{_⊎_}
-use Prim.Native.Nat.{ℕ, _+_, _-_, _*_, _/_, _%_, _^_, _≤_, _<_}
+use Prim.Native.Nat.{ℕ, _+_, _*_, _/_, _%_, _^_, _≤_, _<_}
 use lib.ListN.{getD}
 use Rattle.pattern.specs.declared.Form.{Form}
 use Rattle.pattern.specs.Form.{Shape, numbers, shape}
@@ -33,9 +33,9 @@ partStart q i = (i % 8 / q .across * (8 / q .down) + i / 8 / q .down) * partLeng
 unfoldable pub fieldNumber : Shape → ℕ → ℕ
 fieldNumber q i = i / 8 % q .down / q .high * (q .across / q .wide) + i % 8 % q .across / q .wide
 
--- field n of b bits in the bytes of s from p on, from the high end of each byte. The order of fields in a byte is said here alone
+-- field n of b bits in the bytes of s from p on, from the low end of each byte (document 02, W3). The order of fields in a byte is said here alone
 unfoldable pub fieldAt : List ℕ → ℕ → ℕ → ℕ → ℕ
-fieldAt s p b n = getD s (p + n * b / 8) 0 / 2 ^ (8 - b - n * b % 8) % 2 ^ b
+fieldAt s p b n = getD s (p + n * b / 8) 0 / 2 ^ (n * b % 8) % 2 ^ b
 
 -- the byte of the block's data s that gives pixel i: the colour of its part that its field numbers, counted from 0
 unfoldable pub patternSource : Shape → List ℕ → ℕ → ℕ

@@ -113,14 +113,14 @@ fn field_number(
     i / 8 % down / high * (across / wide) + i % 8 % across / wide
 }
 
-// Field n, of the given bits, in the bytes of s from p on.
+// Field n, of the given bits, in the bytes of s from p on, from the low end of each byte.
 fn field_at(s: &[u8], p: usize, bits: usize, n: usize) -> usize
     requires { ⌜ FieldInside (length (now s)) p bits n ⌝ }
     ensures { λ r. ⌜ r ≡ fieldAt (now (s .entry)) p bits n ⌝ }
 {
     let bit = n * bits;
     let byte = s[p + bit / 8] as usize;
-    (byte >> (8 - bits - bit % 8)) % (2 * bits)
+    (byte >> (bit % 8)) % (2 * bits)
 }
 
 // The byte of a block's data s that gives pixel i.

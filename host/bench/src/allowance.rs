@@ -58,12 +58,12 @@ impl Cuts {
     /// The first frame of a kind, with its primers drawn.
     pub fn new(kind: Kind, seed: u64) -> Result<Cuts, Fault> {
         let mut frames = frames(kind, seed);
-        let packet = frames.swap_remove(PRIMERS).packet;
+        let packet = frames.swap_remove(PRIMERS);
         let frame = frame_text(kind, seed, PRIMERS);
         let second = |why| Fault::not_taken(&frame, SECOND, why);
         let mut found = zeros(kind.size);
         for primer in &frames[..PRIMERS] {
-            draw_second(&primer.packet, &mut found).map_err(second)?;
+            draw_second(primer, &mut found).map_err(second)?;
             found.swap();
         }
         let mut drawn = found.clone();

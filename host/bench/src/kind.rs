@@ -1,6 +1,5 @@
 //! The kinds of frames, and the frames of a kind.
 
-use crate::mirror::mirrored;
 use maker::form::Block;
 use maker::packet::Draft;
 use maker::{Form, Packet, Seeded, Size};
@@ -80,32 +79,18 @@ pub const KINDS: [Kind; 17] = [
     Kind::random("7-A", SMALL, &[0x7, 0x8, 0x9, 0xA]),
 ];
 
-/// One frame, as each decoder reads it.
-#[derive(Clone, Debug)]
-pub struct Frame {
-    /// The packet.
-    pub packet: Packet,
-    /// The packet with its pattern bytes turned round: what libavcodec reads as the same picture.
-    #[cfg_attr(not(libavcodec), allow(dead_code))]
-    pub mirrored: Packet,
-}
-
-impl Frame {
-    fn of(draft: &Draft) -> Frame {
-        let turned = Draft { blocks: draft.blocks.iter().map(mirrored).collect(), ..draft.clone() };
-        let frame = Frame { packet: draft.packet(), mirrored: turned.packet() };
-        assert!(frame.packet.data.len() <= MOST_DATA, "{} bytes", frame.packet.data.len());
-        frame
-    }
-}
-
-/// The frames of a kind: the primers, then those that are timed.
-pub fn frames(kind: Kind, seed: u64) -> Vec<Frame> {
+/// The packets of a kind's frames: the primers, then those that are timed.
+pub fn frames(kind: Kind, seed: u64) -> Vec<Packet> {
     let mut rng = Seeded::new(seed);
     let paint = Kind { codes: PAINTING, runs: false, ..kind };
     let primers = (0..PRIMERS).map(|_| paint);
     let kinds = primers.chain((0..TIMED).map(|_| kind));
-    kinds.map(|kind| Frame::of(&draft(&mut rng, kind))).collect()
+    let packet = |kind| {
+        let packet = draft(&mut rng, kind).packet();
+        assert!(packet.data.len() <= MOST_DATA, "{} bytes", packet.data.len());
+        packet
+    };
+    kinds.map(packet).collect()
 }
 
 /// So many packets of a kind.
@@ -155,7 +140,7 @@ mod tests {
     #[test]
     fn valid() {
         for kind in KINDS {
-            for (number, Frame { packet, .. }) in frames(kind, 1).iter().enumerate() {
+            for (number, packet) in frames(kind, 1).iter().enumerate() {
                 let Packet { columns, rows, map, data } = packet;
                 let blocks = reference::packet::blocks(*columns, *rows, map, data);
                 let codes = if number < PRIMERS { PAINTING } else { kind.codes };

@@ -1,15 +1,14 @@
 //! libavcodec's decoder as one of the programs, where it is there.
 
-use crate::kind::Frame;
 use crate::program::Program;
-use maker::Size;
+use maker::{Packet, Size};
 
 #[cfg(libavcodec)]
 pub use there::{program, version};
 
 /// No program: the bench was built without libavcodec.
 #[cfg(not(libavcodec))]
-pub fn program(_size: Size, _frames: &[Frame]) -> Option<Box<dyn Program>> {
+pub fn program(_size: Size, _frames: &[Packet]) -> Option<Box<dyn Program>> {
     None
 }
 
@@ -21,10 +20,9 @@ pub fn version() -> Result<String, &'static str> {
 
 #[cfg(libavcodec)]
 mod there {
-    use super::{Frame, Program, Size};
+    use super::{Packet, Program, Size};
     use crate::ffi;
     use crate::program::LIBAV;
-    use maker::Packet;
 
     /// The library's version; else why it is not among the programs.
     pub fn version() -> Result<String, &'static str> {
@@ -36,9 +34,9 @@ mod there {
     }
 
     /// The decoder; `None` where libavcodec was built without it.
-    pub fn program(size: Size, frames: &[Frame]) -> Option<Box<dyn Program>> {
+    pub fn program(size: Size, frames: &[Packet]) -> Option<Box<dyn Program>> {
         let decoder = ffi::Decoder::open(size)?;
-        let packet = |frame: &Frame| ffi::Packet::new(&bytes(&frame.mirrored)).expect("memory");
+        let packet = |frame: &Packet| ffi::Packet::new(&bytes(frame)).expect("memory");
         let packets = frames.iter().map(packet).collect();
         Some(Box::new(Libav { decoder, packets, picture: vec![0; size.pixels()] }))
     }

@@ -11,7 +11,6 @@ mod hearing;
 mod kind;
 mod libav;
 mod measure;
-mod mirror;
 mod program;
 mod report;
 mod sound;

@@ -1,8 +1,9 @@
 //! Rounds over the frames of a kind: every program is timed, every picture compared.
 
 use crate::fault::{same_picture, Fault};
-use crate::kind::{frames, Frame, Kind, PRIMERS};
+use crate::kind::{frames, Kind, PRIMERS};
 use crate::program::{draw_second, programs, zeros, Program, SECOND};
+use maker::Packet;
 use std::time::{Duration, Instant};
 
 /// A kind's programs, and their times up to now.
@@ -87,11 +88,11 @@ pub fn timed<T>(run: impl FnOnce() -> T) -> (T, Duration) {
 }
 
 /// The pictures of the frames. The primers read none, so they are the same in every round.
-fn wanted(kind: Kind, seed: u64, frames: &[Frame]) -> Result<Vec<Vec<u8>>, Fault> {
+fn wanted(kind: Kind, seed: u64, frames: &[Packet]) -> Result<Vec<Vec<u8>>, Fault> {
     let mut pictures = zeros(kind.size);
     let mut wanted = Vec::new();
     for (number, frame) in frames.iter().enumerate() {
-        let drawn = draw_second(&frame.packet, &mut pictures);
+        let drawn = draw_second(frame, &mut pictures);
         drawn.map_err(|why| Fault::not_taken(&frame_text(kind, seed, number), SECOND, why))?;
         pictures.swap();
         wanted.push(pictures.front.clone());

@@ -1,6 +1,5 @@
 //! What is timed.
 
-use crate::kind::Frame;
 use crate::libav;
 use maker::{Packet, Size};
 use std::hint::black_box;
@@ -38,8 +37,8 @@ pub trait Program {
 
 /// Every program that is there, in the order of the tables. Each has its own copies of the packets
 /// and its own pictures, so that none finds in the cache what another has just read.
-pub fn programs(size: Size, frames: &[Frame]) -> Vec<Box<dyn Program>> {
-    let packets = || frames.iter().map(|frame| frame.packet.clone()).collect::<Vec<_>>();
+pub fn programs(size: Size, frames: &[Packet]) -> Vec<Box<dyn Program>> {
+    let packets = || frames.to_vec();
     let drawing = |name, draw| Drawing { name, draw, packets: packets(), pictures: zeros(size) };
     let mut programs: Vec<Box<dyn Program>> = vec![
         Box::new(Memcpy(zeros(size))),

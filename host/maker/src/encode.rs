@@ -114,7 +114,9 @@ fn pattern(form: Form, pixels: &Square, side: usize, most: usize) -> Option<Bloc
         let fields: Vec<u8> = (0..side * side).map(field).collect();
         colours.resize(most, colours[colours.len() - 1]);
         data.extend(colours);
-        data.extend(fields.chunks(8 / bits).map(|byte| byte.iter().fold(0, |b, f| b << bits | f)));
+        // The first field of a byte is at its low end (02, W3).
+        let byte = |fields: &[u8]| fields.iter().rev().fold(0, |byte, field| byte << bits | field);
+        data.extend(fields.chunks(8 / bits).map(byte));
     }
     Some(made(form, data))
 }

@@ -1,6 +1,7 @@
 //! The cases of document 01's "Checked by hand" that concern a packet or the palette, in its order,
-//! and its slip in 0D. The expected values are the document's. (Those that stand as examples in the
-//! documentation are run there.)
+//! and its slip in 0D. The expected values are the document's; the rows of patterns are worked out by
+//! hand from its bytes, with fields from the low end of each byte (document 02, W3). (Those that
+//! stand as examples in the documentation are run there.)
 
 use mve::{check, draw, open, step, Drawn, Refusal, Step, NO_STREAM};
 
@@ -21,11 +22,12 @@ fn two_colours_fine() {
     assert_eq!(picture[8..16], [0x22, 0x11, 0x11, 0x11, 0x11, 0x11, 0x11, 0x22]);
 }
 
-/// ★ 8, left and right halves.
+/// ★ 8, left and right halves. Row 0 is the low nibbles of 01 and 8c: from the low end 1 0 0 0 and
+/// 0 0 1 1.
 #[test]
 fn two_colours_left_and_right() {
     let data = [0x22, 0x00, 0x01, 0x37, 0xf7, 0x31, 0x11, 0x66, 0x8c, 0xe6, 0x73, 0x31];
-    assert_eq!(block(0x8, &data)[..8], [0x22, 0x22, 0x22, 0x22, 0x66, 0x11, 0x11, 0x11]);
+    assert_eq!(block(0x8, &data)[..8], [0x00, 0x22, 0x22, 0x22, 0x11, 0x11, 0x66, 0x66]);
 }
 
 /// ★ 8, top and bottom halves.
@@ -35,7 +37,7 @@ fn two_colours_top_and_bottom() {
     assert_eq!(block(0x8, &data)[56..], [0x11, 0x66, 0x66, 0x66, 0x66, 0x66, 0x66, 0x11]);
 }
 
-/// ★ 8, quarters.
+/// ★ 8, quarters. Row 4 is the low nibbles of cc and 01: from the low end 0 0 1 1 and 1 0 0 0.
 #[test]
 fn two_colours_quarters() {
     let data = [
@@ -43,7 +45,7 @@ fn two_colours_quarters() {
         0xef,
     ];
     let row = &block(0x8, &data)[32..40];
-    assert_eq!(row, [0x33, 0x33, 0x11, 0x11, 0x66, 0x66, 0x66, 0x66]);
+    assert_eq!(row, [0x11, 0x11, 0x33, 0x33, 0x77, 0x66, 0x66, 0x66]);
 }
 
 /// The first pixel of the block at (16, 8) of a frame of 5x5 blocks. Back tells the number of each

@@ -1,5 +1,6 @@
 //! One 8x8 block: its data length, its motion vector, and the source of each of its pixels
-//! (01, "Packet, blocks, place"; the layouts are those of 000's text).
+//! (01, "Packet, blocks, place"; the layouts are those of 000's text, the order of fields in a byte
+//! is that of 02, W3).
 //!
 //! `data` always starts at the block's first data byte; what lies behind the block is not read.
 
@@ -231,13 +232,12 @@ fn chosen(data: &[u8], part: usize, colours: usize, field: usize) -> Option<usiz
     Some(part + field_value(fields, bits, field)?)
 }
 
-/// The value of a field of one or two bits. Fields are taken from the high end of each byte (01);
-/// this is the only place that knows.
+/// The value of a field of one or two bits. Fields are taken from the low end of each byte, bytes in
+/// order (02, W3); this is the only place that knows.
 fn field_value(bytes: &[u8], bits: usize, field: usize) -> Option<usize> {
     let per_byte = 8 / bits;
     let byte = bytes.get(field / per_byte)?;
-    let from_low_end = per_byte - 1 - field % per_byte;
-    Some(usize::from(*byte) >> (from_low_end * bits) & ((1 << bits) - 1))
+    Some(usize::from(*byte) >> (field % per_byte * bits) & ((1 << bits) - 1))
 }
 
 /// Whether the colour pair at `first` is falling, which is how a block tells its form. An equal

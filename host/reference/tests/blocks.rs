@@ -1,5 +1,6 @@
 //! Blocks that the documents describe without a worked example, with layouts worked out by hand
-//! from document 01's table and 000's text, and the data length of every form.
+//! from document 01's table, 000's text and document 02's order of fields (W3), and the data length
+//! of every form.
 
 mod common;
 
@@ -12,12 +13,42 @@ fn layout(rows: &[&str]) -> Vec<u8> {
     (0..8).flat_map(|y| hex(rows[y.min(last)])).collect()
 }
 
-/// 9, P0<=P1 and P2<=P3: 1b is fields 0 1 2 3, e4 fields 3 2 1 0; two bytes are a row.
+/// 7, a bit a pixel: the lowest bit is the leftmost pixel, and bytes are rows from top to bottom.
+#[test]
+fn two_colours_fine() {
+    let rows = [
+        "22 11 11 11 11 11 11 11", // 01
+        "11 11 11 11 11 11 11 22", // 80
+        "22 22 22 22 11 11 11 11", // 0f
+        "11 22 11 11 22 22 11 22", // b2 is 1011 0010
+        "11 11 11 11 11 11 11 11",
+    ];
+    assert_eq!(block(0x7, &hex("11 22 01 80 0f b2 00 00 00 00")), layout(&rows));
+}
+
+/// 7, a bit a 2x2: the low nibble of a byte is the upper row of fields. Of 1e it is e, from the low
+/// end 0 1 1 1; then comes 1: 1 0 0 0. Of 80 it is 0, then comes 8: 0 0 0 1.
+#[test]
+fn two_colours_coarse() {
+    let rows = [
+        "22 22 11 11 11 11 11 11",
+        "22 22 11 11 11 11 11 11",
+        "11 11 22 22 22 22 22 22",
+        "11 11 22 22 22 22 22 22",
+        "22 22 22 22 22 22 22 22",
+        "22 22 22 22 22 22 22 22",
+        "22 22 22 22 22 22 11 11",
+    ];
+    assert_eq!(block(0x7, &hex("22 11 1e 80")), layout(&rows));
+}
+
+/// 9, P0<=P1 and P2<=P3: from the low end 1b is fields 3 2 1 0, 4e fields 2 3 0 1; two bytes are a
+/// row. (1b is 00 01 10 11, 4e is 01 00 11 10.)
 #[test]
 fn four_colours_1x1() {
-    let data = [hex("10 20 30 40 1b e4"), vec![0; 13], hex("ff")].concat();
+    let data = [hex("10 20 30 40 1b 4e"), vec![0; 13], hex("ff")].concat();
     let picture = block(0x9, &data);
-    assert_eq!(picture[..8], hex("10 20 30 40 40 30 20 10"));
+    assert_eq!(picture[..8], hex("40 30 20 10 30 40 10 20"));
     assert_eq!(picture[8..56], [0x10; 48]);
     assert_eq!(picture[56..], hex("10 10 10 10 40 40 40 40"));
 }
@@ -25,29 +56,29 @@ fn four_colours_1x1() {
 /// 9, P0<=P1 and P2>P3: one byte is two rows of 2x2 fields.
 #[test]
 fn four_colours_2x2() {
-    let row_1b = "10 10 20 20 40 40 30 30";
-    let row_e4 = "30 30 40 40 20 20 10 10";
+    let row_1b = "30 30 40 40 20 20 10 10";
+    let row_4e = "40 40 30 30 10 10 20 20";
     let row_00 = "10 10 10 10 10 10 10 10";
-    let expected = layout(&[row_1b, row_1b, row_e4, row_e4, row_00]);
-    assert_eq!(block(0x9, &hex("10 20 40 30 1b e4 00 00")), expected);
+    let expected = layout(&[row_1b, row_1b, row_4e, row_4e, row_00]);
+    assert_eq!(block(0x9, &hex("10 20 40 30 1b 4e 00 00")), expected);
 }
 
 /// 9, P0>P1 and P2<=P3: fields 2 wide and 1 high, a byte is a row.
 #[test]
 fn four_colours_2_wide() {
-    let rows = ["20 20 10 10 30 30 40 40", "40 40 30 30 10 10 20 20", "20 20 20 20 20 20 20 20"];
-    let data = hex("20 10 30 40 1b e4 00 00 00 00 00 00");
+    let rows = ["40 40 30 30 10 10 20 20", "30 30 40 40 20 20 10 10", "20 20 20 20 20 20 20 20"];
+    let data = hex("20 10 30 40 1b 4e 00 00 00 00 00 00");
     assert_eq!(block(0x9, &data), layout(&rows));
 }
 
 /// 9, both falling: fields 1 wide and 2 high, two bytes are two rows.
 #[test]
 fn four_colours_2_high() {
-    let row_1b_e4 = "20 10 40 30 30 40 10 20";
-    let row_e4_1b = "30 40 10 20 20 10 40 30";
+    let row_1b_4e = "30 40 10 20 40 30 20 10";
+    let row_4e_1b = "40 30 20 10 30 40 10 20";
     let row_00 = "20 20 20 20 20 20 20 20";
-    let rows = [row_1b_e4, row_1b_e4, row_e4_1b, row_e4_1b, row_00];
-    let data = hex("20 10 40 30 1b e4 e4 1b 00 00 00 00");
+    let rows = [row_1b_4e, row_1b_4e, row_4e_1b, row_4e_1b, row_00];
+    let data = hex("20 10 40 30 1b 4e 4e 1b 00 00 00 00");
     assert_eq!(block(0x9, &data), layout(&rows));
 }
 
@@ -55,15 +86,15 @@ fn four_colours_2_high() {
 /// the second (bottom-left), 2x (top-right), 3x (bottom-right).
 #[test]
 fn four_colours_quarters() {
-    let data = hex("00 01 02 03 1b e4 1b e4
+    let data = hex("00 01 02 03 1b 4e 1b 4e
                     10 11 12 13 00 55 aa ff
                     23 22 21 20 1b 1b 1b 1b
                     30 31 32 33 ff aa 55 00");
     let rows = [
-        "00 01 02 03 23 22 21 20",
-        "03 02 01 00 23 22 21 20",
-        "00 01 02 03 23 22 21 20",
-        "03 02 01 00 23 22 21 20",
+        "03 02 01 00 20 21 22 23",
+        "02 03 00 01 20 21 22 23",
+        "03 02 01 00 20 21 22 23",
+        "02 03 00 01 20 21 22 23",
         "10 10 10 10 33 33 33 33",
         "11 11 11 11 32 32 32 32",
         "12 12 12 12 31 31 31 31",
@@ -76,16 +107,16 @@ fn four_colours_quarters() {
 #[test]
 fn four_colours_left_and_right() {
     let data = hex("01 00 02 03 1b 1b 1b 1b 00 55 aa ff
-                    10 11 13 12 00 55 aa ff e4 e4 e4 e4");
+                    10 11 13 12 00 55 aa ff 4e 4e 4e 4e");
     let rows = [
-        "01 00 02 03 10 10 10 10",
-        "01 00 02 03 11 11 11 11",
-        "01 00 02 03 13 13 13 13",
-        "01 00 02 03 12 12 12 12",
-        "01 01 01 01 12 13 11 10",
-        "00 00 00 00 12 13 11 10",
-        "02 02 02 02 12 13 11 10",
-        "03 03 03 03 12 13 11 10",
+        "03 02 00 01 10 10 10 10",
+        "03 02 00 01 11 11 11 11",
+        "03 02 00 01 13 13 13 13",
+        "03 02 00 01 12 12 12 12",
+        "01 01 01 01 13 12 10 11",
+        "00 00 00 00 13 12 10 11",
+        "02 02 02 02 13 12 10 11",
+        "03 03 03 03 13 12 10 11",
     ];
     assert_eq!(block(0xA, &data), layout(&rows));
 }
@@ -93,17 +124,17 @@ fn four_colours_left_and_right() {
 /// A, P0>P1 and P4>P5: top and bottom halves, two bytes are a row.
 #[test]
 fn four_colours_top_and_bottom() {
-    let data = hex("01 00 02 03 1b e4 00 55 aa ff e4 1b
+    let data = hex("01 00 02 03 1b 4e 00 55 aa ff 4e 1b
                     11 10 12 13 00 00 55 55 aa aa 1b 1b");
     let rows = [
-        "01 00 02 03 03 02 00 01",
+        "03 02 00 01 02 03 01 00",
         "01 01 01 01 00 00 00 00",
         "02 02 02 02 03 03 03 03",
-        "03 02 00 01 01 00 02 03",
+        "02 03 01 00 03 02 00 01",
         "11 11 11 11 11 11 11 11",
         "10 10 10 10 10 10 10 10",
         "12 12 12 12 12 12 12 12",
-        "11 10 12 13 11 10 12 13",
+        "13 12 10 11 13 12 10 11",
     ];
     assert_eq!(block(0xA, &data), layout(&rows));
 }
@@ -221,11 +252,13 @@ fn back_copies_read_the_frame_as_drawn_so_far() {
 /// A source for each kind of block, and none where the rules name none.
 #[test]
 fn sources() {
-    // Code 7 coarse, fields 0 to 7 are ones: pixel 0 is P1, pixel 63 (last field, a one) too.
-    let coarse = hex("22 11 ff 81");
+    // Code 7 coarse, fields 0 to 7 are ones, of the others the first, 8, alone: pixel 0 is P1, pixel
+    // 32 (field 8) too, pixels 34 (field 9) and 63 (field 15) are P0.
+    let coarse = hex("22 11 ff 01");
     assert_eq!(source(1, 0x7, &coarse, 0, 0, 0), Some(Source::Data(1)));
+    assert_eq!(source(1, 0x7, &coarse, 0, 0, 32), Some(Source::Data(1)));
     assert_eq!(source(1, 0x7, &coarse, 0, 0, 34), Some(Source::Data(0)));
-    assert_eq!(source(1, 0x7, &coarse, 0, 0, 63), Some(Source::Data(1)));
+    assert_eq!(source(1, 0x7, &coarse, 0, 0, 63), Some(Source::Data(0)));
     // Pixel 9 is (1, 1) of the block at (8, 16) in a picture of 4 columns, 32 pixels wide:
     // 17 * 32 + 9 = 553.
     assert_eq!(source(4, 0x0, &[], 8, 16, 9), Some(Source::Front(553)));

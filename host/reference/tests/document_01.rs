@@ -1,5 +1,8 @@
 //! Every case of document 01's "Checked by hand", marked and unmarked, in its order, and its
-//! "Slips that look right". The expected values are the document's.
+//! "Slips that look right". The expected values are the document's, sizes and pattern rows as
+//! document 02 has them: its W3 takes fields from the low end of each byte, so a byte's lowest bit is
+//! its leftmost field, and of two rows in one byte the low nibble is the upper one. The rows are
+//! worked out by hand from 01's bytes.
 
 mod common;
 
@@ -11,7 +14,7 @@ fn row(picture: &[u8], width: usize, row: usize) -> &[u8] {
     &picture[row * width..][..width]
 }
 
-/// ★ 7, a bit a pixel.
+/// ★ 7, a bit a pixel. Row 0 is ff: all ones. Row 1 is 81: bits 0 and 7, the same from either end.
 #[test]
 fn two_colours_fine() {
     let picture = block(0x7, &hex("11 22 ff 81 81 81 81 81 81 ff"));
@@ -19,7 +22,8 @@ fn two_colours_fine() {
     assert_eq!(row(&picture, 8, 1), hex("22 11 11 11 11 11 11 22"));
 }
 
-/// ★ 7, a bit a 2x2.
+/// ★ 7, a bit a 2x2: a nibble is two rows of pixels. Rows 0 to 3 are ff. Rows 4 and 5 are the low
+/// nibble of 81, 1, whose bits are 1 0 0 0 from the low end; rows 6 and 7 the high one, 8: 0 0 0 1.
 #[test]
 fn two_colours_coarse() {
     let picture = block(0x7, &hex("22 11 ff 81"));
@@ -34,26 +38,28 @@ fn two_colours_coarse() {
     }
 }
 
-/// ★ 8, left and right halves.
+/// ★ 8, left and right halves: 22 00 with 01 .., 11 66 with 8c ... Row 0 is a low nibble of each: 1,
+/// from the low end 1 0 0 0, so 00 22 22 22; and c, from the low end 0 0 1 1, so 11 11 66 66.
 #[test]
 fn two_colours_left_and_right() {
     let picture = block(0x8, &hex("22 00 01 37 f7 31 11 66 8c e6 73 31"));
-    assert_eq!(row(&picture, 8, 0), hex("22 22 22 22 66 11 11 11"));
+    assert_eq!(row(&picture, 8, 0), hex("00 22 22 22 11 11 66 66"));
 }
 
-/// ★ 8, top and bottom halves.
+/// ★ 8, top and bottom halves. Row 7 is the last byte, 81: the same from either end.
 #[test]
 fn two_colours_top_and_bottom() {
     let picture = block(0x8, &hex("22 00 cc 66 33 19 66 11 18 24 42 81"));
     assert_eq!(row(&picture, 8, 7), hex("11 66 66 66 66 66 66 11"));
 }
 
-/// ★ 8, quarters.
+/// ★ 8, quarters. Row 4 is the upper row of the second, 11 33 with cc 33, and of the fourth, 66 77
+/// with 01 ef: the low nibbles c, from the low end 0 0 1 1, and 1, from the low end 1 0 0 0.
 #[test]
 fn two_colours_quarters() {
     let data = hex("00 22 f9 9f 11 33 cc 33 44 55 aa 55 66 77 01 ef");
     let picture = block(0x8, &data);
-    assert_eq!(row(&picture, 8, 4), hex("33 33 11 11 66 66 66 66"));
+    assert_eq!(row(&picture, 8, 4), hex("11 11 33 33 77 66 66 66"));
 }
 
 /// ★ The vectors of codes 2 and 4.

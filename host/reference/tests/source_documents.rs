@@ -1,5 +1,8 @@
-//! The worked examples of the source documents 000 and 003 where document 01 does not overrule
-//! them. Layouts are copied from the documents, not from the decoder.
+//! The worked examples of the source documents 000 and 003 where documents 01 and 02 do not overrule
+//! them. Layouts are copied from the documents, not from the decoder. Those of encoding 8 have the
+//! fields of each byte from its high end; 02, W3 overrules that, and here they are turned round byte
+//! by byte: a row of 8 is mirrored, and of two rows of 4 in one byte each is mirrored and takes the
+//! other's place.
 
 mod common;
 
@@ -40,44 +43,46 @@ fn encoding_7_coarse() {
 }
 
 /// 000 and 003, encoding 8, quarters: their four quarters, placed as their text says (second one
-/// bottom-left, third one top-right). Their picture exchanges these two; 01 overrules it.
+/// bottom-left, third one top-right), each byte turned round. Their picture exchanges these two; 01
+/// overrules it.
 #[test]
 fn encoding_8_quarters() {
-    let layout = "22 22 22 22  55 44 55 44
-                  22 00 00 22  55 44 55 44
-                  22 00 00 22  44 55 44 55
+    let layout = "22 00 00 22  44 55 44 55
                   22 22 22 22  44 55 44 55
+                  22 22 22 22  55 44 55 44
+                  22 00 00 22  55 44 55 44
 
-                  33 33 11 11  66 66 66 66
-                  33 33 11 11  66 66 66 77
-                  11 11 33 33  77 77 77 66
-                  11 11 33 33  77 77 77 77";
+                  11 11 33 33  77 66 66 66
+                  11 11 33 33  66 66 66 66
+                  33 33 11 11  77 77 77 77
+                  33 33 11 11  66 77 77 77";
     let data = hex("00 22 f9 9f 11 33 cc 33 44 55 aa 55 66 77 01 ef");
     assert_eq!(block(0x8, &data), hex(layout));
 }
 
-/// 000 and 003, encoding 8, "a horizontally split block".
+/// 000 and 003, encoding 8, "a horizontally split block", each byte turned round. A byte is two rows
+/// of a half.
 #[test]
 fn encoding_8_left_and_right() {
-    let layout = "22 22 22 22 66 11 11 11
-                  22 22 22 00 66 66 11 11
-                  22 22 00 00 66 66 66 11
-                  22 00 00 00 11 66 66 11
-                  00 00 00 00 11 66 66 66
-                  22 00 00 00 11 11 66 66
-                  22 22 00 00 11 11 66 66
-                  22 22 22 00 11 11 11 66";
+    let layout = "00 22 22 22 11 11 66 66
+                  22 22 22 22 11 11 11 66
+                  00 00 00 22 11 66 66 11
+                  00 00 22 22 11 66 66 66
+                  00 00 00 22 66 66 11 11
+                  00 00 00 00 66 66 66 11
+                  00 22 22 22 66 11 11 11
+                  00 00 22 22 66 66 11 11";
     let data = hex("22 00 01 37 f7 31 11 66 8c e6 73 31");
     assert_eq!(block(0x8, &data), hex(layout));
 }
 
-/// 000 and 003, encoding 8, "a vertically split block".
+/// 000 and 003, encoding 8, "a vertically split block", each byte turned round. A byte is a row.
 #[test]
 fn encoding_8_top_and_bottom() {
-    let layout = "00 00 22 22 00 00 22 22
+    let layout = "22 22 00 00 22 22 00 00
                   22 00 00 22 22 00 00 22
-                  22 22 00 00 22 22 00 00
-                  22 22 22 00 00 22 22 00
+                  00 00 22 22 00 00 22 22
+                  00 22 22 00 00 22 22 22
                   66 66 66 11 11 66 66 66
                   66 66 11 66 66 11 66 66
                   66 11 66 66 66 66 11 66

@@ -21,12 +21,6 @@ shared-slice-read-byte c = search needs
 cast-byte : tie.Need-cast-byte
 cast-byte c = omega (arith, c .shared-slice-known .given (c .before .args .p + c .before .args .n * c .before .args .bits / 8))
 
-sub-result : tie.Need-sub-result
-sub-result c = omega (arith, field _ _ (c .before .pre .bits) (c .before .pre .number))
-
-sub-result-2 : tie.Need-sub-result-2
-sub-result-2 c = omega (arith, field _ _ (c .before .pre .bits) (c .before .pre .number))
-
 shr-result : tie.Need-shr-result
 shr-result c = omega (arith, field _ _ (c .before .pre .bits) (c .before .pre .number))
 
@@ -48,8 +42,6 @@ field-at-spec =
     add-byte
     shared-slice-read-byte
     cast-byte
-    sub-result
-    sub-result-2
     shr-result
     mul-result
     rem-result

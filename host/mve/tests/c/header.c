@@ -51,7 +51,7 @@ static int is_same(struct mve_state s, struct mve_state t) {
 static int sound(void) {
     uint8_t palette[768] = {0}, none[1] = {0}, room[16], heard[sizeof samples];
     size_t place = 0, length = 0, refused = 0;
-    EXPECT(MVE_VERSION == 3 && MVE_ROOM_BYTES == 2 * 65535);
+    EXPECT(MVE_VERSION == 4 && MVE_ROOM_BYTES == 2 * 65535);
 
     struct mve_stepped s = mve_open(sound_film, sizeof sound_film, 5);
     EXPECT(s.kind == MVE_TAKEN && s.bytes == 0 && s.state.stream == 5 && s.state.has_format == 0);
