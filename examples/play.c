@@ -198,7 +198,7 @@ static int scaled(uint8_t component) {
 static bool write_ppm(FILE *file, const struct kept *kept, struct mve_state state) {
     const uint8_t *front = state.front == 0 ? kept->a : kept->b;
     size_t shown = mve_shown(state, kept->a, sizeof kept->a, kept->b, sizeof kept->b);
-    fprintf(file, "P6\n%zu %zu\n255\n", 8 * state.columns, 8 * state.rows); /* the size in pixels */
+    fprintf(file, "P6\n%zu %zu\n255\n", 8 * state.columns, 8 * state.rows);
     for (size_t i = 0; i < shown; i++) {
         const uint8_t *colour = &kept->palette[3 * front[i]];
         putc(scaled(colour[0]), file);
@@ -399,7 +399,8 @@ static bool stops_at_sound(struct watchdog *watchdog, const struct arguments *ar
     return arguments->every != 0 && watchdog->sounds % arguments->every == 0;
 }
 
-/* Steps over the film from the saved state on. What a step gives is written before the state is saved: a stop in
+/* Steps over the film from the saved state on, in the default form: many films pad their packets by a byte, and are to be
+   played (mve_step_strict is for the mastering desk). What a step gives is written before the state is saved: a stop in
    between writes a picture twice, but loses none; samples go to the same place of the file again. */
 static enum outcome play(const struct film *film, struct kept *kept, const struct arguments *arguments,
                          struct watchdog *watchdog) {

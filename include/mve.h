@@ -20,6 +20,8 @@ mve_shown  how many bytes of the front picture are to be shown
 mve_check  whether a packet is accepted, without drawing
 mve_draw   the drawing of a packet, without a film
 
+mve_step_strict, mve_check_strict, mve_draw_strict: the same, but a packet may leave no byte over (see THE PACKET)
+
 examples/play.c is a whole player, which is stopped and goes on.
 
 MEMORY
@@ -40,13 +42,13 @@ makes the first of them, answers MVE_UNFINISHED, and the next call goes on. The 
 that is not finished. No block reads a pixel of its own, so one that was begun is drawn again from its first pixel, and
 the picture is the same.
 
-A watchdog may therefore stop the program inside mve_step or mve_draw, between any two stores. To go on, call again
-with the same film, the state last given back, and the palette, pictures and place as the stop left them. Keep those
-in memory that outlives the stop, and the old state until the new one is saved in full. A step that was stopped while
-it changed the palette stores the same entries again. One that was stopped while it wrote samples writes the same
-samples again, since the state has the last samples before them: the room need not outlive the stop. So that no sample
-is played twice, take those of a step as played where its new state is saved, and not before (examples/play.c keeps the
-length of its file with the state, and cuts the file back to it after a stop).
+A watchdog may therefore stop the program inside mve_step or mve_draw, or their strict forms, between any two stores. To
+go on, call again with the same film, the state last given back, and the palette, pictures and place as the stop left
+them. Keep those in memory that outlives the stop, and the old state until the new one is saved in full. A step that was
+stopped while it changed the palette stores the same entries again. One that was stopped while it wrote samples writes
+the same samples again, since the state has the last samples before them: the room need not outlive the stop. So that no
+sample is played twice, take those of a step as played where its new state is saved, and not before (examples/play.c
+keeps the length of its file with the state, and cuts the file back to it after a stop).
 
 This holds on a machine that keeps two things. Stores reach that memory in program order, as the restarted program sees
 it: a store is there only with all that were made before it. So a write-back cache must not be lost at the stop, or must
@@ -110,8 +112,16 @@ MVE_ROOM_BYTES are always room enough. After MVE_ROOM call again with more: noth
 THE PACKET
 
 Blocks are 8x8 pixels, left to right, then down. The map has a code for each: a nibble, low nibble first. The data has
-the bytes of each block in the same order, and is used up exactly. "Front" is the picture shown; "back" is the one two
-frames old that is drawn on. A copied 8x8 lies inside its picture.
+the bytes of each block in the same order. "Front" is the picture shown; "back" is the one two frames old that is drawn
+on. A copied 8x8 lies inside its picture.
+
+Many films pad a packet to an even length, so one byte may be left over behind the data of the last block; it is not
+read. Two or more are refused. That is the default form of the three calls that take a packet, mve_check, mve_draw and
+mve_step, and the one that players use. The strict forms, mve_check_strict, mve_draw_strict and mve_step_strict, refuse
+one byte, too. They are for the mastering desk, and for all who write films and want every byte accounted for. A default
+call and a strict one give the same answer and leave the same memory, unless exactly one byte is left over and nothing
+else is wrong: then the default call accepts the packet, and the strict one refuses it by MVE_DATA_LEFT. Calls of both
+forms may be mixed, also within one picture.
 
     code     bytes           pixels
     0        0               the same block of front
@@ -139,17 +149,18 @@ how the colours choose a form, and the offsets.
 extern "C" {
 #endif
 
-/* The version of this interface. It changes with every change of the calls, of the structs and of the pictures that
-   packets give; CHANGELOG.md says what changed. 1 was without sound, and without this number; 2 counted sizes in pixels; 3
-   took the fields of codes 7 to A from the high end of each byte. */
-#define MVE_VERSION 4
+/* The version of this interface. It changes with every change of the calls, of the structs, of the packets that are
+   accepted and of the pictures that they give; CHANGELOG.md says what changed. 1 was without sound, and without this
+   number; 2 counted sizes in pixels; 3 took the fields of codes 7 to A from the high end of each byte; 4 had the strict
+   forms alone, under the names of the default ones. */
+#define MVE_VERSION 5
 
 /* A room that is always enough: a word counts a packet's samples, and each has two bytes at most. */
 #define MVE_ROOM_BYTES 131070
 
 /* What a call answers. */
 enum mve_kind {
-    MVE_ACCEPTED = 0,   /* mve_check: the packet gives a picture and is used up */
+    MVE_ACCEPTED = 0,   /* mve_check: the packet gives a picture, and no more is left over than may be */
     MVE_TAKEN = 0,      /* mve_open, mve_step: done; nothing was drawn */
     MVE_WHOLE = 1,      /* the picture is drawn to its end */
     MVE_UNFINISHED = 2, /* the stores allowed were made; more are due */
@@ -175,7 +186,7 @@ enum mve_refusal {
     MVE_CODE_6 = 12,         /* code 6 is not taken in 8-bit films */
     MVE_DATA_SHORT = 13,     /* too few data bytes */
     MVE_COPY_OUTSIDE = 14,   /* copied from outside the picture */
-    MVE_DATA_LEFT = 15,      /* data bytes left over */
+    MVE_DATA_LEFT = 15,      /* two data bytes or more left over; in the strict forms one or more */
     MVE_SOUND_FORMAT = 17,   /* 08 or 09 of the stream before a 03, or a 03 both 8-bit and compressed */
     MVE_SOUND_LENGTH = 18,   /* data not as long as the count of samples says, a count that is odd in stereo, or below the
                                 channels in the first compressed 08 */
@@ -228,11 +239,31 @@ struct mve_stepped mve_open(const uint8_t *film, size_t film_length, size_t stre
 /* One step. MVE_TAKEN: a chunk's head or an opcode but 11. MVE_WHOLE, MVE_UNFINISHED: opcode 11, by at most `allowed`
    stores; while it is unfinished the position stays. a and b are the two pictures, a byte a pixel, row by row: each has
    at least 64 times columns times rows bytes once the size is known. The place starts at 0. The room is written by sound
-   alone. Every number of refusal but 1 can be met. */
-struct mve_stepped mve_step(const uint8_t *film, size_t film_length, struct mve_state state,
-                            uint8_t *palette, size_t palette_length, uint8_t *a, size_t a_length,
-                            uint8_t *b, size_t b_length, size_t *place, uint8_t *room, size_t room_length,
-                            size_t allowed);
+   alone. Every number of refusal but 1 can be met. `strict` is 0 for the default form of the step and any other number
+   for the strict form; mve_step and mve_step_strict below call it so. The library has one step for both forms, and not
+   two, because that takes less stack. */
+struct mve_stepped mve_step_as(const uint8_t *film, size_t film_length, struct mve_state state,
+                               uint8_t *palette, size_t palette_length, uint8_t *a, size_t a_length,
+                               uint8_t *b, size_t b_length, size_t *place, uint8_t *room, size_t room_length,
+                               size_t allowed, size_t strict);
+
+/* The default form: at opcode 11, a packet may leave one byte over. */
+static inline struct mve_stepped mve_step(const uint8_t *film, size_t film_length, struct mve_state state,
+                                          uint8_t *palette, size_t palette_length, uint8_t *a, size_t a_length,
+                                          uint8_t *b, size_t b_length, size_t *place, uint8_t *room,
+                                          size_t room_length, size_t allowed) {
+    return mve_step_as(film, film_length, state, palette, palette_length, a, a_length, b, b_length, place, room,
+                       room_length, allowed, 0);
+}
+
+/* The strict form: at opcode 11, a packet with one byte left over is refused by 15, too. */
+static inline struct mve_stepped mve_step_strict(const uint8_t *film, size_t film_length, struct mve_state state,
+                                                 uint8_t *palette, size_t palette_length, uint8_t *a,
+                                                 size_t a_length, uint8_t *b, size_t b_length, size_t *place,
+                                                 uint8_t *room, size_t room_length, size_t allowed) {
+    return mve_step_as(film, film_length, state, palette, palette_length, a, a_length, b, b_length, place, room,
+                       room_length, allowed, 1);
+}
 
 /* How many bytes of the front picture (a where state.front is 0, b where it is 1) are shown: 64 times columns times rows
    (8 times columns for each row of pixels), or 0 where no size is known yet, front is above 1, the size is not one that 05
@@ -245,12 +276,22 @@ size_t mve_shown(struct mve_state state, const uint8_t *a, size_t a_length,
 struct mve_answer mve_check(size_t columns, size_t rows, const uint8_t *map, size_t map_length,
                             const uint8_t *data, size_t data_length);
 
+/* The strict form of mve_check: one byte left over is refused by 15, too. */
+struct mve_answer mve_check_strict(size_t columns, size_t rows, const uint8_t *map, size_t map_length,
+                                   const uint8_t *data, size_t data_length);
+
 /* Draws a packet on `back`, a picture of columns by rows blocks, from the block *place on, by at most `allowed` stores:
    MVE_WHOLE, MVE_UNFINISHED, or MVE_REFUSED by 6, 8, 10 to 15. A call that is refused makes no store. */
 struct mve_answer mve_draw(size_t columns, size_t rows, const uint8_t *map, size_t map_length,
                            const uint8_t *data, size_t data_length, const uint8_t *front,
                            size_t front_length, uint8_t *back, size_t back_length, size_t *place,
                            size_t allowed);
+
+/* The strict form of mve_draw: one byte left over is refused by 15, too. */
+struct mve_answer mve_draw_strict(size_t columns, size_t rows, const uint8_t *map, size_t map_length,
+                                  const uint8_t *data, size_t data_length, const uint8_t *front,
+                                  size_t front_length, uint8_t *back, size_t back_length, size_t *place,
+                                  size_t allowed);
 
 #ifdef __cplusplus
 }

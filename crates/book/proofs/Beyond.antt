@@ -55,7 +55,7 @@ module _ (s : List ℕ) (w h x y i : ℕ) (f : Framed w h x y) (hi : i < 64) (fr
 
 module _ (c : Request) (m : Memory) (e : drawVerdict c m ≡ accept) where
   call : Accepted (packetOf c) (length (c .front)) (length (m .picture)) (m .place)
-  call = accepted-call (c .columns) (c .rows) (c .map) (c .bytes) (length (c .front)) (length (m .picture)) (m .place) e .1
+  call = accepted-call (c .allowed .spare) (c .columns) (c .rows) (c .map) (c .bytes) (length (c .front)) (length (m .picture)) (m .place) e .1
 
   -- n stores leave what lies beyond
   keeps : (n t : ℕ) → area c ≤ t → getD (after (plan (packetOf c) (c .front)) m n .picture) t 0 ≡ getD (m .picture) t 0
@@ -73,7 +73,7 @@ module _ (c : Request) (m : Memory) (e : drawVerdict c m ≡ accept) where
       (λ k i hk hi x y z.
       reads-within (dataOf (packetOf c) k) (width (packetOf c)) (height (packetOf c)) (left (packetOf c) k) (top (packetOf c) k) i
       (framed (packetOf c) (call .sized) k hk) (few (packetOf c) (call .sized) k i hi) (c .front) front x y
-      f z (kind (packetOf c) k) (call .taken .each k hk .inside))
+      f z (kind (packetOf c) k) (call .taken k hk .inside))
       m n (call .at) b g
 
 -- ---- none is written
@@ -83,17 +83,17 @@ unfolding callOf happens leave leaveCut comes after
 beyond-unwritten m (returns c) = by (drawVerdict c m) refl
   where
     by : (v : Verdict) → drawVerdict c m ≡ v
-        → drop (area c) (leave (plan (packetOf c) (c .front)) m (comes v (c .allowed)) .picture) ≡ drop (area c) (m .picture)
+        → drop (area c) (leave (plan (packetOf c) (c .front)) m (comes v (c .allowed .stores)) .picture) ≡ drop (area c) (m .picture)
     by (refuse a k) q = refl
-    by accept q = drop-same (area c) _ _ (run-length (plan (packetOf c) (c .front)) m _) (keeps c m q (c .allowed))
+    by accept q = drop-same (area c) _ _ (run-length (plan (packetOf c) (c .front)) m _) (keeps c m q (c .allowed .stores))
 beyond-unwritten m (cut c j) = by (drawVerdict c m) refl
   where
     by : (v : Verdict) → drawVerdict c m ≡ v
-        → drop (area c) (leaveCut (plan (packetOf c) (c .front)) m (comes v (c .allowed)) j .picture) ≡ drop (area c) (m .picture)
+        → drop (area c) (leaveCut (plan (packetOf c) (c .front)) m (comes v (c .allowed .stores)) j .picture) ≡ drop (area c) (m .picture)
     by (refuse a k) q = refl
     by accept q =
-        rw (cut-least (plan (packetOf c) (c .front)) m (comes accept (c .allowed)) (c .allowed) j refl)
-        (drop-same (area c) _ _ (run-length (plan (packetOf c) (c .front)) m _) (keeps c m q (min j (c .allowed))))
+        rw (cut-least (plan (packetOf c) (c .front)) m (comes accept (c .allowed .stores)) (c .allowed .stores) j refl)
+        (drop-same (area c) _ _ (run-length (plan (packetOf c) (c .front)) m _) (keeps c m q (min j (c .allowed .stores))))
 
 -- ---- none is read
 
@@ -125,15 +125,15 @@ module _ (c : Request) (front : List ℕ) (m m′ : Memory) (f : take (area c) (
       record { answers = rw (e, e′) refl; leaves = rw (e, e′) s; cuts = λ j. rw (e, e′) s }
   same-calls accept e =
       let e′ = sym same-verdict ∙ e in
-      let g = drawn-both (c .allowed) e in
+      let g = drawn-both (c .allowed .stores) e in
       record {
         answers = rw (e, e′, g .place, s .place) refl;
-        leaves = rw (e, e′) (same-drawn (c .allowed) e);
+        leaves = rw (e, e′) (same-drawn (c .allowed .stores) e);
         cuts =
             λ j.
             rw (e, e′)
-            (rw (cut-least (plan (packetOf c) (c .front)) m (comes accept (c .allowed)) (c .allowed) j refl, cut-least (plan (packetOf c) front) m′ (comes accept (c .allowed)) (c .allowed) j refl)
-            (same-drawn (min j (c .allowed)) e));
+            (rw (cut-least (plan (packetOf c) (c .front)) m (comes accept (c .allowed .stores)) (c .allowed .stores) j refl, cut-least (plan (packetOf c) front) m′ (comes accept (c .allowed .stores)) (c .allowed .stores) j refl)
+            (same-drawn (min j (c .allowed .stores)) e));
       }
 
 pub beyond-unread : (c : Request) → Unread c

@@ -12,6 +12,7 @@ use Rattle.refusal.specs.Number.{Verdict, accept, refuse}
 use Rattle.packet.specs.Packet.{packet, blocks, kind}
 use Rattle.packet.specs.Asked.{Sized}
 use Rattle.packet.proofs.Sizes.{is-size, is-sized}
+use Rattle.packet.proofs.Exactly.{accepts-more}
 use Rattle.stores.specs.Stores.{Memory, memory, Lawful}
 use Rattle.stores.specs.Calls.{allowed, whole, step, reply, Event, returns, cut, callOf, happens, Returning, CutWithin, Each, Fair, AsBooked}
 use Rattle.stores.proofs.Calls.{as-booked}
@@ -53,7 +54,7 @@ fair : (c : Request) (m : Memory) (es : List (Event Request)) → OnlyRefusedDif
     → Fair calling (plan (packetOf c) (c .front)) m es
 unfolding OnlyRefusedDiffer Fair
 fair c m es o w =
-    each-as _ _ _ (λ m e f g. (λ n q. plan-same (callOf e) c (f (comes-back (drawVerdict (callOf e) m) (callOf e .allowed) n q)), g)) m es o w
+    each-as _ _ _ (λ m e f g. (λ n q. plan-same (callOf e) c (f (comes-back (drawVerdict (callOf e) m) (callOf e .allowed .stores) n q)), g)) m es o w
 
 -- ---- the packet
 
@@ -68,19 +69,19 @@ module _ (c : Request) (first : List ℕ) (g : Given c first) where
   unfolding sizeAt
   at-most-64 k h = count-few (kind (packetOf c) k)
 
-  -- a call that brings what c brings, at a place that is not too high, on a picture that is as long as the first
-  takes : (m : Memory) (r : Request) → m .place ≤ blocks (packetOf c) → length (m .picture) ≡ length first → Same r c → drawVerdict r m ≡ accept
-  takes m r at l s =
+  -- a call that brings what c brings and may leave over no less, at a place that is not too high, on a picture that is as long as the first
+  takes : (m : Memory) (r : Request) → m .place ≤ blocks (packetOf c) → length (m .picture) ≡ length first → Same r c → c .allowed .spare ≤ r .allowed .spare → drawVerdict r m ≡ accept
+  takes m r at l s more =
       rw (s .columns, s .rows, s .map, s .bytes, s .front)
-      (drawn-exactly (c .columns) (c .rows) (c .map) (c .bytes) (length (c .front)) (length (m .picture)) (m .place) .1
-      (record { accepted = g .accepted; front-long = g .front-long; back-long = rw l (g .back-long); within = at }))
+      (drawn-exactly (r .allowed .spare) (c .columns) (c .rows) (c .map) (c .bytes) (length (c .front)) (length (m .picture)) (m .place) .1
+      (record { accepted = accepts-more (c .allowed .spare) (r .allowed .spare) (c .columns) (c .rows) (c .map) (c .bytes) more (g .accepted); front-long = g .front-long; back-long = rw l (g .back-long); within = at }))
 
   -- an event of which `goes-on` of the book is known
   goes-on : (m : Memory) (e : Event Request)
-      → Returning (λ m r. (n : ℕ) → comes (drawVerdict r m) (r .allowed) ≡ allowed n → 64 < n → (m .place < step calling m r .place) ⊎ (reply calling m r .answer ≡ whole)) m e
+      → Returning (λ m r. (n : ℕ) → comes (drawVerdict r m) (r .allowed .stores) ≡ allowed n → 64 < n → (m .place < step calling m r .place) ⊎ (reply calling m r .answer ≡ whole)) m e
       → Returning Progresses m e
   unfolding Returning
-  goes-on m (returns r) f = λ q l. f (r .allowed) (comes-on (drawVerdict r m) (r .allowed) q) (omega arith)
+  goes-on m (returns r) f = λ q l. f (r .allowed .stores) (comes-on (drawVerdict r m) (r .allowed .stores) q) (omega arith)
   goes-on m (cut r j) f = tt
 
   shows : (m : Memory) (e : Event Request) → leavesAt m e .shown ≡ callOf e .front

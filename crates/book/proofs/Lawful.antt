@@ -99,7 +99,7 @@ module _ (p : Packet) (z : Sized p) where
         ⊎-elim
         (λ (x : kind p k ≡ kept). none-kept x)
         (λ (x : blockOf (p .columns) j ≢ k). x (ap (blockOf (p .columns)) q ∙ target-block k m (few k m hm)))
-        (reads-no-own p some k i (few k i hi) (w .each k h .inside) j e)
+        (reads-no-own p some k i (few k i hi) (w k h .inside) j e)
       where
         none-kept : kind p k ≡ kept → ⊥
         none-kept x = let l : i < 0 = subst (λ (κ : Kind). i < pixelCount κ) x hi in omega arith

@@ -1,5 +1,5 @@
 -- Demand 3 (document 01, "Book of demand 3"), one claim about a list of drawing calls begun at place 0, each with its own packet, map, size, shown
--- picture and allowance; a call returns, or it is cut at j. `leaves` and `reply` of `calling` are what the contract of `draw` says that a call leaves
+-- picture, allowance and form, the default or the strict one; a call returns, or it is cut at j. `leaves` and `reply` of `calling` are what the contract of `draw` says that a call leaves
 -- and answers; `happens` is what a call leaves that may be cut.
 -- Assumes nothing.
 use mathlib.Core.Path.{_≡_}
@@ -33,7 +33,7 @@ CutsWithin m es = Each calling (CutWithin calling) m es
 
 -- an accepted packet with its map and size, and pictures that are long enough
 pub record Given (c : Request) (first : List ℕ) : Type 0 where
-  pub accepted : Accepts (c .columns) (c .rows) (c .map) (c .bytes)
+  pub accepted : Accepts (c .allowed .spare) (c .columns) (c .rows) (c .map) (c .bytes)
   pub front-long : pixels (c .columns) (c .rows) ≤ length (c .front)
   pub back-long : pixels (c .columns) (c .rows) ≤ length first
 
@@ -44,15 +44,15 @@ leavesAt m (cut c j) = pictures (c .front) (happens calling m (cut c j))
 
 -- a call that is not refused and is allowed 65 stores or more raises the place or answers "whole"
 abbrev pub Progresses : Memory → Request → Type 0
-Progresses m r = drawVerdict r m ≡ accept → 65 ≤ r .allowed → (m .place < step calling m r .place) ⊎ (reply calling m r .answer ≡ whole)
+Progresses m r = drawVerdict r m ≡ accept → 65 ≤ r .allowed .stores → (m .place < step calling m r .place) ⊎ (reply calling m r .answer ≡ whole)
 
 -- what a list of calls es that finds the picture first and place 0 comes to
 pub record Demand3 (c : Request) (first : List ℕ) (es : List (Event Request)) : Type 0 where
   -- the place, every byte of the picture drawn on, every answer and every count are the book's; "whole" has left the picture of demand 2; the place
   -- never passes the block count; the picture keeps its length
   pub booked : AsBooked calling (plan (packetOf c) (c .front)) first es
-  -- a call that brings the packet, map, size and shown picture of c is not refused
-  pub accepts : Each calling (λ m e. Same (callOf e) c → drawVerdict (callOf e) m ≡ accept) (memory first 0) es
+  -- a call that brings the packet, map, size and shown picture of c is not refused, if it may leave over as many bytes as c or more
+  pub accepts : Each calling (λ m e. Same (callOf e) c → c .allowed .spare ≤ callOf e .allowed .spare → drawVerdict (callOf e) m ≡ accept) (memory first 0) es
   -- each call, refused, cut or not, leaves the shown picture that it was lent; one that is not refused, that of c
   pub shown : Each calling (λ m e. (leavesAt m e .shown ≡ callOf e .front) × (drawVerdict (callOf e) m ≡ accept → leavesAt m e .shown ≡ c .front)) (memory first 0) es
   -- each call that returns makes progress

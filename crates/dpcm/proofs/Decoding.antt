@@ -14,11 +14,6 @@ use Rattle.dpcm.specs.Samples.{sampleAfter, turned, samples, lastOf, byt
 use Rattle.dpcm.specs.declared.Last.{Last}
 use Rattle.dpcm.proofs.Samples.{samples-more, last-more, bytes-append}
 
--- the code's sum is the rule's
-pub is-sample : (table : List ℕ) (last b k r : ℕ) → table ≡ steps → k ≡ b → r ≡ (last + getD table k 0) % 65536 → r ≡ sampleAfter last b
-unfolding sampleAfter
-is-sample table last b k r et ek er = rw (er, et, ek)
-
 -- a sample's two bytes
 pub writing-sample : (room₀ w : List ℕ) (at : ℕ) (room : List ℕ) → Writing room₀ w at room → at + 2 ≤ length room₀ → (sample : ℕ) (room′ : List ℕ)
     → room′ ≡ set (set room at (sample % 256)) (at + 1) (sample / 256) → Writing room₀ (w ++ bytesOf (sample ∷ [])) (at + 2) room′

@@ -4,7 +4,7 @@ use mathlib.Core.Path.{_≡_, refl, sym}
 use mathlib.Core.Bool.{Bool, true, false, cond}
 use mathlib.Core.List.{List}
 use mathlib.Core.Logic.{⊎-elim}
-use Prim.Native.Nat.{ℕ, zero, suc, _+_, _-_, _%_, _≤_, _<_}
+use Prim.Native.Nat.{ℕ, zero, suc, _+_, _-_, _%_, _≤_, _<_, zero-le}
 use native.Mathlib.Omega.{arith}
 use native.Mathlib.Nat.{not-suc-le-zero, le-of-suc-le-suc, eq-or-lt-of-le}
 use borrow.Author.Tests.{lt-ltb, ne-eqb}
@@ -60,3 +60,15 @@ steps-rise i (suc j) h g =
     let n = next-rises j b in
     ⊎-elim (λ (e : i ≡ j). rw e n) (λ (l : i < j). let m : getD steps i 0 < getD steps j 0 = steps-rise i j l (omega arith) in omega (arith, n, m))
     (eq-or-lt-of-le (le-of-suc-le-suc h))
+
+-- ---- a choice by number
+
+-- b is none of the numbers below n, as the last arm of a `match` knows it
+unfoldable pub NoneOf : Type 0 → ℕ → ℕ → Type 0
+NoneOf B zero b = B
+NoneOf B (suc n) b = NoneOf B n b × (b ≡ n → ⊥)
+
+pub at-least : (B : Type 0) (n b : ℕ) → NoneOf B n b → n ≤ b
+unfolding NoneOf
+at-least B zero b h = zero-le
+at-least B (suc n) b h = let l = at-least B n b (h .0) in let m = h .1 in omega (arith, l, m)

@@ -3,16 +3,14 @@ mod steps;
 
 use room::put;
 use std::num::wrapping_add_u16;
-use steps::STEPS;
+use steps::step_of;
 use words::part_from;
-use words::wide;
 use words::word_at;
 ghost use mathlib.Core.Path.{_≡_};
 ghost use Prim.Native.Nat.{_+_, _*_, _/_, _%_, _≤_, _<_};
 ghost use lib.ListN.{length, set};
 ghost use mathlib.Core.Bool.{true, false};
 ghost use Rattle.room.specs.Room.{written};
-ghost use Rattle.dpcm.specs.Steps as step;
 ghost use Rattle.dpcm.specs.Samples.{sampleAfter, turned as turnedTo, samples, lastOf, bytesOf};
 ghost use Rattle.dpcm.specs.Packet.{channels, startWords, firstSamples, packetSamples, packetLast, Fits};
 
@@ -41,12 +39,10 @@ impl Last {
 }
 
 // The sample behind a last one, by a data byte.
-fn sample_after(table: &[u16], last: u16, b: u8) -> u16
-    requires { ⌜ now table ≡ step.steps ⌝ }
+fn sample_after(last: u16, b: u8) -> u16
     ensures { λ r. ⌜ r ≡ sampleAfter last b ⌝ }
 {
-    let k = wide(b);
-    wrapping_add_u16(last, table[k])
+    wrapping_add_u16(last, step_of(b))
 }
 
 // A sample's two bytes, low first, from index at on.
@@ -58,31 +54,21 @@ fn put_sample(room: &mut [u8], at: usize, sample: u16)
     put(room, at + 1, (sample / 256) as u8);
 }
 
-// The samples of data bytes, by a table that is lent.
-fn decode_by(table: &[u16], stereo: bool, first: Last, data: &[u8], room: &mut [u8]) -> Last
-    requires { ⌜ (now table ≡ step.steps) × (2 * length (now «data») ≤ length (now room)) ⌝ }
+// The samples of data bytes, from the last samples on; the last samples then.
+fn decode(stereo: bool, first: Last, data: &[u8], room: &mut [u8]) -> Last
+    requires { ⌜ 2 * length (now «data») ≤ length (now room) ⌝ }
     ensures { λ r. ⌜ r ≡ lastOf stereo first (now («data» .entry)) ⌝ }
     ensures { λ _. ⌜ now (room .exit) ≡ written (bytesOf (samples stereo first (now («data» .entry)))) (now (room .entry)) ⌝ }
 {
     let mut last = first;
     let mut i = 0;
     while i < data.len() {
-        let sample = sample_after(table, last.next, data[i]);
+        let sample = sample_after(last.next, data[i]);
         put_sample(room, 2 * i, sample);
         last = last.turned(stereo, sample);
         i += 1;
     }
     last
-}
-
-// The samples of data bytes, from the last samples on; the last samples then. Where the table is named it is copied to the stack, so it is named here
-// alone. Two functions call this one: with a single caller the compiler would make it a part of that, and the copy a part of every step's frame.
-fn decode(stereo: bool, first: Last, data: &[u8], room: &mut [u8]) -> Last
-    requires { ⌜ 2 * length (now «data») ≤ length (now room) ⌝ }
-    ensures { λ r. ⌜ r ≡ lastOf stereo first (now («data» .entry)) ⌝ }
-    ensures { λ _. ⌜ now (room .exit) ≡ written (bytesOf (samples stereo first (now («data» .entry)))) (now (room .entry)) ⌝ }
-{
-    decode_by(&STEPS, stereo, first, data, room)
 }
 
 pub fn channels_of(stereo: bool) -> usize

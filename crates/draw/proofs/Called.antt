@@ -24,19 +24,19 @@ module _ (c : Request) (m : Memory) where
   pub says-refused : (a k : ℕ) → refuse a k ≡ drawVerdict c m
       → (pictures (c .front) m ≡ leaves c m) × (_≡_ {A = Outcome Reason} (record { answer = refusal (reason a k); count = 0 }) (reply calling m c))
   says-refused a k e =
-      let q = comes-refused (drawVerdict c m) (c .allowed) a k (sym e) in
+      let q = comes-refused (drawVerdict c m) (c .allowed .stores) a k (sym e) in
       (ap (pictures (c .front)) (refused-leaves (plan (packetOf c) (c .front)) m _ (reason a k) q), refused-answers (plan (packetOf c) (c .front)) m _ (reason a k) q)
 
-  module _ (b : List ℕ) (k j : ℕ) (h : Called (plan (packetOf c) (c .front)) m (c .allowed) b k j) (e : accept ≡ drawVerdict c m) where
-    taken : comes (drawVerdict c m) (c .allowed) ≡ allowed (c .allowed)
-    taken = comes-allowed (drawVerdict c m) (c .allowed) (sym e)
+  module _ (b : List ℕ) (k j : ℕ) (h : Called (plan (packetOf c) (c .front)) m (c .allowed .stores) b k j) (e : accept ≡ drawVerdict c m) where
+    taken : comes (drawVerdict c m) (c .allowed .stores) ≡ allowed (c .allowed .stores)
+    taken = comes-allowed (drawVerdict c m) (c .allowed .stores) (sym e)
 
     pub says-whole : k ≡ blocks (packetOf c)
         → (pictures (c .front) (memory b k) ≡ leaves c m) × (_≡_ {A = Outcome Reason} (record { answer = whole; count = j }) (reply calling m c))
     says-whole q =
-        (ap (pictures (c .front)) (called-leaves (plan (packetOf c) (c .front)) m _ (c .allowed) b k j h taken), called-whole (plan (packetOf c) (c .front)) m _ (c .allowed) b k j h taken q)
+        (ap (pictures (c .front)) (called-leaves (plan (packetOf c) (c .front)) m _ (c .allowed .stores) b k j h taken), called-whole (plan (packetOf c) (c .front)) m _ (c .allowed .stores) b k j h taken q)
 
     pub says-unfinished : (k ≡ blocks (packetOf c) → ⊥)
         → (pictures (c .front) (memory b k) ≡ leaves c m) × (_≡_ {A = Outcome Reason} (record { answer = unfinished; count = j }) (reply calling m c))
     says-unfinished q =
-        (ap (pictures (c .front)) (called-leaves (plan (packetOf c) (c .front)) m _ (c .allowed) b k j h taken), called-unfinished (plan (packetOf c) (c .front)) m _ (c .allowed) b k j h taken q)
+        (ap (pictures (c .front)) (called-leaves (plan (packetOf c) (c .front)) m _ (c .allowed .stores) b k j h taken), called-unfinished (plan (packetOf c) (c .front)) m _ (c .allowed .stores) b k j h taken q)

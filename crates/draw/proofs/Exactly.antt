@@ -11,24 +11,25 @@ use Rattle.draw.specs.Call.{callVerdict}
 use Rattle.draw.specs.Taken.{DrawAccepts}
 use Rattle.draw.proofs.Judged.{judged-blocks, accepted-call}
 
-module _ (columns rows : ℕ) (map bytes : List ℕ) (front back place : ℕ) where
-  taken-is : callVerdict columns rows map bytes front back place ≡ accept → DrawAccepts columns rows map bytes front back place
+module _ (spare columns rows : ℕ) (map bytes : List ℕ) (front back place : ℕ) where
+  taken-is : callVerdict spare columns rows map bytes front back place ≡ accept → DrawAccepts spare columns rows map bytes front back place
   taken-is e =
-      let a = accepted-call columns rows map bytes front back place e in
+      let a = accepted-call spare columns rows map bytes front back place e in
+      let c = a .1 in
       let l = size-is columns rows (a .0) in
       record {
-        accepted = record { wide = l .0; high = l .1; mapped = a .1 .sized .mapped; drawn = a .1 .taken };
-        front-long = a .1 .front-room;
-        back-long = a .1 .back-room;
-        within = a .1 .at;
+        accepted = record { wide = l .0; high = l .1; mapped = c .sized .mapped; drawn = c .taken; used = a .2 };
+        front-long = c .front-room;
+        back-long = c .back-room;
+        within = c .at;
       }
 
-  is-taken : DrawAccepts columns rows map bytes front back place → callVerdict columns rows map bytes front back place ≡ accept
+  is-taken : DrawAccepts spare columns rows map bytes front back place → callVerdict spare columns rows map bytes front back place ≡ accept
   is-taken t =
       let a = t .accepted in
-      sym (judged-blocks columns rows map bytes front back place (is-size columns rows (a .wide) (a .high)) (t .front-long) (t .back-long) (a .mapped) (t .within)
-      accept (sym (is-whole (packet columns rows map bytes) (a .drawn))))
+      sym (judged-blocks spare columns rows map bytes front back place (is-size columns rows (a .wide) (a .high)) (t .front-long) (t .back-long) (a .mapped) (t .within)
+      accept (sym (is-whole spare (packet columns rows map bytes) (a .drawn) (a .used))))
 
-  pub drawn-exactly : (callVerdict columns rows map bytes front back place ≡ accept → DrawAccepts columns rows map bytes front back place)
-      × (DrawAccepts columns rows map bytes front back place → callVerdict columns rows map bytes front back place ≡ accept)
+  pub drawn-exactly : (callVerdict spare columns rows map bytes front back place ≡ accept → DrawAccepts spare columns rows map bytes front back place)
+      × (DrawAccepts spare columns rows map bytes front back place → callVerdict spare columns rows map bytes front back place ≡ accept)
   drawn-exactly = (taken-is, is-taken)

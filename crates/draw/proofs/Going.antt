@@ -76,7 +76,7 @@ module _ (p : Packet) (front b₀ : List ℕ) (k₀ n : ℕ) (b : List ℕ) (pla
     kind-is = rw (ec, data-is)
 
     takes : Takes p k
-    takes = a .taken .each k h
+    takes = a .taken k h
 
     some : 0 < p .columns
     some = omega (arith, a .sized .some-columns)

@@ -5,7 +5,7 @@ use Rattle.packet.specs.Packet.{Packet, blocks, pixels}
 use Rattle.packet.specs.Asked.{Sized}
 use Rattle.packet.specs.Accepted.{Whole}
 
--- an accepted packet, pictures this long that hold it, and a place in it
+-- a packet whose blocks are all taken, pictures this long that hold it, and a place in it
 pub record Accepted (p : Packet) (front back place : ℕ) : Type 0 where
   pub sized : Sized p
   pub taken : Whole p

@@ -12,38 +12,43 @@ use Rattle.packet.specs.Verdict.{legalSize, mapFits, blocksVerdict}
 use Rattle.stores.specs.Stores.{Memory}
 use Rattle.stores.specs.Calls.{Call, refused, allowed, Answer, whole, unfinished, refusal, Outcome, Calling, step}
 use Rattle.draw.specs.Drawing.{plan}
+use Rattle.draw.specs.declared.Allowed.{Allowed}
 use Rattle.draw.specs.declared.Drawn.{Drawn}
 use Rattle.draw.specs.declared.Drawn.the-variants.{Whole, Unfinished, Refused}
 
--- the size in blocks, the map, the packet, the shown picture ("front"), and the stores allowed
+-- what a call is allowed: so many stores, and so many bytes of the packet left over
+abbrev pub within : ℕ → ℕ → Allowed
+within stores spare = record { stores = stores; spare = spare }
+
+-- the size in blocks, the map, the packet, the shown picture ("front"), and what is allowed
 pub record Request : Type 0 where
   pub columns : ℕ
   pub rows : ℕ
   pub map : List ℕ
   pub bytes : List ℕ
   pub front : List ℕ
-  pub allowed : ℕ
+  pub allowed : Allowed
 
-abbrev pub request : ℕ → ℕ → List ℕ → List ℕ → List ℕ → ℕ → Request
+abbrev pub request : ℕ → ℕ → List ℕ → List ℕ → List ℕ → Allowed → Request
 request columns rows map bytes front n = record { columns = columns; rows = rows; map = map; bytes = bytes; front = front; allowed = n }
 
 abbrev pub packetOf : Request → Packet
 packetOf c = packet (c .columns) (c .rows) (c .map) (c .bytes)
 
--- the verdict on a size, a map, a packet, pictures this long and a place
-unfoldable pub callVerdict : ℕ → ℕ → List ℕ → List ℕ → ℕ → ℕ → ℕ → Verdict
-callVerdict columns rows map bytes front back place =
+-- the verdict on a size, a map, a packet, pictures this long and a place, where so many bytes may be left over
+unfoldable pub callVerdict : ℕ → ℕ → ℕ → List ℕ → List ℕ → ℕ → ℕ → ℕ → Verdict
+callVerdict spare columns rows map bytes front back place =
     cond (legalSize columns rows)
     (cond (ltb front (pixels columns rows)) (refuse 8 0)
     (cond (ltb back (pixels columns rows)) (refuse 8 0)
     (cond (mapFits (packet columns rows map bytes))
-    (cond (ltb (blocks (packet columns rows map bytes)) place) (refuse 11 0) (blocksVerdict (packet columns rows map bytes)))
+    (cond (ltb (blocks (packet columns rows map bytes)) place) (refuse 11 0) (blocksVerdict spare (packet columns rows map bytes)))
     (refuse 10 0))))
     (refuse 6 0)
 
 -- the verdict on a call at the memory that it finds
 abbrev pub drawVerdict : Request → Memory → Verdict
-drawVerdict c m = callVerdict (c .columns) (c .rows) (c .map) (c .bytes) (length (c .front)) (length (m .picture)) (m .place)
+drawVerdict c m = callVerdict (c .allowed .spare) (c .columns) (c .rows) (c .map) (c .bytes) (length (c .front)) (length (m .picture)) (m .place)
 
 -- a refusal's number and block
 pub record Reason : Type 0 where
@@ -60,7 +65,7 @@ comes (refuse number block) n = refused (reason number block)
 
 -- drawing calls: the plan that each draws, and what it comes to
 abbrev pub calling : Calling Request Reason
-calling = record { plan = λ c. plan (packetOf c) (c .front); meets = λ c m. comes (drawVerdict c m) (c .allowed) }
+calling = record { plan = λ c. plan (packetOf c) (c .front); meets = λ c m. comes (drawVerdict c m) (c .allowed .stores) }
 
 -- all that a call is lent: the shown picture, and the picture drawn on with the place
 pub record Pictures : Type 0 where

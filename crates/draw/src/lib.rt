@@ -16,12 +16,12 @@ ghost use lib.ListN.{length};
 ghost use Rattle.block.specs.Block.{kindOf};
 ghost use Rattle.paint.specs.Value.{pixelCount};
 ghost use Rattle.packet.specs.Packet.{packet};
-ghost use Rattle.packet.specs.Verdict.{told};
+ghost use Rattle.packet.specs.Verdict.{default, strict, told};
 ghost use Rattle.stores.specs.Stores.{memory};
 ghost use Rattle.stores.specs.Calls.{reply};
 ghost use Rattle.stores.specs.Loop.{Called};
 ghost use Rattle.draw.specs.Drawing.{plan};
-ghost use Rattle.draw.specs.Call.{request, callVerdict, calling, pictures, leaves, said};
+ghost use Rattle.draw.specs.Call.{within, request, callVerdict, calling, pictures, leaves, said};
 ghost use Rattle.draw.specs.Asked.{Accepted};
 
 // What a drawing call answers: with the stores made, or why it is refused.
@@ -29,6 +29,12 @@ pub enum Drawn {
     Whole(usize),
     Unfinished(usize),
     Refused(Refusal),
+}
+
+// What a call is allowed: the stores that it may make, and the bytes of the packet that may be left over.
+pub struct Allowed {
+    pub stores: usize,
+    pub spare: usize,
 }
 
 // The pixels that a block of this code stores.
@@ -42,8 +48,9 @@ fn pixel_count(code: u8, s: &[u8]) -> usize
     64
 }
 
-// The tests of a call, where the pictures are front and back bytes long.
+// The tests of a call, where so many bytes may be left over and the pictures are front and back bytes long.
 fn judge(
+    spare: usize,
     columns: usize,
     rows: usize,
     map: &[u8],
@@ -52,7 +59,7 @@ fn judge(
     back: usize,
     place: usize,
 ) -> Checked
-    ensures { λ r. ⌜ told r ≡ callVerdict columns rows (now (map .entry)) (now («data» .entry)) front back place ⌝ }
+    ensures { λ r. ⌜ told r ≡ callVerdict spare columns rows (now (map .entry)) (now («data» .entry)) front back place ⌝ }
 {
     if is_legal_size(columns, rows) {
         let pixels = 8 * rows * (8 * columns);
@@ -66,7 +73,7 @@ fn judge(
             if columns * rows < place {
                 return Checked::Refused(Refusal::Place);
             }
-            return check_blocks(columns, rows, map, data);
+            return check_blocks(spare, columns, rows, map, data);
         }
         return Checked::Refused(Refusal::MapLength);
     }
@@ -118,6 +125,43 @@ fn draw_blocks(
 }
 
 // Makes the first stores due from the place on, at most as many as are allowed, after every test; a refused call changes nothing.
+pub fn draw_within(
+    columns: usize,
+    rows: usize,
+    map: &[u8],
+    data: &[u8],
+    front: &[u8],
+    back: &mut [u8],
+    place: &mut usize,
+    allowed: Allowed,
+) -> Drawn
+    ensures { λ r. ⌜ pictures (now (front .exit)) (memory (now (back .exit)) (now (place .exit))) ≡ leaves (request columns rows (now (map .entry)) (now («data» .entry)) (now (front .entry)) allowed) (memory (now (back .entry)) (now (place .entry))) ⌝ }
+    ensures { λ r. ⌜ said r ≡ reply calling (memory (now (back .entry)) (now (place .entry))) (request columns rows (now (map .entry)) (now («data» .entry)) (now (front .entry)) allowed) ⌝ }
+{
+    let at = *place;
+    match judge(
+        allowed.spare,
+        columns,
+        rows,
+        map,
+        data,
+        front.len(),
+        back.len(),
+        at,
+    ) {
+        Checked::Refused(r) => Drawn::Refused(r),
+        Checked::Accepted => {
+            let count = draw_blocks(columns, rows, map, data, front, back, place, allowed.stores);
+            let next = *place;
+            if next == columns * rows {
+                return Drawn::Whole(count);
+            }
+            Drawn::Unfinished(count)
+        }
+    }
+}
+
+// The drawing call: one byte may be left over.
 pub fn draw(
     columns: usize,
     rows: usize,
@@ -128,19 +172,49 @@ pub fn draw(
     place: &mut usize,
     allowed: usize,
 ) -> Drawn
-    ensures { λ r. ⌜ pictures (now (front .exit)) (memory (now (back .exit)) (now (place .exit))) ≡ leaves (request columns rows (now (map .entry)) (now («data» .entry)) (now (front .entry)) allowed) (memory (now (back .entry)) (now (place .entry))) ⌝ }
-    ensures { λ r. ⌜ said r ≡ reply calling (memory (now (back .entry)) (now (place .entry))) (request columns rows (now (map .entry)) (now («data» .entry)) (now (front .entry)) allowed) ⌝ }
+    ensures { λ r. ⌜ pictures (now (front .exit)) (memory (now (back .exit)) (now (place .exit))) ≡ leaves (request columns rows (now (map .entry)) (now («data» .entry)) (now (front .entry)) (within allowed default)) (memory (now (back .entry)) (now (place .entry))) ⌝ }
+    ensures { λ r. ⌜ said r ≡ reply calling (memory (now (back .entry)) (now (place .entry))) (request columns rows (now (map .entry)) (now («data» .entry)) (now (front .entry)) (within allowed default)) ⌝ }
 {
-    let at = *place;
-    match judge(columns, rows, map, data, front.len(), back.len(), at) {
-        Checked::Refused(r) => Drawn::Refused(r),
-        Checked::Accepted => {
-            let count = draw_blocks(columns, rows, map, data, front, back, place, allowed);
-            let next = *place;
-            if next == columns * rows {
-                return Drawn::Whole(count);
-            }
-            Drawn::Unfinished(count)
-        }
-    }
+    draw_within(
+        columns,
+        rows,
+        map,
+        data,
+        front,
+        back,
+        place,
+        Allowed {
+            stores: allowed,
+            spare: 1,
+        },
+    )
+}
+
+// The strict drawing call: no byte may be left over.
+pub fn draw_strict(
+    columns: usize,
+    rows: usize,
+    map: &[u8],
+    data: &[u8],
+    front: &[u8],
+    back: &mut [u8],
+    place: &mut usize,
+    allowed: usize,
+) -> Drawn
+    ensures { λ r. ⌜ pictures (now (front .exit)) (memory (now (back .exit)) (now (place .exit))) ≡ leaves (request columns rows (now (map .entry)) (now («data» .entry)) (now (front .entry)) (within allowed strict)) (memory (now (back .entry)) (now (place .entry))) ⌝ }
+    ensures { λ r. ⌜ said r ≡ reply calling (memory (now (back .entry)) (now (place .entry))) (request columns rows (now (map .entry)) (now («data» .entry)) (now (front .entry)) (within allowed strict)) ⌝ }
+{
+    draw_within(
+        columns,
+        rows,
+        map,
+        data,
+        front,
+        back,
+        place,
+        Allowed {
+            stores: allowed,
+            spare: 0,
+        },
+    )
 }

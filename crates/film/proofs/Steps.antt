@@ -11,6 +11,7 @@ use Rattle.refusal.specs.declared.Refusal.{Refusal}
 use Rattle.refusal.specs.Number.{Verdict, number, block}
 use Rattle.stores.specs.Stores.{Memory, memory}
 use Rattle.stores.specs.Calls.{Outcome as Reply, step, reply}
+use Rattle.draw.specs.declared.Allowed.{Allowed}
 use Rattle.draw.specs.Call.{Request, request, Reason, calling, Pictures, pictures, leaves}
 use Rattle.palette.specs.declared.Updated.{Updated}
 use Rattle.palette.specs.declared.Updated.the-variants.{Taken, Refused}
@@ -52,7 +53,7 @@ called-is st p q l x o c k f g h =
     ap (λ (z : Step). after z (withPictures l (l .first) c k)) (f ∙ ap (drawnStep st p) g)
     ∙ ap (λ (m : Memory). after (drawnStep st p (reply calling (memory (l .second) (l .place)) q)) (withPictures l (l .first) (m .picture) (m .place))) h
 
-module _ (st : State) (p : ℕ) (map packet : List ℕ) (allowed : ℕ) (a b : List ℕ) (place : ℕ) (x : Step) (c : List ℕ) (k : ℕ) (o : Reply Reason) (f : x ≡ drawnStep st p o) (l : Lent) where
+module _ (st : State) (p : ℕ) (map packet : List ℕ) (allowed : Allowed) (a b : List ℕ) (place : ℕ) (x : Step) (c : List ℕ) (k : ℕ) (o : Reply Reason) (f : x ≡ drawnStep st p o) (l : Lent) where
   pub drew-second : st .front ≡ 0 → o ≡ reply calling (memory b place) (request (st .columns) (st .rows) map packet a allowed)
       → pictures a (memory c k) ≡ leaves (request (st .columns) (st .rows) map packet a allowed) (memory b place)
       → after x (withPictures l a c k) ≡ drawOn st p map packet allowed (withPictures l a b place)
@@ -68,7 +69,7 @@ module _ (st : State) (p : ℕ) (map packet : List ℕ) (allowed : ℕ) (a b : L
       (ap (λ (o : Outcome). after (o .step) (swap (o .lent)))
       (called-is st p (request (st .columns) (st .rows) map packet b allowed) (withPictures l b a place) x o c k f g (ap (λ (y : Pictures). y .drawn) h)))
 
-module _ (m : Map) (film : List ℕ) (st : State) (body : List ℕ) (p allowed : ℕ) (l : Lent) where
+module _ (m : Map) (film : List ℕ) (st : State) (body : List ℕ) (p : ℕ) (allowed : Allowed) (l : Lent) where
   pub no-map : m ≡ Missing → after (quiet (refused 9 0)) l ≡ drawBy m film st body p allowed l
   unfolding drawBy
   no-map e = rw e
@@ -100,7 +101,7 @@ module _ (st : State) (p : ℕ) (u : Updated) where
 
 -- ---- an opcode
 
-module _ (film : List ℕ) (st : State) (kind version s : ℕ) (body : List ℕ) (p allowed : ℕ) (l : Lent) where
+module _ (film : List ℕ) (st : State) (kind version s : ℕ) (body : List ℕ) (p : ℕ) (allowed : Allowed) (l : Lent) where
   pub act-map : (x : State) (k : ℕ) → kind ≡ 15 → x ≡ mapped st p (Part s (p - s)) → k ≡ 0
       → after (quiet (taken x)) (withPictures l (l .first) (l .second) k) ≡ act film st kind version s body p allowed l
   unfolding act
@@ -159,7 +160,7 @@ module _ (st : State) (kind version : ℕ) (body : List ℕ) (p : ℕ) (l : Lent
   unfolding hear heardBy
   hears-silence r n m q g = rw (ne-eqb _ _ n, ne-eqb _ _ m, f, q, g)
 
-module _ (film : List ℕ) (st : State) (o : Opcode) (allowed : ℕ) (l : Lent) (b c : Bool) (e : b ≡ chosen (st .sound .stream)) (q : c ≡ hears b (o .kind)) where
+module _ (film : List ℕ) (st : State) (o : Opcode) (allowed : Allowed) (l : Lent) (b c : Bool) (e : b ≡ chosen (st .sound .stream)) (q : c ≡ hears b (o .kind)) where
   pub takes-sound : (x : Outcome) → c ≡ true → x ≡ hear st (o .kind) (o .version) (part film (o .start) (o .start + o .long)) (o .start + o .long) l
       → x ≡ takeOn film st o allowed l
   unfolding takeOn
@@ -171,7 +172,7 @@ module _ (film : List ℕ) (st : State) (o : Opcode) (allowed : ℕ) (l : Lent) 
 
 -- ---- a step
 
-module _ (film : List ℕ) (st : State) (allowed : ℕ) (l : Lent) (n : Next) (e : nextAs n ≡ nextOf film st (length (l .palette)) (length (l .first)) (length (l .second))) where
+module _ (film : List ℕ) (st : State) (allowed : Allowed) (l : Lent) (n : Next) (e : nextAs n ≡ nextOf film st (length (l .palette)) (length (l .first)) (length (l .second))) where
   pub step-refused : (r : Refusal) → n ≡ found.Refused r → after (quiet (refused (number r) (block r))) l ≡ stepOf film st allowed l
   unfolding stepOf standing
   step-refused r q = rw (← e, q)

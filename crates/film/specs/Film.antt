@@ -7,6 +7,7 @@ use lib.Dec.{eqb}
 use lib.ListN.{length, take, drop}
 use Rattle.stores.specs.Stores.{Memory, memory}
 use Rattle.stores.specs.Calls.{step, reply}
+use Rattle.draw.specs.declared.Allowed.{Allowed}
 use Rattle.draw.specs.Call.{Request, request, calling}
 use Rattle.palette.specs.Update.{Update, verdictOn, paletteAfter}
 use Rattle.palette.specs.Gradient.{createGradient}
@@ -70,11 +71,11 @@ called st p q l =
     (withPictures l (l .first) (step calling (memory (l .second) (l .place)) q .picture) (step calling (memory (l .second) (l .place)) q .place))
 
 -- where the first picture is front, which is shown and read, and the second is back, which is drawn on
-abbrev pub drawSecond : State → ℕ → List ℕ → List ℕ → ℕ → Lent → Outcome
+abbrev pub drawSecond : State → ℕ → List ℕ → List ℕ → Allowed → Lent → Outcome
 drawSecond st p map packet allowed l = called st p (request (st .columns) (st .rows) map packet (l .first) allowed) l
 
 -- where the first picture is front, or the second
-unfoldable pub drawOn : State → ℕ → List ℕ → List ℕ → ℕ → Lent → Outcome
+unfoldable pub drawOn : State → ℕ → List ℕ → List ℕ → Allowed → Lent → Outcome
 drawOn st p map packet allowed l =
     cond (eqb (st .front) 0) (drawSecond st p map packet allowed l)
     (after (drawSecond st p map packet allowed (swap l) .step) (swap (drawSecond st p map packet allowed (swap l) .lent)))
@@ -84,7 +85,7 @@ abbrev pub part : List ℕ → ℕ → ℕ → List ℕ
 part film s e = take (e - s) (drop s film)
 
 -- by the pending map, and the body that ends at p: the packet is what remains behind its 14 bytes in front. 9 without a map or a size
-unfoldable pub drawBy : Map → List ℕ → State → List ℕ → ℕ → ℕ → Lent → Outcome
+unfoldable pub drawBy : Map → List ℕ → State → List ℕ → ℕ → Allowed → Lent → Outcome
 drawBy Missing film st body p allowed l = after (quiet (refused 9 0)) l
 drawBy (Part start long) film st body p allowed l =
     cond (eqb (st .columns) 0) (after (quiet (refused 9 0)) l) (drawOn st p (part film start (start + long)) (part body 14 (length body)) allowed l)
@@ -96,7 +97,7 @@ abbrev pub update : State → ℕ → Update → Lent → Outcome
 update st p u l = after (quiet (paletteAnswer st p (verdictOn u (l .palette)))) (withPalette l (paletteAfter u (l .palette)))
 
 -- type and version, and the body from s on, which ends at p. 0F: the body becomes the pending map and the place becomes 0
-unfoldable pub act : List ℕ → State → ℕ → ℕ → ℕ → List ℕ → ℕ → ℕ → Lent → Outcome
+unfoldable pub act : List ℕ → State → ℕ → ℕ → ℕ → List ℕ → ℕ → Allowed → Lent → Outcome
 act film st kind version s body p allowed l =
     cond (eqb kind 15) (after (quiet (taken (mapped st p (Part s (p - s))))) (withPictures l (l .first) (l .second) 0))
     (cond (eqb kind 17) (drawBy (st .map) film st body p allowed l)
@@ -105,7 +106,7 @@ act film st kind version s body p allowed l =
     (cond (eqb kind 13) (update st p (setPaletteCompressed body) l)
     (after (quiet (quietAnswer (length film) st kind version body p)) l)))))
 
-abbrev pub actOn : List ℕ → State → Opcode → ℕ → Lent → Outcome
+abbrev pub actOn : List ℕ → State → Opcode → Allowed → Lent → Outcome
 actOn film st o allowed l =
     act film st (o .kind) (o .version) (o .start) (part film (o .start) (o .start + o .long)) (o .start + o .long) allowed l
 
@@ -122,7 +123,7 @@ hear st kind version body p l =
     (withRoom l (sound.roomAfter (heardBy (st .sound) kind version body (length (l .room))) (l .room)))
 
 -- an opcode that is taken: sound that is acted on, or any other
-unfoldable pub takeOn : List ℕ → State → Opcode → ℕ → Lent → Outcome
+unfoldable pub takeOn : List ℕ → State → Opcode → Allowed → Lent → Outcome
 takeOn film st o allowed l =
     cond (hears (chosen (st .sound .stream)) (o .kind))
     (hear st (o .kind) (o .version) (part film (o .start) (o .start + o .long)) (o .start + o .long) l)
@@ -131,11 +132,11 @@ takeOn film st o allowed l =
 -- ---- a step
 
 -- by what stands where the state is
-unfoldable pub standing : Standing → List ℕ → State → ℕ → Lent → Outcome
+unfoldable pub standing : Standing → List ℕ → State → Allowed → Lent → Outcome
 standing (found.refused n k) film st allowed l = after (quiet (refused n k)) l
 standing found.ended film st allowed l = after (quiet (ended st)) l
 standing (found.chunk c) film st allowed l = after (quiet (taken (into st c))) l
 standing (found.opcode o) film st allowed l = takeOn film st o allowed l
 
-unfoldable pub stepOf : List ℕ → State → ℕ → Lent → Outcome
+unfoldable pub stepOf : List ℕ → State → Allowed → Lent → Outcome
 stepOf film st allowed l = standing (nextOf film st (length (l .palette)) (length (l .first)) (length (l .second))) film st allowed l

@@ -1,5 +1,6 @@
 // One step over a film: a chunk's head or one opcode.
-use draw::draw;
+use draw::Allowed;
+use draw::draw_within;
 use heads::Opcode;
 use heads::is_heard;
 use next::Next;
@@ -25,6 +26,8 @@ ghost use mathlib.Core.Bool.{true};
 ghost use Prim.Native.Nat.{ℕ, _≤_};
 ghost use mathlib.Core.List.{List};
 ghost use lib.ListN.{length};
+ghost use Rattle.packet.specs.Verdict.{default, strict};
+ghost use Rattle.draw.specs.Call.{within};
 ghost use Rattle.palette.specs.Update.{told};
 ghost use Rattle.state.specs.State.{mapInside};
 ghost use Rattle.next.specs.Next.{Ready};
@@ -40,12 +43,12 @@ fn draw_on(
     a: &mut [u8],
     b: &mut [u8],
     place: &mut usize,
-    allowed: usize,
+    allowed: Allowed,
 ) -> Stepped
     ensures { λ r. ⌜ ((l : Lent) → after (steppedAs r) (withPictures l (now (a .exit)) (now (b .exit)) (now (place .exit))) ≡ drawOn st p (now (map .entry)) (now (packet .entry)) allowed (withPictures l (now (a .entry)) (now (b .entry)) (now (place .entry)))) ⌝ }
 {
     if st.front == 0 {
-        let d = draw(
+        let d = draw_within(
             st.columns,
             st.rows,
             map,
@@ -57,7 +60,7 @@ fn draw_on(
         );
         return drawn_step(st, p, d);
     }
-    let d = draw(
+    let d = draw_within(
         st.columns,
         st.rows,
         map,
@@ -79,7 +82,7 @@ fn draw_by(
     a: &mut [u8],
     b: &mut [u8],
     place: &mut usize,
-    allowed: usize,
+    allowed: Allowed,
 ) -> Stepped
     requires { ⌜ 14 ≤ length (now body) ⌝ }
     requires { ⌜ mapInside (st .map) (length (now film)) ≡ true ⌝ }
@@ -118,7 +121,7 @@ fn act_on(
     a: &mut [u8],
     b: &mut [u8],
     place: &mut usize,
-    allowed: usize,
+    allowed: Allowed,
 ) -> Stepped
     requires { ⌜ Ready (length (now film)) (st .cursor) o ⌝ }
     requires { ⌜ mapInside (st .map) (length (now film)) ≡ true ⌝ }
@@ -170,7 +173,7 @@ fn take_on(
     b: &mut [u8],
     place: &mut usize,
     room: &mut [u8],
-    allowed: usize,
+    allowed: Allowed,
 ) -> Stepped
     requires { ⌜ Ready (length (now film)) (st .cursor) o ⌝ }
     requires { ⌜ mapInside (st .map) (length (now film)) ≡ true ⌝ }
@@ -186,6 +189,27 @@ fn take_on(
 }
 
 // One step: a chunk's head where position and chunk end are equal, else one opcode. Every test is made again; a refused step changes nothing.
+pub fn step_within(
+    film: &[u8],
+    st: State,
+    palette: &mut [u8],
+    a: &mut [u8],
+    b: &mut [u8],
+    place: &mut usize,
+    room: &mut [u8],
+    allowed: Allowed,
+) -> Stepped
+    ensures { λ r. ⌜ after (steppedAs r) (lent (now (palette .exit)) (now (a .exit)) (now (b .exit)) (now (place .exit)) (now (room .exit))) ≡ stepOf (now (film .entry)) st allowed (lent (now (palette .entry)) (now (a .entry)) (now (b .entry)) (now (place .entry)) (now (room .entry))) ⌝ }
+{
+    match find(film, st, palette.len(), a.len(), b.len()) {
+        Next::Refused(r) => Stepped::Refused(r),
+        Next::Ended => Stepped::Ended(st),
+        Next::Chunk(c) => Stepped::Taken(st.into_chunk(c)),
+        Next::Opcode(o) => take_on(film, st, o, palette, a, b, place, room, allowed),
+    }
+}
+
+// The film step: a packet may leave one byte over.
 pub fn step(
     film: &[u8],
     st: State,
@@ -196,12 +220,47 @@ pub fn step(
     room: &mut [u8],
     allowed: usize,
 ) -> Stepped
-    ensures { λ r. ⌜ after (steppedAs r) (lent (now (palette .exit)) (now (a .exit)) (now (b .exit)) (now (place .exit)) (now (room .exit))) ≡ stepOf (now (film .entry)) st allowed (lent (now (palette .entry)) (now (a .entry)) (now (b .entry)) (now (place .entry)) (now (room .entry))) ⌝ }
+    ensures { λ r. ⌜ after (steppedAs r) (lent (now (palette .exit)) (now (a .exit)) (now (b .exit)) (now (place .exit)) (now (room .exit))) ≡ stepOf (now (film .entry)) st (within allowed default) (lent (now (palette .entry)) (now (a .entry)) (now (b .entry)) (now (place .entry)) (now (room .entry))) ⌝ }
 {
-    match find(film, st, palette.len(), a.len(), b.len()) {
-        Next::Refused(r) => Stepped::Refused(r),
-        Next::Ended => Stepped::Ended(st),
-        Next::Chunk(c) => Stepped::Taken(st.into_chunk(c)),
-        Next::Opcode(o) => take_on(film, st, o, palette, a, b, place, room, allowed),
-    }
+    step_within(
+        film,
+        st,
+        palette,
+        a,
+        b,
+        place,
+        room,
+        Allowed {
+            stores: allowed,
+            spare: 1,
+        },
+    )
+}
+
+// The strict film step: a packet may leave no byte over.
+pub fn step_strict(
+    film: &[u8],
+    st: State,
+    palette: &mut [u8],
+    a: &mut [u8],
+    b: &mut [u8],
+    place: &mut usize,
+    room: &mut [u8],
+    allowed: usize,
+) -> Stepped
+    ensures { λ r. ⌜ after (steppedAs r) (lent (now (palette .exit)) (now (a .exit)) (now (b .exit)) (now (place .exit)) (now (room .exit))) ≡ stepOf (now (film .entry)) st (within allowed strict) (lent (now (palette .entry)) (now (a .entry)) (now (b .entry)) (now (place .entry)) (now (room .entry))) ⌝ }
+{
+    step_within(
+        film,
+        st,
+        palette,
+        a,
+        b,
+        place,
+        room,
+        Allowed {
+            stores: allowed,
+            spare: 0,
+        },
+    )
 }

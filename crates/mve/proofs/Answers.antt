@@ -18,23 +18,23 @@ pub refused-is : (r : Refusal) (n m k : ℕ) → n ≡ number r → m ≡ n → 
 unfolding ofVerdict
 refused-is r n m k e f g = rw (f, e, g)
 
-module _ (v : Verdict) (c : Checked) (e : told c ≡ v) where
-  pub accepted-as : c ≡ Accepted → answer 0 0 0 0 ≡ ofVerdict v
+module _ (c : Checked) where
+  pub accepted-as : c ≡ Accepted → answer 0 0 0 0 ≡ ofVerdict (told c)
   unfolding ofVerdict
-  accepted-as q = ap ofVerdict (sym (ap told q) ∙ e)
+  accepted-as q = rw q
 
-  pub refused-as : (r : Refusal) (a : MveAnswer) → c ≡ Refused r → a ≡ ofVerdict (refusal r) → a ≡ ofVerdict v
-  refused-as r a q f = f ∙ ap ofVerdict (sym (ap told q) ∙ e)
+  pub refused-as : (r : Refusal) (a : MveAnswer) → c ≡ Refused r → a ≡ ofVerdict (refusal r) → a ≡ ofVerdict (told c)
+  refused-as r a q f = rw q f
 
-module _ (o : Outcome Reason) (d : Drawn) (e : said d ≡ o) where
-  pub whole-as : (n : ℕ) → d ≡ Whole n → answer 1 0 0 n ≡ ofOutcome o
+module _ (d : Drawn) where
+  pub whole-as : (n : ℕ) → d ≡ Whole n → answer 1 0 0 n ≡ ofOutcome (said d)
   unfolding ofAnswer
-  whole-as n q = ap ofOutcome (sym (ap said q) ∙ e)
+  whole-as n q = rw q
 
-  pub unfinished-as : (n : ℕ) → d ≡ Unfinished n → answer 2 0 0 n ≡ ofOutcome o
+  pub unfinished-as : (n : ℕ) → d ≡ Unfinished n → answer 2 0 0 n ≡ ofOutcome (said d)
   unfolding ofAnswer
-  unfinished-as n q = ap ofOutcome (sym (ap said q) ∙ e)
+  unfinished-as n q = rw q
 
-  pub denied-as : (r : Refusal) (a : MveAnswer) → d ≡ Denied r → a ≡ ofVerdict (refusal r) → a ≡ ofOutcome o
+  pub denied-as : (r : Refusal) (a : MveAnswer) → d ≡ Denied r → a ≡ ofVerdict (refusal r) → a ≡ ofOutcome (said d)
   unfolding ofAnswer ofVerdict
-  denied-as r a q f = f ∙ ap ofOutcome (sym (ap said q) ∙ e)
+  denied-as r a q f = rw q f

@@ -23,11 +23,12 @@ use Rattle.opening.specs.Opening.{Opening, openedAs}
 use Rattle.opcodes.specs.declared.Stepped.{Stepped}
 use Rattle.opcodes.specs.declared.Stepped.the-variants as step
 use Rattle.opcodes.specs.Opcodes.{Step, steppedAs}
+use Rattle.draw.specs.Call.{within}
 use Rattle.film.specs.Film.{Lent, after, stepOf}
 use Rattle.mve.specs.declared.MveSound.{MveSound}
 use Rattle.mve.specs.declared.MveState.{MveState}
 use Rattle.mve.specs.declared.MveStep.{MveStep}
-use Rattle.mve.specs.Film.{flagOf, numberOf, soundOf, sounds, withFormat, ofSound, mapOf, stateOf, numbers, withMap, ofState, stepped, ofAnswer, ofStep, ofOpening, exported, ofOutcome}
+use Rattle.mve.specs.Film.{spareOf, flagOf, numberOf, soundOf, sounds, withFormat, ofSound, mapOf, stateOf, numbers, withMap, ofState, stepped, ofAnswer, ofStep, ofOpening, exported, ofOutcome}
 
 pub no-map : (has start long : ℕ) → has ≡ 0 → Missing ≡ mapOf has start long
 unfolding mapOf
@@ -124,9 +125,10 @@ module _ (o : Opening) (x : Opened) (e : openedAs x ≡ o) (a : MveStep) where
   not-opened-as r k q = rw (← e, k) q
 
 -- a step, by what the film's step left
-pub step-exported : (m : MveState) (st : State) (film : List ℕ) (allowed : ℕ) (l : Lent) (x : Step) (r : MveStep) (l′ : Lent)
-    → st ≡ stateOf m → after x l′ ≡ stepOf film st allowed l → r ≡ ofStep m x → exported r l′ ≡ ofOutcome m (stepOf film (stateOf m) allowed l)
-step-exported m st film allowed l x r l′ e h f = rw (← e, ← h, f)
+pub step-exported : (m : MveState) (st : State) (film : List ℕ) (n spare form : ℕ) (l : Lent) (x : Step) (r : MveStep) (l′ : Lent)
+    → st ≡ stateOf m → spare ≡ spareOf form → after x l′ ≡ stepOf film st (within n spare) l → r ≡ ofStep m x
+    → exported r l′ ≡ ofOutcome m (stepOf film (stateOf m) (within n (spareOf form)) l)
+step-exported m st film n spare form l x r l′ e g h f = rw (← e, ← g, ← h, f)
 
 pub shown-length : (m : MveState) (st : State) (a b s : List ℕ) → st ≡ stateOf m → s ≡ shownOf st a b → length s ≡ length (shownOf (stateOf m) a b)
 shown-length m st a b s e q = rw (q, e)

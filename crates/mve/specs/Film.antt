@@ -17,6 +17,7 @@ use Rattle.film.specs.Film.{Lent, Outcome}
 use Rattle.mve.specs.declared.MveSound.{MveSound}
 use Rattle.mve.specs.declared.MveState.{MveState}
 use Rattle.mve.specs.declared.MveStep.{MveStep}
+use Rattle.packet.specs.Verdict.{default, strict}
 
 -- ---- states
 
@@ -99,6 +100,10 @@ ofStep m x = ofAnswer m (x .answer) (x .stores) (x .bytes)
 unfoldable pub ofOpening : Opening → MveStep
 ofOpening (started st) = stepped 0 0 0 0 0 (ofState st)
 ofOpening (refuses number block) = stepped 4 number block 0 0 (numbers 0 0 0 0 0 0 0 0 0 (sounds 0 0 0 0 0 0 0 0))
+
+-- the bytes of a packet that may be left over, by a number that chooses the form: 0 the default, any other the strict one
+unfoldable pub spareOf : ℕ → ℕ
+spareOf form = cond (eqb form 0) default strict
 
 -- an answer, and what is lent afterwards
 pub record Exported : Type 0 where

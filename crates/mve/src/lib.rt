@@ -1,4 +1,5 @@
 // The interface for C and Rust. Nothing is done here but to hand on and to write answers as numbers.
+use draw::Allowed;
 use draw::Drawn;
 use opcodes::Stepped;
 use opening::Opened;
@@ -19,12 +20,12 @@ ghost use Rattle.state.specs.State.{shownOf};
 ghost use Rattle.opening.specs.Opening.{openingOf};
 ghost use Rattle.opcodes.specs.Opcodes.{steppedAs};
 ghost use Rattle.film.specs.Film.{lent, stepOf};
-ghost use Rattle.packet.specs.Verdict.{verdict};
+ghost use Rattle.packet.specs.Verdict.{default, strict, told, verdict};
 ghost use Rattle.stores.specs.Stores.{memory};
 ghost use Rattle.stores.specs.Calls.{reply};
-ghost use Rattle.draw.specs.Call.{request, calling, pictures, leaves};
+ghost use Rattle.draw.specs.Call.{within, request, calling, pictures, leaves, said};
 ghost use Rattle.mve.specs.Answer.{ofVerdict, ofOutcome};
-ghost use Rattle.mve.specs.Film.{flagOf, numberOf, soundOf, sounds, ofSound, mapOf, stateOf, numbers, ofState, stepped, ofStep, ofOpening, exported, ofOutcome as ofFilm};
+ghost use Rattle.mve.specs.Film.{spareOf, flagOf, numberOf, soundOf, sounds, ofSound, mapOf, stateOf, numbers, ofState, stepped, ofStep, ofOpening, exported, ofOutcome as ofFilm};
 
 // kind: 0 accepted, 1 whole, 2 unfinished, 4 refused. number and block: of a refusal, else 0. stores: how many were made.
 #[repr(C)]
@@ -46,12 +47,10 @@ fn refused(r: Refusal) -> MveAnswer
     }
 }
 
-// Whether a packet is accepted for a picture of columns by rows blocks.
-#[no_mangle]
-pub extern "C" fn mve_check(columns: usize, rows: usize, map: &[u8], data: &[u8]) -> MveAnswer
-    ensures { λ r. ⌜ r ≡ ofVerdict (verdict columns rows (now (map .entry)) (now («data» .entry))) ⌝ }
+fn of_check(c: Checked) -> MveAnswer
+    ensures { λ r. ⌜ r ≡ ofVerdict (told c) ⌝ }
 {
-    match packet::check(columns, rows, map, data) {
+    match c {
         Checked::Accepted => MveAnswer {
             kind: 0,
             number: 0,
@@ -62,22 +61,10 @@ pub extern "C" fn mve_check(columns: usize, rows: usize, map: &[u8], data: &[u8]
     }
 }
 
-// The drawing call.
-#[no_mangle]
-pub extern "C" fn mve_draw(
-    columns: usize,
-    rows: usize,
-    map: &[u8],
-    data: &[u8],
-    front: &[u8],
-    back: &mut [u8],
-    place: &mut usize,
-    allowed: usize,
-) -> MveAnswer
-    ensures { λ r. ⌜ pictures (now (front .exit)) (memory (now (back .exit)) (now (place .exit))) ≡ leaves (request columns rows (now (map .entry)) (now («data» .entry)) (now (front .entry)) allowed) (memory (now (back .entry)) (now (place .entry))) ⌝ }
-    ensures { λ r. ⌜ r ≡ ofOutcome (reply calling (memory (now (back .entry)) (now (place .entry))) (request columns rows (now (map .entry)) (now («data» .entry)) (now (front .entry)) allowed)) ⌝ }
+fn of_draw(d: Drawn) -> MveAnswer
+    ensures { λ r. ⌜ r ≡ ofOutcome (said d) ⌝ }
 {
-    match draw::draw(columns, rows, map, data, front, back, place, allowed) {
+    match d {
         Drawn::Whole(n) => MveAnswer {
             kind: 1,
             number: 0,
@@ -92,6 +79,65 @@ pub extern "C" fn mve_draw(
         },
         Drawn::Refused(r) => refused(r),
     }
+}
+
+// Whether a packet is accepted for a picture of columns by rows blocks.
+#[no_mangle]
+pub extern "C" fn mve_check(columns: usize, rows: usize, map: &[u8], data: &[u8]) -> MveAnswer
+    ensures { λ r. ⌜ r ≡ ofVerdict (verdict default columns rows (now (map .entry)) (now («data» .entry))) ⌝ }
+{
+    of_check(packet::check(columns, rows, map, data))
+}
+
+// The strict form: no byte may be left over.
+#[no_mangle]
+pub extern "C" fn mve_check_strict(
+    columns: usize,
+    rows: usize,
+    map: &[u8],
+    data: &[u8],
+) -> MveAnswer
+    ensures { λ r. ⌜ r ≡ ofVerdict (verdict strict columns rows (now (map .entry)) (now («data» .entry))) ⌝ }
+{
+    of_check(packet::check_strict(columns, rows, map, data))
+}
+
+// The drawing call.
+#[no_mangle]
+pub extern "C" fn mve_draw(
+    columns: usize,
+    rows: usize,
+    map: &[u8],
+    data: &[u8],
+    front: &[u8],
+    back: &mut [u8],
+    place: &mut usize,
+    allowed: usize,
+) -> MveAnswer
+    ensures { λ r. ⌜ pictures (now (front .exit)) (memory (now (back .exit)) (now (place .exit))) ≡ leaves (request columns rows (now (map .entry)) (now («data» .entry)) (now (front .entry)) (within allowed default)) (memory (now (back .entry)) (now (place .entry))) ⌝ }
+    ensures { λ r. ⌜ r ≡ ofOutcome (reply calling (memory (now (back .entry)) (now (place .entry))) (request columns rows (now (map .entry)) (now («data» .entry)) (now (front .entry)) (within allowed default))) ⌝ }
+{
+    let d = draw::draw(columns, rows, map, data, front, back, place, allowed);
+    of_draw(d)
+}
+
+// The strict form: no byte may be left over.
+#[no_mangle]
+pub extern "C" fn mve_draw_strict(
+    columns: usize,
+    rows: usize,
+    map: &[u8],
+    data: &[u8],
+    front: &[u8],
+    back: &mut [u8],
+    place: &mut usize,
+    allowed: usize,
+) -> MveAnswer
+    ensures { λ r. ⌜ pictures (now (front .exit)) (memory (now (back .exit)) (now (place .exit))) ≡ leaves (request columns rows (now (map .entry)) (now («data» .entry)) (now (front .entry)) (within allowed strict)) (memory (now (back .entry)) (now (place .entry))) ⌝ }
+    ensures { λ r. ⌜ r ≡ ofOutcome (reply calling (memory (now (back .entry)) (now (place .entry))) (request columns rows (now (map .entry)) (now («data» .entry)) (now (front .entry)) (within allowed strict))) ⌝ }
+{
+    let d = draw::draw_strict(columns, rows, map, data, front, back, place, allowed);
+    of_draw(d)
 }
 
 // The sound that a state keeps. stream: the one that opening was given. has_format: 0 before a 03; where it is 0, nothing below is read. stereo, wide, compressed: what
@@ -363,9 +409,20 @@ pub extern "C" fn mve_open(film: &[u8], stream: usize) -> MveStep
     }
 }
 
-// One step over a film.
+// The bytes of a packet that may be left over: one, or in the strict form none.
+fn spare_of(strict: usize) -> usize
+    ensures { λ r. ⌜ r ≡ spareOf strict ⌝ }
+{
+    if strict == 0 {
+        return 1;
+    }
+    0
+}
+
+// One step over a film, in the default form where strict is 0, else in the strict form. Both forms are one export: a second one would call the same step, and
+// that would cost a frame with a state and an answer in it.
 #[no_mangle]
-pub extern "C" fn mve_step(
+pub extern "C" fn mve_step_as(
     film: &[u8],
     state: MveState,
     palette: &mut [u8],
@@ -374,11 +431,25 @@ pub extern "C" fn mve_step(
     place: &mut usize,
     room: &mut [u8],
     allowed: usize,
+    strict: usize,
 ) -> MveStep
-    ensures { λ r. ⌜ exported r (lent (now (palette .exit)) (now (a .exit)) (now (b .exit)) (now (place .exit)) (now (room .exit))) ≡ ofFilm state (stepOf (now (film .entry)) (stateOf state) allowed (lent (now (palette .entry)) (now (a .entry)) (now (b .entry)) (now (place .entry)) (now (room .entry)))) ⌝ }
+    ensures { λ r. ⌜ exported r (lent (now (palette .exit)) (now (a .exit)) (now (b .exit)) (now (place .exit)) (now (room .exit))) ≡ ofFilm state (stepOf (now (film .entry)) (stateOf state) (within allowed (spareOf strict)) (lent (now (palette .entry)) (now (a .entry)) (now (b .entry)) (now (place .entry)) (now (room .entry)))) ⌝ }
 {
     let st = state_of(state);
-    let x = film::step(film, st, palette, a, b, place, room, allowed);
+    let spare = spare_of(strict);
+    let x = film::step_within(
+        film,
+        st,
+        palette,
+        a,
+        b,
+        place,
+        room,
+        Allowed {
+            stores: allowed,
+            spare,
+        },
+    );
     of_step(state, x)
 }
 

@@ -1,5 +1,5 @@
 -- A packet is accepted exactly when its size is legal, its map has a nibble for each block, every block's code is not 6, its data bytes are there, its
--- copy lies inside, and all bytes are used up: `accepted-exactly`.
+-- copy lies inside, and all bytes are used up but for those that may be left over: `accepted-exactly`.
 -- Assumes nothing.
 use mathlib.Core.Path.{_≡_, refl, sym, ap, _∙_, subst}
 use mathlib.Core.Bool.{Bool, true, false, cond}
@@ -8,7 +8,7 @@ use mathlib.Core.Logic.{_⊎_, inl, inr, ⊎-elim}
 use Prim.Native.Nat.{ℕ, zero, suc, _+_, _-_, _*_, _/_, _%_, _≤_, _<_, zero-le}
 use native.Mathlib.Omega.{arith}
 use native.Mathlib.Nat.{eq-or-lt-of-le}
-use borrow.Author.Tests.{le-ltb, eq-eqb, ltb-false, eqb-true}
+use borrow.Author.Tests.{le-ltb, le-leb, eq-eqb, ltb-false, leb-true, eqb-true}
 use lib.ListN.{length, length-drop}
 use Rattle.words.proofs.Tests.{not-first, first}
 use Rattle.refusal.specs.Number.{Verdict, accept, refuse}
@@ -97,61 +97,71 @@ unfolding andThen
 both accept u e = (refl, e)
 both (refuse n k) u e = absurd (refuses n k e)
 
--- n blocks from block k on, and nothing left over
-From : Packet → ℕ → ℕ → Type 0
-From p n k = ((j : ℕ) → k ≤ j → j < k + n → Takes p j) × (start p (k + n) ≡ length (p .bytes))
+-- n blocks from block k on, and no more left over than may be
+From : ℕ → Packet → ℕ → ℕ → Type 0
+From spare p n k = ((j : ℕ) → k ≤ j → j < k + n → Takes p j) × (length (p .bytes) ≤ start p (k + n) + spare)
 
-from-verdict : (p : Packet) (n k : ℕ) → start p k ≤ length (p .bytes) → verdictFrom p n k ≡ accept → From p n k
+from-verdict : (spare : ℕ) (p : Packet) (n k : ℕ) → start p k ≤ length (p .bytes) → verdictFrom spare p n k ≡ accept → From spare p n k
 unfolding verdictFrom endVerdict From
-from-verdict p zero k h e =
+from-verdict spare p zero k h e =
     let z : k + 0 ≡ k = omega arith in
-    (λ j a b. absurd (let y : ⊥ = omega arith in y), ap (start p) z ∙ eqb-true _ _ (first _ _ _ _ (refuses 15 0) e .0))
-from-verdict p (suc n) k h e =
+    (λ j a b. absurd (let y : ⊥ = omega arith in y), rw z (leb-true _ _ (first _ _ _ _ (refuses 15 0) e .0)))
+from-verdict spare p (suc n) k h e =
     let s = both _ _ e in
     let t = takes p k h (s .0) in
-    let r = from-verdict p n (suc k) (next-within p k t) (s .1) in
+    let r = from-verdict spare p n (suc k) (next-within p k t) (s .1) in
     let z : k + suc n ≡ suc k + n = omega arith in (
       λ j a b.
           ⊎-elim (λ (q : k ≡ j). subst (Takes p) q t) (λ (q : k < j). r .0 j q (omega arith)) (eq-or-lt-of-le a),
-      ap (start p) z ∙ r .1,
+      rw z (r .1),
     )
 
-verdict-from : (p : Packet) (n k : ℕ) → start p k ≤ length (p .bytes) → From p n k → verdictFrom p n k ≡ accept
+verdict-from : (spare : ℕ) (p : Packet) (n k : ℕ) → start p k ≤ length (p .bytes) → From spare p n k → verdictFrom spare p n k ≡ accept
 unfolding verdictFrom endVerdict From andThen
-verdict-from p zero k h f = let z : k + 0 ≡ k = omega arith in rw (eq-eqb _ _ (ap (start p) (sym z) ∙ f .1))
-verdict-from p (suc n) k h f =
+verdict-from spare p zero k h f =
+    let z : k + 0 ≡ k = omega arith in
+    let q : length (p .bytes) ≤ start p k + spare = rw z at (f .1) in
+    rw (le-leb _ _ q)
+verdict-from spare p (suc n) k h f =
     let t = f .0 k (omega arith) (omega arith) in
     let z : suc k + n ≡ k + suc n = omega arith in
-    let g : From p n (suc k) = (λ j a b. f .0 j (omega arith) (omega arith), ap (start p) z ∙ f .1) in
-    rw (taken p k h t) (verdict-from p n (suc k) (next-within p k t) g)
+    let g : From spare p n (suc k) = (λ j a b. f .0 j (omega arith) (omega arith), rw z (f .1)) in
+    rw (taken p k h t) (verdict-from spare p n (suc k) (next-within p k t) g)
 
 start-within : (p : Packet) → start p 0 ≤ length (p .bytes)
 unfolding startOf
 start-within p = zero-le
 
-pub whole-is : (p : Packet) → blocksVerdict p ≡ accept → Whole p
-unfolding blocksVerdict From
-whole-is p e =
-    let f = from-verdict p (blocks p) 0 (start-within p) e in
-    let z : 0 + blocks p ≡ blocks p = omega arith in
-    record { each = λ k h. f .0 k zero-le (omega arith); used = ap (start p) (sym z) ∙ f .1 }
+module _ (spare : ℕ) (p : Packet) where
+  pub whole-is : blocksVerdict spare p ≡ accept → Whole p × (length (p .bytes) ≤ start p (blocks p) + spare)
+  unfolding blocksVerdict From
+  whole-is e =
+      let f = from-verdict spare p (blocks p) 0 (start-within p) e in
+      let z : blocks p ≡ 0 + blocks p = omega arith in
+      (λ k h. f .0 k zero-le (omega arith), rw z (f .1))
 
-pub is-whole : (p : Packet) → Whole p → blocksVerdict p ≡ accept
-unfolding blocksVerdict From
-is-whole p w =
-    let z : 0 + blocks p ≡ blocks p = omega arith in
-    verdict-from p (blocks p) 0 (start-within p) (λ j a b. w .each j (omega arith), ap (start p) z ∙ w .used)
+  pub is-whole : Whole p → length (p .bytes) ≤ start p (blocks p) + spare → blocksVerdict spare p ≡ accept
+  unfolding blocksVerdict From
+  is-whole w u =
+      let z : 0 + blocks p ≡ blocks p = omega arith in
+      verdict-from spare p (blocks p) 0 (start-within p) (λ j a b. w j (omega arith), rw z u)
 
 -- ---- the whole check
 
-pub accepted-exactly : (columns rows : ℕ) (map bytes : List ℕ)
-    → (verdict columns rows map bytes ≡ accept → Accepts columns rows map bytes) × (Accepts columns rows map bytes → verdict columns rows map bytes ≡ accept)
+pub accepted-exactly : (spare columns rows : ℕ) (map bytes : List ℕ)
+    → (verdict spare columns rows map bytes ≡ accept → Accepts spare columns rows map bytes) × (Accepts spare columns rows map bytes → verdict spare columns rows map bytes ≡ accept)
 unfolding verdict mapFits
-accepted-exactly columns rows map bytes = (
+accepted-exactly spare columns rows map bytes = (
   λ e.
       let a = first _ _ _ _ (refuses 6 0) e in
       let b = first _ _ _ _ (refuses 10 0) (a .1) in
       let l = size-is columns rows (a .0) in
-      record { wide = l .0; high = l .1; mapped = eqb-true _ _ (b .0); drawn = whole-is (packet columns rows map bytes) (b .1) },
-  λ a. rw (is-size columns rows (a .wide) (a .high), eq-eqb _ _ (a .mapped), is-whole (packet columns rows map bytes) (a .drawn)),
+      let w = whole-is spare (packet columns rows map bytes) (b .1) in
+      record { wide = l .0; high = l .1; mapped = eqb-true _ _ (b .0); drawn = w .0; used = w .1 },
+  λ a. rw (is-size columns rows (a .wide) (a .high), eq-eqb _ _ (a .mapped), is-whole spare (packet columns rows map bytes) (a .drawn) (a .used)),
 )
+
+-- what is accepted is accepted where more may be left over
+pub accepts-more : (spare spare′ columns rows : ℕ) (map bytes : List ℕ) → spare ≤ spare′ → Accepts spare columns rows map bytes → Accepts spare′ columns rows map bytes
+accepts-more spare spare′ columns rows map bytes h a =
+    record { wide = a .wide; high = a .high; mapped = a .mapped; drawn = a .drawn; used = omega (arith, a .used, h) }

@@ -3,3 +3,5 @@ pub mod Walk
 pub mod Sizes
 pub mod Exactly
 pub mod Apart
+pub mod Agree
+pub mod Forms

@@ -38,33 +38,35 @@ pub is-size : (columns rows : ℕ) → Legal 80 columns → Legal 60 rows → le
 unfolding legalSize
 is-size columns rows a b = rw (is-legal 80 columns a, is-legal 60 rows b)
 
+-- with a map that has a nibble a block
+pub is-sized : (columns rows : ℕ) (map bytes : List ℕ) → legalSize columns rows ≡ true → length map ≡ (blocks (packet columns rows map bytes) + 1) / 2
+    → Sized (packet columns rows map bytes)
+is-sized columns rows map bytes e m =
+    let l = size-is columns rows e in
+    record {
+      some-columns = l .0 .least;
+      columns = l .0 .bound;
+      some-rows = l .1 .least;
+      rows = l .1 .bound;
+      mapped = m;
+    }
+
 -- ---- the verdict
 
-module _ (columns rows : ℕ) (map bytes : List ℕ) where
-  pub refuses-6 : legalSize columns rows ≡ false → refuse 6 0 ≡ verdict columns rows map bytes
+module _ (spare columns rows : ℕ) (map bytes : List ℕ) where
+  pub refuses-6 : legalSize columns rows ≡ false → refuse 6 0 ≡ verdict spare columns rows map bytes
   unfolding verdict
   refuses-6 e = rw e
 
   module _ (e : legalSize columns rows ≡ true) where
-    pub refuses-10 : (length map ≡ (blocks (packet columns rows map bytes) + 1) / 2 → ⊥) → refuse 10 0 ≡ verdict columns rows map bytes
+    pub refuses-10 : (length map ≡ (blocks (packet columns rows map bytes) + 1) / 2 → ⊥) → refuse 10 0 ≡ verdict spare columns rows map bytes
     unfolding verdict mapFits
     refuses-10 n = rw (e, ne-eqb _ _ n)
 
     module _ (m : length map ≡ (blocks (packet columns rows map bytes) + 1) / 2) where
-      pub judges-blocks : (v : Verdict) → v ≡ blocksVerdict (packet columns rows map bytes) → v ≡ verdict columns rows map bytes
+      pub judges-blocks : (v : Verdict) → v ≡ blocksVerdict spare (packet columns rows map bytes) → v ≡ verdict spare columns rows map bytes
       unfolding verdict mapFits
       judges-blocks v q = rw (e, eq-eqb _ _ m) q
-
-      pub is-sized : Sized (packet columns rows map bytes)
-      is-sized =
-          let l = size-is columns rows e in
-          record {
-            some-columns = l .0 .least;
-            columns = l .0 .bound;
-            some-rows = l .1 .least;
-            rows = l .1 .bound;
-            mapped = m;
-          }
 
 -- a picture has few blocks, and few pixels
 pub few : (columns rows : ℕ) → legalSize columns rows ≡ true → columns * rows ≤ 4800

@@ -7,7 +7,7 @@ use Prim.Native.Nat.{ℕ, zero, suc, _+_, _-_, _*_, _/_, _%_, _≤_, _<_, zero-l
 use native.Mathlib.Omega.{arith}
 use native.Mathlib.Numerals.{add-one}
 use native.Mathlib.Nat.{zero-mod, zero-div, mul-le-mul}
-use borrow.Author.Tests.{lt-ltb, le-ltb, eq-eqb, ne-eqb}
+use borrow.Author.Tests.{lt-ltb, le-ltb, lt-leb, le-leb}
 use lib.Dec.{eqb}
 use lib.ListN.{length, take, drop, getD, length-drop}
 use lib.Seq.{take-all}
@@ -32,13 +32,13 @@ code-below map k = nibble-below (getD map (k / 2) 0) (eqb (k % 2) 0)
 -- ---- what is known at block k
 
 -- at: the position of its data. x, y: its corner
-pub record Walked (p : Packet) (k at x y : ℕ) : Type 0 where
+pub record Walked (spare : ℕ) (p : Packet) (k at x y : ℕ) : Type 0 where
   pub below : k ≤ blocks p
   pub found : at ≡ start p k
   pub within : at ≤ length (p .bytes)
   pub across : x ≡ left p k
   pub down : y ≡ top p k
-  pub verdict : verdictFrom p (blocks p - k) k ≡ blocksVerdict p
+  pub verdict : verdictFrom spare p (blocks p - k) k ≡ blocksVerdict spare p
 
 -- its code, its data and its length, as code found them
 pub record Seen (p : Packet) (k at c l : ℕ) (s : List ℕ) : Type 0 where
@@ -46,9 +46,9 @@ pub record Seen (p : Packet) (k at c l : ℕ) (s : List ℕ) : Type 0 where
   pub part : s ≡ take (length (p .bytes) - at) (drop at (p .bytes))
   pub long : l ≡ dataLength (kindOf c s)
 
-pub walked-start : (p : Packet) → Walked p 0 0 0 0
+pub walked-start : (spare : ℕ) (p : Packet) → Walked spare p 0 0 0 0
 unfolding startOf blocksVerdict
-walked-start p =
+walked-start spare p =
     let e : blocks p - 0 ≡ blocks p = omega arith in
     record {
       below = zero-le;
@@ -60,19 +60,21 @@ walked-start p =
     }
 
 -- the last of them: what is left over
-pub walked-end : (p : Packet) (k at x y : ℕ) → Walked p k at x y → blocks p ≤ k → blocksVerdict p ≡ endVerdict p k
+pub walked-end : (spare : ℕ) (p : Packet) (k at x y : ℕ) → Walked spare p k at x y → blocks p ≤ k → blocksVerdict spare p ≡ endVerdict spare p k
 unfolding verdictFrom
-walked-end p k at x y w h = let e : blocks p - k ≡ 0 = omega (arith, w .below) in sym (w .verdict) ∙ rw e
+walked-end spare p k at x y w h = let e : blocks p - k ≡ 0 = omega (arith, w .below) in sym (w .verdict) ∙ rw e
 
-pub used-up : (p : Packet) (k at x y : ℕ) → Walked p k at x y → blocks p ≤ k → length (p .bytes) - at < 1 → accept ≡ blocksVerdict p
+pub used-up : (spare : ℕ) (p : Packet) (k at x y : ℕ) → Walked spare p k at x y → blocks p ≤ k → length (p .bytes) - at ≤ spare → accept ≡ blocksVerdict spare p
 unfolding endVerdict
-used-up p k at x y w h e =
-    let q : start p k ≡ length (p .bytes) = omega (arith, w .found, w .within) in
-    rw (walked-end p k at x y w h, eq-eqb _ _ q)
+used-up spare p k at x y w h e =
+    let q : length (p .bytes) ≤ start p k + spare = omega (arith, w .found, w .within) in
+    rw (walked-end spare p k at x y w h, le-leb _ _ q)
 
-pub left-over : (p : Packet) (k at x y : ℕ) → Walked p k at x y → blocks p ≤ k → 1 ≤ length (p .bytes) - at → refuse 15 0 ≡ blocksVerdict p
+pub left-over : (spare : ℕ) (p : Packet) (k at x y : ℕ) → Walked spare p k at x y → blocks p ≤ k → spare < length (p .bytes) - at → refuse 15 0 ≡ blocksVerdict spare p
 unfolding endVerdict
-left-over p k at x y w h n = rw (walked-end p k at x y w h, ne-eqb (start p k) (length (p .bytes)) (λ e. omega (arith, w .found)))
+left-over spare p k at x y w h n =
+    let q : start p k + spare < length (p .bytes) = omega (arith, w .found) in
+    rw (walked-end spare p k at x y w h, lt-leb _ _ q)
 
 -- what the map and the corner ask where they are read
 pub mapped : (p : Packet) (k : ℕ) → Sized p → k < blocks p → k / 2 < length (p .map)
@@ -81,7 +83,7 @@ mapped p k z h = omega (arith, z .mapped)
 pub blocks-few : (p : Packet) → Sized p → blocks p ≤ 4800
 blocks-few p z = mul-le-mul (z .columns) (z .rows)
 
-module _ (p : Packet) (k at x y c l : ℕ) (s : List ℕ) (z : Sized p) (w : Walked p k at x y) (h : k < blocks p) where
+module _ (spare : ℕ) (p : Packet) (k at x y c l : ℕ) (s : List ℕ) (z : Sized p) (w : Walked spare p k at x y) (h : k < blocks p) where
   pub corner : (x + 8 ≤ width p) × (y + 8 ≤ height p)
   corner =
       let cs : 0 < p .columns = omega (arith, z .some-columns) in
@@ -100,11 +102,11 @@ module _ (p : Packet) (k at x y c l : ℕ) (s : List ℕ) (z : Sized p) (w : Wal
     length-is = ap length data-is ∙ length-drop (start p k) (p .bytes) ∙ ap (λ (n : ℕ). length (p .bytes) - n) (sym (w .found))
 
     -- the verdict from block k on begins with block k's
-    first : blocksVerdict p ≡ andThen (blockVerdict p k) (verdictFrom p (blocks p - suc k) (suc k))
+    first : blocksVerdict spare p ≡ andThen (blockVerdict p k) (verdictFrom spare p (blocks p - suc k) (suc k))
     unfolding verdictFrom
     first = let q : blocks p - k ≡ suc (blocks p - suc k) = omega arith in sym (w .verdict) ∙ rw q
 
-    pub refuses-12 : c ≡ 6 → refuse 12 k ≡ blocksVerdict p
+    pub refuses-12 : c ≡ 6 → refuse 12 k ≡ blocksVerdict spare p
     unfolding blockVerdict andThen
     refuses-12 q = rw (first, ← kind-is, code-refused s c q)
 
@@ -112,17 +114,17 @@ module _ (p : Packet) (k at x y c l : ℕ) (s : List ℕ) (z : Sized p) (w : Wal
       known : isRefused (kindOf c s) ≡ false
       known = code-known s c (rw (e .code) (code-below (p .map) k)) n
 
-      pub refuses-13 : length s < l → refuse 13 k ≡ blocksVerdict p
+      pub refuses-13 : length s < l → refuse 13 k ≡ blocksVerdict spare p
       unfolding blockVerdict andThen
       refuses-13 q = rw (first, ← kind-is, known, ← e .long, ← data-is, lt-ltb _ _ q)
 
       module _ (q : l ≤ length s) where
-        pub refuses-14 : false ≡ copyInside (kindOf c s) (width p) (height p) x y → refuse 14 k ≡ blocksVerdict p
+        pub refuses-14 : false ≡ copyInside (kindOf c s) (width p) (height p) x y → refuse 14 k ≡ blocksVerdict spare p
         unfolding blockVerdict andThen
         refuses-14 f = rw (first, ← kind-is, known, ← e .long, ← data-is, le-ltb _ _ q, ← w .across, ← w .down, ← f)
 
         module _ (f : true ≡ copyInside (kindOf c s) (width p) (height p) x y) where
-          pub goes-on : verdictFrom p (blocks p - (k + 1)) (k + 1) ≡ blocksVerdict p
+          pub goes-on : verdictFrom spare p (blocks p - (k + 1)) (k + 1) ≡ blocksVerdict spare p
           unfolding blockVerdict andThen
           goes-on = rw (first, ← kind-is, known, ← e .long, ← data-is, le-ltb _ _ q, ← w .across, ← w .down, ← f, add-one k)
 
@@ -131,7 +133,7 @@ module _ (p : Packet) (k at x y c l : ℕ) (s : List ℕ) (z : Sized p) (w : Wal
           next-found = rw (add-one k, e .long, kind-is, w .found)
 
           -- the next block, in this row or the next
-          pub walked-right : (x + 8 ≡ width p → ⊥) → Walked p (k + 1) (at + l) (x + 8) y
+          pub walked-right : (x + 8 ≡ width p → ⊥) → Walked spare p (k + 1) (at + l) (x + 8) y
           walked-right r =
               let t : k % p .columns + 1 < p .columns = omega (arith, w .across, corner .0, r) in
               let m = next-column (p .columns) k t in
@@ -144,7 +146,7 @@ module _ (p : Packet) (k at x y c l : ℕ) (s : List ℕ) (z : Sized p) (w : Wal
                 verdict = goes-on;
               }
 
-          pub walked-down : x + 8 ≡ width p → Walked p (k + 1) (at + l) 0 (y + 8)
+          pub walked-down : x + 8 ≡ width p → Walked spare p (k + 1) (at + l) 0 (y + 8)
           walked-down r =
               let cs : 0 < p .columns = omega (arith, z .some-columns) in
               let m = next-row (p .columns) k cs (omega (arith, w .across, r)) in

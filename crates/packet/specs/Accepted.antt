@@ -33,13 +33,14 @@ pub record Takes (p : Packet) (k : ℕ) : Type 0 where
   pub there : start p k + dataLength (kind p k) ≤ length (p .bytes)
   pub inside : CopyInside (kind p k) (width p) (height p) (left p k) (top p k)
 
--- every block is taken, and all bytes are used up
-pub record Whole (p : Packet) : Type 0 where
-  pub each : (k : ℕ) → k < blocks p → Takes p k
-  pub used : start p (blocks p) ≡ length (p .bytes)
+-- every block is taken
+abbrev pub Whole : Packet → Type 0
+Whole p = (k : ℕ) → k < blocks p → Takes p k
 
-pub record Accepts (columns rows : ℕ) (map bytes : List ℕ) : Type 0 where
+-- all bytes are used up but for so many that may be left over
+pub record Accepts (spare columns rows : ℕ) (map bytes : List ℕ) : Type 0 where
   pub wide : Legal 80 columns
   pub high : Legal 60 rows
   pub mapped : length map ≡ (blocks (packet columns rows map bytes) + 1) / 2
   pub drawn : Whole (packet columns rows map bytes)
+  pub used : length bytes ≤ start (packet columns rows map bytes) (blocks (packet columns rows map bytes)) + spare

@@ -2,3 +2,4 @@ pub mod Packet
 pub mod Verdict
 pub mod Accepted
 pub mod Asked
+pub mod Forms

@@ -1,4 +1,5 @@
 -- The verdict on a packet, in document 01's order: 6, 10, then block by block 12, 13, 14, then 15.
+-- Document 02, W6: one byte may be left over; in the strict form none. Both are one definition, over the bytes that may be (`spare`).
 -- Assumes nothing.
 use mathlib.Core.Bool.{Bool, true, false, cond}
 use mathlib.Core.List.{List}
@@ -28,18 +29,25 @@ blockVerdict p k =
     (cond (ltb (length (dataOf p k)) (dataLength (kind p k))) (refuse 13 k)
     (cond (copyInside (kind p k) (width p) (height p) (left p k) (top p k)) accept (refuse 14 k)))
 
--- 15: the bytes that n blocks leave over
-unfoldable pub endVerdict : Packet → ℕ → Verdict
-endVerdict p n = cond (eqb (start p n) (length (p .bytes))) accept (refuse 15 0)
+-- bytes of a packet that may be left over
+abbrev pub default : ℕ
+default = 1
+
+abbrev pub strict : ℕ
+strict = 0
+
+-- 15: n blocks leave over more than may be
+unfoldable pub endVerdict : ℕ → Packet → ℕ → Verdict
+endVerdict spare p n = cond (leb (length (p .bytes)) (start p n + spare)) accept (refuse 15 0)
 
 -- n blocks from block k on, the lowest first, then what is left over
-unfoldable pub verdictFrom : Packet → ℕ → ℕ → Verdict
-verdictFrom p zero k = endVerdict p k
-verdictFrom p (suc n) k = andThen (blockVerdict p k) (verdictFrom p n (suc k))
+unfoldable pub verdictFrom : ℕ → Packet → ℕ → ℕ → Verdict
+verdictFrom spare p zero k = endVerdict spare p k
+verdictFrom spare p (suc n) k = andThen (blockVerdict p k) (verdictFrom spare p n (suc k))
 
 -- 12 to 15
-unfoldable pub blocksVerdict : Packet → Verdict
-blocksVerdict p = verdictFrom p (blocks p) 0
+unfoldable pub blocksVerdict : ℕ → Packet → Verdict
+blocksVerdict spare p = verdictFrom spare p (blocks p) 0
 
 -- 10: a nibble a block
 unfoldable pub mapFits : Packet → Bool
@@ -52,7 +60,7 @@ legal most n = cond (ltb n 1) false (leb n most)
 unfoldable pub legalSize : ℕ → ℕ → Bool
 legalSize columns rows = cond (legal 80 columns) (legal 60 rows) false
 
--- the check called alone: columns and rows of blocks, map, data
-unfoldable pub verdict : ℕ → ℕ → List ℕ → List ℕ → Verdict
-verdict columns rows map bytes =
-    cond (legalSize columns rows) (cond (mapFits (packet columns rows map bytes)) (blocksVerdict (packet columns rows map bytes)) (refuse 10 0)) (refuse 6 0)
+-- the check called alone: bytes that may be left over, columns and rows of blocks, map, data
+unfoldable pub verdict : ℕ → ℕ → ℕ → List ℕ → List ℕ → Verdict
+verdict spare columns rows map bytes =
+    cond (legalSize columns rows) (cond (mapFits (packet columns rows map bytes)) (blocksVerdict spare (packet columns rows map bytes)) (refuse 10 0)) (refuse 6 0)

@@ -8,7 +8,7 @@ ghost use mathlib.Core.Path.{_≡_};
 ghost use Prim.Native.Nat.{_*_, _≤_};
 ghost use lib.ListN.{length};
 ghost use Rattle.packet.specs.Packet.{packet, startOf};
-ghost use Rattle.packet.specs.Verdict.{told, legal, legalSize, blocksVerdict, verdict};
+ghost use Rattle.packet.specs.Verdict.{told, legal, legalSize, default, strict, blocksVerdict, verdict};
 ghost use Rattle.packet.specs.Asked.{Sized};
 
 // What the check of a packet finds.
@@ -51,10 +51,10 @@ pub fn data_position(map: &[u8], data: &[u8], k: usize) -> usize
     at
 }
 
-// The blocks of a packet in order, and then what they leave over.
-pub fn check_blocks(columns: usize, rows: usize, map: &[u8], data: &[u8]) -> Checked
+// The blocks of a packet in order, and then what they leave over: at most spare bytes.
+pub fn check_blocks(spare: usize, columns: usize, rows: usize, map: &[u8], data: &[u8]) -> Checked
     requires { ⌜ Sized (packet columns rows (now map) (now «data»)) ⌝ }
-    ensures { λ r. ⌜ told r ≡ blocksVerdict (packet columns rows (now (map .entry)) (now («data» .entry))) ⌝ }
+    ensures { λ r. ⌜ told r ≡ blocksVerdict spare (packet columns rows (now (map .entry)) (now («data» .entry))) ⌝ }
 {
     let n = columns * rows;
     let w = 8 * columns;
@@ -86,21 +86,35 @@ pub fn check_blocks(columns: usize, rows: usize, map: &[u8], data: &[u8]) -> Che
         }
     }
     let over = data.len() - at;
-    if over < 1 {
+    if over <= spare {
         return Checked::Accepted;
     }
     Checked::Refused(Refusal::LeftOver)
 }
 
-// Whether the rules accept a packet for a picture of columns by rows blocks, and if not, why.
-pub fn check(columns: usize, rows: usize, map: &[u8], data: &[u8]) -> Checked
-    ensures { λ r. ⌜ told r ≡ verdict columns rows (now (map .entry)) (now («data» .entry)) ⌝ }
+// Whether the rules accept a packet for a picture of columns by rows blocks, where so many bytes may be left over, and if not, why.
+fn check_leaving(spare: usize, columns: usize, rows: usize, map: &[u8], data: &[u8]) -> Checked
+    ensures { λ r. ⌜ told r ≡ verdict spare columns rows (now (map .entry)) (now («data» .entry)) ⌝ }
 {
     if is_legal_size(columns, rows) {
         if map.len() == (columns * rows + 1) / 2 {
-            return check_blocks(columns, rows, map, data);
+            return check_blocks(spare, columns, rows, map, data);
         }
         return Checked::Refused(Refusal::MapLength);
     }
     Checked::Refused(Refusal::Size)
+}
+
+// The check: one byte may be left over.
+pub fn check(columns: usize, rows: usize, map: &[u8], data: &[u8]) -> Checked
+    ensures { λ r. ⌜ told r ≡ verdict default columns rows (now (map .entry)) (now («data» .entry)) ⌝ }
+{
+    check_leaving(1, columns, rows, map, data)
+}
+
+// The strict check: no byte may be left over.
+pub fn check_strict(columns: usize, rows: usize, map: &[u8], data: &[u8]) -> Checked
+    ensures { λ r. ⌜ told r ≡ verdict strict columns rows (now (map .entry)) (now («data» .entry)) ⌝ }
+{
+    check_leaving(0, columns, rows, map, data)
 }

@@ -5,3 +5,4 @@ pub mod Recover
 pub mod Calls
 pub mod Within
 pub mod Example
+pub mod Agree

@@ -11,6 +11,7 @@ use lib.Seq.{drop-at}
 use Rattle.room.specs.Room.{written}
 use Rattle.stores.specs.Stores.{memory}
 use Rattle.stores.specs.Calls as drawing
+use Rattle.draw.specs.declared.Allowed.{Allowed}
 use Rattle.draw.specs.Call.{Reason, request, calling}
 use Rattle.words.specs.Word.{wordAt}
 use Rattle.sound.specs.declared.Sound.{Sound}
@@ -45,7 +46,7 @@ drawn-silent st p drawing.whole n = refl
 drawn-silent st p drawing.unfinished n = refl
 drawn-silent st p (drawing.refusal r) n = refl
 
-module _ (film : List ℕ) (st : State) (allowed : ℕ) (l : Lent) where
+module _ (film : List ℕ) (st : State) (allowed : Allowed) (l : Lent) where
   second-silent : (p : ℕ) (map packet : List ℕ) (m : Lent) → m .room ≡ l .room → RoomKept l (drawSecond st p map packet allowed m)
   unfolding called
   second-silent p map packet m e =

@@ -13,6 +13,7 @@ use Rattle.packet.specs.Verdict.{legalSize}
 use Rattle.stores.specs.Stores.{Memory, memory}
 use Rattle.stores.specs.Calls.{refusal, returns, cut, callOf, leave, leaveCut, outcome, happens, step, reply}
 use Rattle.stores.proofs.Within.{take-short}
+use Rattle.draw.specs.declared.Allowed.{Allowed}
 use Rattle.draw.specs.Call.{Request, request, reason, comes, calling}
 use Rattle.draw.proofs.Judged.{judged-6}
 use Rattle.book.specs.Beyond.{showing, SameCalls}
@@ -43,15 +44,15 @@ use Rattle.walk.specs.Beyond.{bytes, KeptFrom, Unwritten, SameTo, SameSt
 module _ (q : Request) (m : Memory) (e : legalSize (q .columns) (q .rows) ≡ false) where
   refused-leaves : step calling m q ≡ m
   unfolding leave comes
-  refused-leaves = rw (← judged-6 (q .columns) (q .rows) (q .map) (q .bytes) (length (q .front)) (length (m .picture)) (m .place) e) refl
+  refused-leaves = rw (← judged-6 (q .allowed .spare) (q .columns) (q .rows) (q .map) (q .bytes) (length (q .front)) (length (m .picture)) (m .place) e) refl
 
   refused-cuts : (j : ℕ) → happens calling m (cut q j) ≡ m
   unfolding happens leaveCut comes
-  refused-cuts j = rw (← judged-6 (q .columns) (q .rows) (q .map) (q .bytes) (length (q .front)) (length (m .picture)) (m .place) e) refl
+  refused-cuts j = rw (← judged-6 (q .allowed .spare) (q .columns) (q .rows) (q .map) (q .bytes) (length (q .front)) (length (m .picture)) (m .place) e) refl
 
   refused-says : reply calling m q ≡ record { answer = refusal (reason 6 0); count = 0 }
   unfolding outcome comes
-  refused-says = rw (← judged-6 (q .columns) (q .rows) (q .map) (q .bytes) (length (q .front)) (length (m .picture)) (m .place) e) refl
+  refused-says = rw (← judged-6 (q .allowed .spare) (q .columns) (q .rows) (q .map) (q .bytes) (length (q .front)) (length (m .picture)) (m .place) e) refl
 
 draw-kept : (q : Request) (m : Memory) → drop (area (q .columns) (q .rows)) (step calling m q .picture) ≡ drop (area (q .columns) (q .rows)) (m .picture)
 unfolding area callOf happens
@@ -90,7 +91,7 @@ kept-by n l false x y p q = q
 kept-swapped : (n : ℕ) (l : Lent) (o : Outcome) → KeptFrom n (swap l) o → KeptFrom n l (after (o .step) (swap (o .lent)))
 kept-swapped n l o k = record { first = k .second; second = k .first }
 
-module _ (film : List ℕ) (st : State) (allowed : ℕ) where
+module _ (film : List ℕ) (st : State) (allowed : Allowed) where
   kept-drawn : (p : ℕ) (map packet : List ℕ) (l : Lent) → KeptFrom (bytes st) l (drawSecond st p map packet allowed l)
   unfolding called
   kept-drawn p map packet l =
@@ -141,7 +142,7 @@ same-by n false x x′ y y′ p q = q
 same-swapped : (n : ℕ) (l m : Lent) → SameTo n l m → SameTo n (swap l) (swap m)
 same-swapped n l m s = record { palette = s .palette; first = s .second; second = s .first; place = s .place; room = s .room }
 
-module _ (film : List ℕ) (st : State) (allowed : ℕ) where
+module _ (film : List ℕ) (st : State) (allowed : Allowed) where
   same-drawn : (p : ℕ) (map packet : List ℕ) (l m : Lent) → SameTo (bytes st) l m
       → SameSteps (bytes st) (drawSecond st p map packet allowed l) (drawSecond st p map packet allowed m)
   unfolding called

@@ -16,6 +16,7 @@ use Rattle.packet.specs.Accepted.{Accepts}
 use Rattle.packet.proofs.Sizes.{is-size}
 use Rattle.stores.specs.Stores.{Memory, memory}
 use Rattle.stores.specs.Calls.{answered, outcome, reply}
+use Rattle.draw.specs.declared.Allowed.{Allowed}
 use Rattle.draw.specs.Call.{Request, request, drawVerdict, comes, calling}
 use Rattle.draw.specs.Taken.{DrawAccepts}
 use Rattle.draw.proofs.Exactly.{drawn-exactly}
@@ -47,7 +48,7 @@ drew-answered st p n true = tt
 drew-answered st p n false = tt
 
 module _ (st : State) (p : ℕ) (q : Request) (m : Memory) where
-  drew-accepted : drawVerdict q m ≡ accept → Drew (drawnStep st p (reply calling m q) .answer)
+  pub drew-accepted : drawVerdict q m ≡ accept → Drew (drawnStep st p (reply calling m q) .answer)
   unfolding outcome comes
   drew-accepted e = rw e (drew-answered st p _ _)
 
@@ -55,7 +56,7 @@ module _ (st : State) (p : ℕ) (q : Request) (m : Memory) where
   unfolding outcome comes drawnAs Drew
   accepted-drew = by (drawVerdict q m)
     where
-      by : (v : Verdict) → Drew (drawnStep st p (outcome (calling .plan q) m (comes v (q .allowed))) .answer) → v ≡ accept
+      by : (v : Verdict) → Drew (drawnStep st p (outcome (calling .plan q) m (comes v (q .allowed .stores))) .answer) → v ≡ accept
       by accept d = refl
       by (refuse n k) d = absurd d
 
@@ -89,7 +90,7 @@ not-taken : (s : State) → Drew (taken s) → ⊥
 unfolding Drew
 not-taken s d = d
 
-not-refused : (n k : ℕ) → Drew (refused n k) → ⊥
+pub not-refused : (n k : ℕ) → Drew (refused n k) → ⊥
 unfolding Drew
 not-refused n k d = d
 
@@ -122,21 +123,21 @@ not-quiet film st kind version body p =
 
 -- ---- opcode 11
 
-module _ (film : List ℕ) (st : State) (allowed : ℕ) where
+module _ (film : List ℕ) (st : State) (allowed : Allowed) where
   -- the call's tests, by the packet, the map and the place
   abbrev Accepted : List ℕ → List ℕ → Lent → Type 0
-  Accepted map packet l = DrawAccepts (st .columns) (st .rows) map packet (length (l .first)) (length (l .second)) (l .place)
+  Accepted map packet l = DrawAccepts (allowed .spare) (st .columns) (st .rows) map packet (length (l .first)) (length (l .second)) (l .place)
 
   drew-second : (p : ℕ) (map packet : List ℕ) (l : Lent) → Accepted map packet l → Drew (drawSecond st p map packet allowed l .step .answer)
   unfolding called
   drew-second p map packet l a =
       drew-accepted st p (request (st .columns) (st .rows) map packet (l .first) allowed) (memory (l .second) (l .place))
-      (drawn-exactly (st .columns) (st .rows) map packet (length (l .first)) (length (l .second)) (l .place) .1 a)
+      (drawn-exactly (allowed .spare) (st .columns) (st .rows) map packet (length (l .first)) (length (l .second)) (l .place) .1 a)
 
   second-drew : (p : ℕ) (map packet : List ℕ) (l : Lent) → Drew (drawSecond st p map packet allowed l .step .answer) → Accepted map packet l
   unfolding called
   second-drew p map packet l d =
-      drawn-exactly (st .columns) (st .rows) map packet (length (l .first)) (length (l .second)) (l .place) .0
+      drawn-exactly (allowed .spare) (st .columns) (st .rows) map packet (length (l .first)) (length (l .second)) (l .place) .0
       (accepted-drew st p (request (st .columns) (st .rows) map packet (l .first) allowed) (memory (l .second) (l .place)) d)
 
   -- whichever picture is front
@@ -227,7 +228,7 @@ module _ (film : List ℕ) (st : State) (allowed : ℕ) where
       by false false e false false true d = absurd (not-palette st p _ d)
       by false false e false false false d = absurd (not-quiet (length film) st kind version body p d)
 
-  pub draws-exactly : (l : Lent) → (Draws film st l → Drew (stepOf film st allowed l .step .answer)) × (Drew (stepOf film st allowed l .step .answer) → Draws film st l)
+  pub draws-exactly : (l : Lent) → (Draws (allowed .spare) film st l → Drew (stepOf film st allowed l .step .answer)) × (Drew (stepOf film st allowed l .step .answer) → Draws (allowed .spare) film st l)
   unfolding stepOf standing area
   draws-exactly l = (
     λ d.
@@ -244,7 +245,7 @@ module _ (film : List ℕ) (st : State) (allowed : ℕ) where
     λ x. by (nextOf film st (length (l .palette)) (length (l .first)) (length (l .second))) refl x,
   )
     where
-      by : (s : Standing) → nextOf film st (length (l .palette)) (length (l .first)) (length (l .second)) ≡ s → Drew (standing s film st allowed l .step .answer) → Draws film st l
+      by : (s : Standing) → nextOf film st (length (l .palette)) (length (l .first)) (length (l .second)) ≡ s → Drew (standing s film st allowed l .step .answer) → Draws (allowed .spare) film st l
       by (found.refused n k) e d = absurd (not-refused n k d)
       by found.ended e d = absurd (not-ended st d)
       by (found.chunk c) e d = absurd (not-taken _ d)

@@ -2,3 +2,4 @@ pub mod Walk
 pub mod Draws
 pub mod Beyond
 pub mod Apart
+pub mod Forms

@@ -13,6 +13,7 @@ use Rattle.packet.specs.Verdict.{legalSize}
 use Rattle.stores.specs.Stores.{Plan, Memory, memory, count, after as afterStores}
 use Rattle.stores.specs.Calls.{Call, allowed as allows, refused as denied, answered, leave, outcome, step, reply}
 use Rattle.draw.specs.Drawing.{plan}
+use Rattle.draw.specs.declared.Allowed.{Allowed}
 use Rattle.draw.specs.Call.{Request, request, packetOf, drawVerdict, Reason, comes, calling}
 use Rattle.palette.specs.Store.{applied}
 use Rattle.palette.specs.Update.{Update, verdictOn, onAccept, paletteAfter}
@@ -125,9 +126,9 @@ module _ (film : List ℕ) (st : State) (p : ℕ) (rises : st .cursor .position 
 
   called-good : (q : Request) (l : Lent) → Good (length film) st l (called st p q l)
   unfolding called
-  called-good q l = plan-good (plan (packetOf q) (q .front)) l (comes (drawVerdict q (memory (l .second) (l .place))) (q .allowed))
+  called-good q l = plan-good (plan (packetOf q) (q .front)) l (comes (drawVerdict q (memory (l .second) (l .place))) (q .allowed .stores))
 
-  on-good : (map packet : List ℕ) (n : ℕ) (l : Lent) → Good (length film) st l (drawOn st p map packet n l)
+  on-good : (map packet : List ℕ) (n : Allowed) (l : Lent) → Good (length film) st l (drawOn st p map packet n l)
   unfolding drawOn
   on-good map packet n l = by (eqb (st .front) 0)
     where
@@ -139,7 +140,7 @@ module _ (film : List ℕ) (st : State) (p : ℕ) (rises : st .cursor .position 
       by true = called-good (q (l .first)) l
       by false = let g = called-good (q (l .second)) (swap l) in record { moves = g .moves; keeps = λ s. ap (λ (m : Lent). swap m) (g .keeps s) }
 
-  by-good : (m : Map) (body : List ℕ) (n : ℕ) (l : Lent) → Good (length film) st l (drawBy m film st body p n l)
+  by-good : (m : Map) (body : List ℕ) (n : Allowed) (l : Lent) → Good (length film) st l (drawBy m film st body p n l)
   unfolding drawBy Moves
   by-good Missing body n l = quiet-good l (refused 9 0) tt
   by-good (Part start long) body n l = by (eqb (st .columns) 0)
@@ -148,7 +149,7 @@ module _ (film : List ℕ) (st : State) (p : ℕ) (rises : st .cursor .position 
       by true = quiet-good l (refused 9 0) tt
       by false = on-good (part film start (start + long)) (part body 14 (length body)) n l
 
-  act-good : (kind version s : ℕ) (body : List ℕ) (n : ℕ) (l : Lent) → Good (length film) st l (act film st kind version s body p n l)
+  act-good : (kind version s : ℕ) (body : List ℕ) (n : Allowed) (l : Lent) → Good (length film) st l (act film st kind version s body p n l)
   unfolding act Moves Still
   act-good kind version s body n l = by (eqb kind 15) (eqb kind 17) (eqb kind 11) (eqb kind 12) (eqb kind 13)
     where
@@ -179,7 +180,7 @@ module _ (film : List ℕ) (st : State) (p : ℕ) (rises : st .cursor .position 
 
 -- ---- a step
 
-module _ (film : List ℕ) (st : State) (n : ℕ) (l : Lent) where
+module _ (film : List ℕ) (st : State) (n : Allowed) (l : Lent) where
   by-sound : (b : Bool) {x y : Outcome} → Good (length film) st l x → Good (length film) st l y → Good (length film) st l (cond b x y)
   by-sound true g h = g
   by-sound false g h = h

@@ -7,6 +7,7 @@ use mathlib.Core.List.{List}
 use Prim.Native.Nat.{ℕ, _≤_}
 use lib.ListN.{length, drop}
 use Rattle.sound.specs.Format.{chosen}
+use Rattle.draw.specs.declared.Allowed.{Allowed}
 use Rattle.state.specs.declared.State.{State}
 use Rattle.heads.specs.declared.Opcode.{Opcode}
 use Rattle.heads.specs.Heads.{hears}
@@ -31,6 +32,6 @@ pub record AtSound (film : List ℕ) (st : State) (l : Lent) : Type 0 where
   pub stands : nextOf film st (length (l .palette)) (length (l .first)) (length (l .second)) ≡ opcode found
   pub acted : hears (chosen (st .sound .stream)) (found .kind) ≡ true
 
-pub record Apart (film : List ℕ) (st : State) (allowed : ℕ) (l : Lent) : Type 0 where
+pub record Apart (film : List ℕ) (st : State) (allowed : Allowed) (l : Lent) : Type 0 where
   pub sound : AtSound film st l → OthersKept l (stepOf film st allowed l)
   pub other : (AtSound film st l → ⊥) → RoomKept l (stepOf film st allowed l)

@@ -5,6 +5,7 @@ use mathlib.Core.Path.{_≡_}
 use mathlib.Core.List.{List}
 use Prim.Native.Nat.{ℕ, _-_}
 use lib.ListN.{take, drop}
+use Rattle.draw.specs.declared.Allowed.{Allowed}
 use Rattle.state.specs.declared.State.{State}
 use Rattle.state.specs.State.{area}
 use Rattle.film.specs.Film.{Lent, Outcome, stepOf}
@@ -19,7 +20,7 @@ pub record KeptFrom (n : ℕ) (l : Lent) (o : Outcome) : Type 0 where
   pub second : drop n (o .lent .second) ≡ drop n (l .second)
 
 -- a step writes no byte beyond the size
-abbrev pub Unwritten : List ℕ → State → ℕ → Lent → Type 0
+abbrev pub Unwritten : List ℕ → State → Allowed → Lent → Type 0
 Unwritten film st allowed l = KeptFrom (bytes st) l (stepOf film st allowed l)
 
 -- what is lent to two steps: the same but for bytes of the pictures from n on
@@ -36,5 +37,5 @@ pub record SameSteps (n : ℕ) (x y : Outcome) : Type 0 where
   pub lent : SameTo n (x .lent) (y .lent)
 
 -- a step reads no byte beyond the size
-abbrev pub Unread : List ℕ → State → ℕ → Lent → Type 0
+abbrev pub Unread : List ℕ → State → Allowed → Lent → Type 0
 Unread film st allowed l = (m : Lent) → SameTo (bytes st) l m → SameSteps (bytes st) (stepOf film st allowed l) (stepOf film st allowed m)

@@ -1,5 +1,5 @@
 -- Which films, states and lent memory lead to a drawing that is not refused: a step answers "whole" or "unfinished" exactly when this holds
--- (`proofs/Draws`), whatever number of stores it is allowed.
+-- (`proofs/Draws`), whatever number of stores it is allowed, by the bytes that may be left over.
 -- Assumes nothing.
 use mathlib.Core.Path.{_≡_}
 use mathlib.Core.List.{List}
@@ -24,14 +24,14 @@ packetOf film o = part (bodyOf film o) 14 (length (bodyOf film o))
 
 -- opcode 11 stands where the state is, and none of 16, 8 and 2 to 5 is met; a map is pending; the packet is accepted with this map and the state's size,
 -- which is a legal one; and the place is at most the block count
-pub record Draws (film : List ℕ) (st : State) (l : Lent) : Type 0 where
+pub record Draws (spare : ℕ) (film : List ℕ) (st : State) (l : Lent) : Type 0 where
   pub found : Opcode
   pub stands : nextOf film st (length (l .palette)) (length (l .first)) (length (l .second)) ≡ opcode found
   pub is-11 : found .kind ≡ 17
   pub start : ℕ
   pub long : ℕ
   pub mapped : st .map ≡ Part start long
-  pub accepted : Accepts (st .columns) (st .rows) (part film start (start + long)) (packetOf film found)
+  pub accepted : Accepts spare (st .columns) (st .rows) (part film start (start + long)) (packetOf film found)
   pub within : l .place ≤ blocks (packet (st .columns) (st .rows) (part film start (start + long)) (packetOf film found))
 
 -- an answer of a drawing that is not refused

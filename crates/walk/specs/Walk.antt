@@ -6,6 +6,7 @@ use mathlib.Core.Path.{_≡_}
 use mathlib.Core.List.{List}
 use Prim.Native.Nat.{ℕ, zero, suc, _+_, _*_, _≤_}
 use lib.ListN.{length}
+use Rattle.draw.specs.declared.Allowed.{Allowed}
 use Rattle.state.specs.declared.State.{State}
 use Rattle.opcodes.specs.Opcodes.{Answer, taken, whole, unfinished, ended, refused}
 use Rattle.film.specs.Film.{Lent, Outcome, stepOf}
@@ -48,4 +49,4 @@ GoesTo (refused n k) t = ⊥
 -- n steps that were taken or whole, each with any allowance and whatever was lent; unfinished steps between them give the state back and do not count
 pub data Walked (film : List ℕ) : ℕ → State → State → Type 0 where
   none : {st : State} → Walked film zero st st
-  more : {n : ℕ} {st s t : State} → Walked film n st s → (allowed : ℕ) (l : Lent) → GoesTo (stepOf film s allowed l .step .answer) t → Walked film (suc n) st t
+  more : {n : ℕ} {st s t : State} → Walked film n st s → (allowed : Allowed) (l : Lent) → GoesTo (stepOf film s allowed l .step .answer) t → Walked film (suc n) st t

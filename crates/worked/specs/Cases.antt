@@ -8,9 +8,10 @@ use Rattle.motion.specs.declared.Vector.{Vector}
 use Rattle.motion.specs.Motion.{aheadVector, nearVector}
 use Rattle.block.specs.Block.{codeAt, kindOf}
 use Rattle.paint.specs.Value.{pixelValue}
+use Rattle.packet.specs.Verdict.{default}
 use Rattle.stores.specs.Stores.{Memory, memory}
 use Rattle.stores.specs.Calls.{Answer, whole, unfinished, refusal, Outcome, reply}
-use Rattle.draw.specs.Call.{Request, request, Reason, calling, leaves}
+use Rattle.draw.specs.Call.{Request, within, request, Reason, calling, leaves}
 use Rattle.palette.specs.Update.{paletteAfter}
 use Rattle.palette.specs.Gradient.{createGradient}
 
@@ -47,7 +48,7 @@ entry e c = getD palette (3 * e + c) 0
 
 -- the case 16x8, map E2, data 00 07, back all 5
 unfoldable pub example : ℕ → Request
-example n = request 2 1 (0xe2 ∷ []) (0x00 ∷ 0x07 ∷ []) (replicate 128 0) n
+example n = request 2 1 (0xe2 ∷ []) (0x00 ∷ 0x07 ∷ []) (replicate 128 0) (within n default)
 
 -- what a call of it allowed n stores leaves and says
 abbrev pub drawn : ℕ → Memory

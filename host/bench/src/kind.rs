@@ -116,7 +116,7 @@ fn draft(rng: &mut Seeded, kind: Kind) -> Draft {
         };
         blocks.push(block);
     }
-    Draft { size, blocks, spare: 0 }
+    Draft { size, blocks, spare: 0, over: Vec::new() }
 }
 
 /// A block of a code, of any of its forms.

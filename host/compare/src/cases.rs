@@ -9,6 +9,7 @@ use maker::states::{self, Start};
 use maker::{film_damage, sound_damage, Form, Packet, Profile, Seeded, Size};
 use reference::film::{State, Stepped};
 use reference::sound::NO_STREAM;
+use reference::CallForm;
 
 /// The packet of a case: valid, damaged or hostile.
 pub fn packet(seed: u64, number: u64) -> Packet {
@@ -61,6 +62,8 @@ pub struct Walk {
     pub place: usize,
     /// The stores allowed, step by step; as many steps are taken at most.
     pub allowances: Vec<usize>,
+    /// The form of each step.
+    pub forms: Vec<CallForm>,
     /// By how much each step's room is longer than what the step writes; -1 is a byte short. Where
     /// there is no number, no room is lent.
     pub spare: Vec<isize>,
@@ -145,9 +148,9 @@ fn from_opening(rng: &mut Seeded, film: Vec<u8>) -> Walk {
     let length = if rng.one_in(32) { rng.pick(&[0, 767, 769]) } else { 768 };
     let palette = if rng.one_in(4) { vec![0; length] } else { rng.bytes(length) };
     let place = if rng.one_in(8) { rng.pick(&[1, 5000, usize::MAX]) } else { 0 };
-    let allowances = allowances(rng, size.blocks());
+    let (allowances, forms) = (allowances(rng, size.blocks()), forms(rng));
     let (state, stream, spare) = (None, NO_STREAM, Vec::new());
-    Walk { film, stream, state, palette, pictures, place, allowances, spare }
+    Walk { film, stream, state, palette, pictures, place, allowances, forms, spare }
 }
 
 fn from_middle(rng: &mut Seeded, film: &Film) -> Walk {
@@ -158,10 +161,10 @@ fn from_middle(rng: &mut Seeded, film: &Film) -> Walk {
     let bytes =
         if rng.one_in(4) { states::scratched_ahead(rng, film, &start) } else { film.bytes() };
     let Start { state, palette, picture_a, picture_b, place, .. } = start;
-    let allowances = allowances(rng, film.size.blocks());
+    let (allowances, forms) = (allowances(rng, film.size.blocks()), forms(rng));
     let (state, pictures) = (Some(state), [picture_a, picture_b]);
     let (film, stream, spare) = (bytes, film.stream, Vec::new());
-    Walk { film, stream, state, palette, pictures, place, allowances, spare }
+    Walk { film, stream, state, palette, pictures, place, allowances, forms, spare }
 }
 
 /// The size of a film's frames; 0 by 0 where no step gives it one. Pictures without a byte do until
@@ -188,6 +191,13 @@ fn allowances(rng: &mut Seeded, blocks: usize) -> Vec<usize> {
     (0..STEPS).map(allowance).collect()
 }
 
+/// Steps of one form, or of either.
+fn forms(rng: &mut Seeded) -> Vec<CallForm> {
+    let [default, strict] = CallForm::ALL;
+    let of = rng.pick(&[[default; 2], [strict; 2], [default, strict]]);
+    (0..STEPS).map(|_| rng.pick(&of)).collect()
+}
+
 /// The source of chance of one case. Cases of one seed start side by side, those of two seeds far
 /// apart.
 fn chance(seed: u64, number: u64) -> Seeded {
@@ -212,9 +222,14 @@ fn profile(rng: &mut Seeded) -> Profile {
     }
 }
 
+/// A valid packet, padded or not. One in eight has a last block of any form, so that each leaves bytes
+/// over.
 fn draft(rng: &mut Seeded) -> Draft {
     let (size, profile) = (frame_size(rng), profile(rng));
-    Draft::make(rng, size, profile)
+    let draft = Draft::make(rng, size, profile);
+    let last = rng.pick(&Form::ALL);
+    let ending = if rng.one_in(8) { Draft::ending_in(rng, size, profile, last) } else { None };
+    ending.unwrap_or(draft).or_padded(rng)
 }
 
 /// A damaged packet, and the frame size that it had before. Some are cut anywhere, so that every
@@ -232,15 +247,17 @@ fn damaged_packet(rng: &mut Seeded) -> (Packet, Size) {
     (packet, draft.size)
 }
 
-/// Calls that all bring one packet, which may be refused, for pictures of about this size.
+/// Calls of either form that all bring one packet, which may be refused, for pictures of about this
+/// size.
 fn list_of_packet(rng: &mut Seeded, packet: Packet, size: Size) -> CallList {
     let back = picture(rng, size.pixels());
     let front = picture(rng, size.pixels());
     let calls = (0..rng.between(1, 8)).map(|_| {
         let allowed = calls::allowance(rng, size.blocks());
         let cut = rng.one_in(5).then(|| rng.below(allowed.min(size.pixels()) + 1));
+        let (form, packet, front) = (rng.pick(&CallForm::ALL), packet.clone(), front.clone());
         // Not made to be refused, though it may be.
-        Call { packet: packet.clone(), front: front.clone(), allowed, cut, refused: false }
+        Call { form, packet, front, allowed, cut, refused: false }
     });
     CallList { calls: calls.collect(), back }
 }

@@ -8,6 +8,7 @@ use maker::calls::{Call, CallList};
 use maker::Packet;
 use reference::book::{self, Book};
 use reference::frame::FrameSize;
+use reference::CallForm;
 use std::fmt;
 use std::ops::Range;
 
@@ -30,17 +31,20 @@ impl<A: Decoder, B: Decoder> Comparison<A, B> {
         &self.tally
     }
 
-    /// Compares the answers to a check.
+    /// Compares the answers to a check, in both forms.
     pub fn check(&mut self, packet: &Packet) -> Result<(), Difference> {
-        let (one, other) = (self.first.check(packet), self.second.check(packet));
-        if one != other {
-            let accounts = [
-                (self.first.name(), format!("{one:?}")),
-                (self.second.name(), format!("{other:?}")),
-            ];
-            return Err(Difference { call: 0, part: Part::Answer, accounts });
+        self.tally.packets += 1;
+        for form in CallForm::ALL {
+            let (one, other) = (self.first.check(form, packet), self.second.check(form, packet));
+            if one != other {
+                let accounts = [
+                    (self.first.name(), format!("{one:?}")),
+                    (self.second.name(), format!("{other:?}")),
+                ];
+                return Err(Difference { call: 0, form, part: Part::Answer, accounts });
+            }
+            self.tally.checked(form, packet, one);
         }
-        self.tally.checked(packet, one);
         Ok(())
     }
 
@@ -149,6 +153,7 @@ impl<'a, D: Decoder> Drawing<'a, D> {
     fn call(&mut self, number: usize, call: &Call) -> Seen<'_> {
         self.front.clone_from(&call.front);
         let answer = self.decoder.draw(
+            call.form,
             &call.packet,
             &mut self.front,
             &mut self.back,
@@ -158,6 +163,7 @@ impl<'a, D: Decoder> Drawing<'a, D> {
         Seen {
             by: self.decoder.name(),
             call: number,
+            form: call.form,
             answer,
             place: self.place,
             front: &self.front,
@@ -170,6 +176,7 @@ impl<'a, D: Decoder> Drawing<'a, D> {
 fn enter<'a>(book: &'a mut Book, number: usize, call: &'a Call) -> Seen<'a> {
     let Packet { columns, rows, map, data } = &call.packet;
     let answer = book.enter(&book::Call {
+        form: call.form,
         columns: *columns,
         rows: *rows,
         map,
@@ -180,6 +187,7 @@ fn enter<'a>(book: &'a mut Book, number: usize, call: &'a Call) -> Seen<'a> {
     Seen {
         by: "book",
         call: number,
+        form: call.form,
         answer,
         place: book.place(),
         front: &call.front,
@@ -191,6 +199,7 @@ fn enter<'a>(book: &'a mut Book, number: usize, call: &'a Call) -> Seen<'a> {
 struct Seen<'a> {
     by: &'static str,
     call: usize,
+    form: CallForm,
     answer: Answer,
     place: usize,
     front: &'a [u8],
@@ -239,6 +248,6 @@ impl Seen<'_> {
         other_value: T,
     ) -> Result<(), Difference> {
         let accounts = [(self.by, format!("{value:?}")), (other, format!("{other_value:?}"))];
-        Err(Difference { call: self.call, part, accounts })
+        Err(Difference { call: self.call, form: self.form, part, accounts })
     }
 }

@@ -4,7 +4,7 @@ use maker::states::Start;
 use maker::Packet;
 use reference::film::{self, Span, State, Stepped};
 use reference::sound::Sound;
-use reference::{Drawn, Refusal};
+use reference::{CallForm, Drawn, Refusal};
 
 /// What a check answers.
 pub type Checked = Result<(), Refusal>;
@@ -36,13 +36,14 @@ pub trait Decoder {
     /// What the decoder is called in a report.
     fn name(&self) -> &'static str;
 
-    /// Checks a packet.
-    fn check(&self, packet: &Packet) -> Checked;
+    /// Checks a packet, in this form.
+    fn check(&self, form: CallForm, packet: &Packet) -> Checked;
 
-    /// Draws a packet on `back`, going on from `place`, with at most `allowed` stores. No decoder
-    /// may change `front`; it is lent for writing so that one that does can be found out.
+    /// Draws a packet on `back`, going on from `place`, with at most `allowed` stores, in this form. No
+    /// decoder may change `front`; it is lent for writing so that one that does can be found out.
     fn draw(
         &self,
+        form: CallForm,
         packet: &Packet,
         front: &mut [u8],
         back: &mut [u8],
@@ -53,9 +54,9 @@ pub trait Decoder {
     /// Opens a film for a stream of its sound.
     fn open(&self, film: &[u8], stream: usize) -> Opened;
 
-    /// Takes a step over a film: from the state in `walk`, with what is lent there. The state that
-    /// comes back takes its place.
-    fn step(&self, film: &[u8], walk: &mut Start) -> Walked;
+    /// Takes a step over a film, in this form: from the state in `walk`, with what is lent there. The
+    /// state that comes back takes its place.
+    fn step(&self, form: CallForm, film: &[u8], walk: &mut Start) -> Walked;
 
     /// The shown picture.
     fn shown<'a>(&self, state: &State, a: &'a [u8], b: &'a [u8]) -> &'a [u8];
@@ -70,13 +71,18 @@ impl Decoder for Proved {
         "proved library"
     }
 
-    fn check(&self, packet: &Packet) -> Checked {
+    fn check(&self, form: CallForm, packet: &Packet) -> Checked {
         let Packet { columns, rows, map, data } = packet;
-        mve::check(*columns, *rows, map, data).map_err(common_refusal)
+        let check = match form {
+            CallForm::Default => mve::check,
+            CallForm::Strict => mve::check_strict,
+        };
+        check(*columns, *rows, map, data).map_err(common_refusal)
     }
 
     fn draw(
         &self,
+        form: CallForm,
         packet: &Packet,
         front: &mut [u8],
         back: &mut [u8],
@@ -84,7 +90,11 @@ impl Decoder for Proved {
         allowed: usize,
     ) -> Answer {
         let Packet { columns, rows, map, data } = packet;
-        mve::draw(*columns, *rows, map, data, front, back, place, allowed)
+        let draw = match form {
+            CallForm::Default => mve::draw,
+            CallForm::Strict => mve::draw_strict,
+        };
+        draw(*columns, *rows, map, data, front, back, place, allowed)
             .map(common_drawn)
             .map_err(common_refusal)
     }
@@ -93,10 +103,14 @@ impl Decoder for Proved {
         mve::open(film, stream).map(common_state).map_err(common_refusal)
     }
 
-    fn step(&self, film: &[u8], walk: &mut Start) -> Walked {
+    fn step(&self, form: CallForm, film: &[u8], walk: &mut Start) -> Walked {
         let Start { state, palette, picture_a, picture_b, place, room, allowed } = walk;
         let (found, allowed) = (own_state(state), *allowed);
-        let stepped = mve::step(film, found, palette, picture_a, picture_b, place, room, allowed)
+        let step = match form {
+            CallForm::Default => mve::step,
+            CallForm::Strict => mve::step_strict,
+        };
+        let stepped = step(film, found, palette, picture_a, picture_b, place, room, allowed)
             .map_err(common_refusal)?;
         *state = common_state(stepped.state());
         Ok(match stepped {
@@ -145,13 +159,14 @@ impl Decoder for Second {
         "second decoder"
     }
 
-    fn check(&self, packet: &Packet) -> Checked {
+    fn check(&self, form: CallForm, packet: &Packet) -> Checked {
         let Packet { columns, rows, map, data } = packet;
-        reference::check(*columns, *rows, map, data)
+        reference::check_as(form, *columns, *rows, map, data)
     }
 
     fn draw(
         &self,
+        form: CallForm,
         packet: &Packet,
         front: &mut [u8],
         back: &mut [u8],
@@ -159,15 +174,15 @@ impl Decoder for Second {
         allowed: usize,
     ) -> Answer {
         let Packet { columns, rows, map, data } = packet;
-        reference::draw(*columns, *rows, map, data, front, back, place, allowed)
+        reference::draw_as(form, *columns, *rows, map, data, front, back, place, allowed)
     }
 
     fn open(&self, film: &[u8], stream: usize) -> Opened {
         film::open(film, stream)
     }
 
-    fn step(&self, film: &[u8], walk: &mut Start) -> Walked {
-        let (step, state) = match walk.step(film) {
+    fn step(&self, form: CallForm, film: &[u8], walk: &mut Start) -> Walked {
+        let (step, state) = match walk.step_as(form, film) {
             Stepped::Taken(state, bytes) => (Step::Taken(bytes), state),
             Stepped::Whole(state, stores) => (Step::Whole(stores), state),
             Stepped::Unfinished(state, stores) => (Step::Unfinished(stores), state),

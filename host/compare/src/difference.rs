@@ -1,5 +1,6 @@
 //! Reports of a difference.
 
+use reference::CallForm;
 use std::fmt;
 
 /// What two accounts of one call differ in.
@@ -54,6 +55,8 @@ pub struct Difference {
     /// The number of the drawing call in its list, from 0; 0 for a check. Of a film, the number
     /// of the step, from 1; 0 for the opening.
     pub call: usize,
+    /// The form of the call; of an opening, which has none, the default.
+    pub form: CallForm,
     /// What differs.
     pub part: Part,
     /// Whose accounts these are, and what they say.
@@ -63,7 +66,11 @@ pub struct Difference {
 impl fmt::Display for Difference {
     fn fmt(&self, f: &mut fmt::Formatter<'_>) -> fmt::Result {
         let [(first, one), (second, other)] = &self.accounts;
-        write!(f, "call {}: {}: {first} {one}, {second} {other}", self.call, self.part)
+        write!(f, "call {}", self.call)?;
+        if self.form == CallForm::Strict {
+            write!(f, ", strict form")?;
+        }
+        write!(f, ": {}: {first} {one}, {second} {other}", self.part)
     }
 }
 

@@ -6,41 +6,62 @@ use crate::decoder::{Decoder, Step, Walked};
 use crate::difference::{first_difference, Difference, Part};
 use maker::states::Start;
 use reference::film::State;
-use reference::refusal::{self, Refusal};
+use reference::refusal;
+use reference::CallForm;
 use std::fmt;
 
 impl<A: Decoder, B: Decoder> Comparison<A, B> {
     /// Compares the opening of a film, and all that can be seen after every step: to its end, to
     /// the first refusal, or as many as there are allowances. A step whose room is too small (19) is
-    /// taken again with room enough. Each decoder has memory of its own.
+    /// taken again with room enough, and one that the strict form refuses for what its packet leaves
+    /// over (15) in the default form. Each decoder has memory of its own.
     pub fn walk(&mut self, walk: &Walk) -> Result<(), Difference> {
         let (film, stream) = (&walk.film, walk.stream);
         let (one, other) = (self.first.open(film, stream), self.second.open(film, stream));
         if one != other {
-            return differs(0, Part::Answer, (self.first.name(), one), (self.second.name(), other));
+            let (call, names) = ((0, CallForm::Default), (self.first.name(), self.second.name()));
+            return differs(call, Part::Answer, (names.0, one), (names.1, other));
         }
         self.tally.opened(one);
         let Some(state) = walk.state.or(one.ok()) else { return Ok(()) };
 
         let mut first = lent(walk, state);
         let mut second = first.clone();
-        let mut again = false;
-        for (number, &allowed) in walk.allowances.iter().enumerate() {
+        let mut again = None;
+        for (number, (&allowed, &form)) in walk.allowances.iter().zip(&walk.forms).enumerate() {
+            let form = if again == Some(Again::InDefault) { CallForm::Default } else { form };
             (first.allowed, second.allowed) = (allowed, allowed);
-            first.room = room(walk, number, &first, again);
+            first.room = room(walk, number, &first, again == Some(Again::WithRoom));
             second.room.clone_from(&first.room);
-            let found = first.clone();
-            let seen = Seen::step(&self.first, number + 1, film, &mut first);
+            let (found, call) = (first.clone(), (number + 1, form));
+            let seen = Seen::step(&self.first, call, film, &mut first);
             seen.keeps(&found)?;
-            seen.agrees(&Seen::step(&self.second, number + 1, film, &mut second))?;
+            seen.agrees(&Seen::step(&self.second, call, film, &mut second))?;
             let Seen { answer, left, shown, .. } = seen;
-            self.tally.stepped(film, &found, left, answer, !shown.is_empty());
-            again = answer == Err(Refusal::new(refusal::ROOM));
-            if matches!(answer, Ok(Step::Ended) | Err(_)) && !again {
+            self.tally.stepped(form, film, &found, left, answer, !shown.is_empty());
+            again = Again::after(form, answer);
+            if matches!(answer, Ok(Step::Ended) | Err(_)) && again.is_none() {
                 break;
             }
         }
         Ok(())
+    }
+}
+
+/// How a refused step is taken again.
+#[derive(Clone, Copy, PartialEq, Eq)]
+enum Again {
+    WithRoom,
+    InDefault,
+}
+
+impl Again {
+    fn after(form: CallForm, answer: Walked) -> Option<Again> {
+        match (form, answer.err()?.number) {
+            (_, refusal::ROOM) => Some(Again::WithRoom),
+            (CallForm::Strict, refusal::DATA_LEFT) => Some(Again::InDefault),
+            _ => None,
+        }
     }
 }
 
@@ -63,17 +84,23 @@ fn lent(walk: &Walk, state: State) -> Start {
 /// All that can be seen after a step.
 struct Seen<'a> {
     by: &'static str,
-    step: usize,
+    /// Number and form of the step.
+    call: (usize, CallForm),
     answer: Walked,
     left: &'a Start,
     shown: &'a [u8],
 }
 
 impl<'a> Seen<'a> {
-    fn step(decoder: &impl Decoder, number: usize, film: &[u8], walk: &'a mut Start) -> Self {
-        let answer = decoder.step(film, walk);
+    fn step(
+        decoder: &impl Decoder,
+        call: (usize, CallForm),
+        film: &[u8],
+        walk: &'a mut Start,
+    ) -> Self {
+        let answer = decoder.step(call.1, film, walk);
         let shown = decoder.shown(&walk.state, &walk.picture_a, &walk.picture_b);
-        Seen { by: decoder.name(), step: number, answer, left: walk, shown }
+        Seen { by: decoder.name(), call, answer, left: walk, shown }
     }
 
     /// Two accounts of one step are the same.
@@ -141,16 +168,16 @@ impl<'a> Seen<'a> {
         other: &'static str,
         other_value: T,
     ) -> Result<(), Difference> {
-        differs(self.step, part, (self.by, value), (other, other_value))
+        differs(self.call, part, (self.by, value), (other, other_value))
     }
 }
 
 fn differs<T: fmt::Debug>(
-    call: usize,
+    (call, form): (usize, CallForm),
     part: Part,
     one: (&'static str, T),
     other: (&'static str, T),
 ) -> Result<(), Difference> {
     let accounts = [one, other].map(|(by, value)| (by, format!("{value:?}")));
-    Err(Difference { call, part, accounts })
+    Err(Difference { call, form, part, accounts })
 }

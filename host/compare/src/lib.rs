@@ -4,18 +4,24 @@
 //! can be seen of each call: the answer with its number, block and count, the place, and every byte
 //! of both pictures. Lists of drawing calls are held against the book of demand 3, too. Films, with
 //! sound or without, are compared step by step, with their state, palette, room and shown picture.
-//! The first thing that differs ends it, with the seed and the number of the case; a [`Tally`] counts what the cases reached.
+//! Packets are checked in both forms, and calls and steps are of either. The first thing that differs
+//! ends it, with the seed and the number of the case; a [`Tally`] counts what the cases reached.
 //!
-//! In comments "01" is the scope document.
+//! [`FromDefault`] stands for what the two forms have to do with each other: against it the strict form
+//! of a decoder is held to the default one.
+//!
+//! In comments "01" is the scope document, "02" that of the requests.
 
 pub mod cases;
 pub mod comparison;
 pub mod decoder;
 pub mod difference;
 mod film;
+pub mod forms;
 pub mod tally;
 
 pub use comparison::{Comparison, Found, Kind};
 pub use decoder::{Answer, Checked, Decoder, Opened, Proved, Second, Step, Walked};
 pub use difference::{Difference, Part};
+pub use forms::FromDefault;
 pub use tally::{Event, Tally};

@@ -1,7 +1,7 @@
-//! A long comparison of the proved library with the second decoder, run by hand:
-//! `compare SEED COUNT [packets|lists|films|sounds]`.
+//! A long comparison of the proved library with the second decoder, and of its strict form with its
+//! default form, run by hand: `compare SEED COUNT [packets|lists|films|sounds]`.
 
-use compare::{Comparison, Found, Kind, Proved, Second};
+use compare::{Comparison, Found, FromDefault, Kind, Proved, Second};
 use std::env;
 use std::process::ExitCode;
 use std::time::{Duration, Instant};
@@ -44,10 +44,12 @@ fn parsed(arguments: &[String]) -> Option<(u64, u64, Vec<Kind>)> {
 /// Compares so many cases of each kind; what was compared, in words.
 fn compare(seed: u64, count: u64, kinds: &[Kind]) -> Result<String, Found> {
     let mut comparison = Comparison::new(Proved, Second);
+    let mut forms = Comparison::new(Proved, FromDefault(Proved));
     let mut told = Instant::now();
     for &kind in kinds {
         for number in 0..count {
             comparison.run(kind, seed, number..number + 1)?;
+            forms.run(kind, seed, number..number + 1)?;
             if told.elapsed() >= PROGRESS {
                 told = Instant::now();
                 println!("seed {seed}: case {number} of {count} {kind}; {}", comparison.tally());

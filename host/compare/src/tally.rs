@@ -1,13 +1,14 @@
 //! Counts of what the cases reached.
 
 use crate::decoder::{Answer, Checked, Step, Walked};
+use crate::forms::{left_over, packet_at};
 use maker::calls::Call;
 use maker::sound::Format;
 use maker::states::Start;
 use maker::{Form, Packet};
 use reference::film::{opcode_head, State};
 use reference::sound::Sound;
-use reference::{Drawn, Refusal};
+use reference::{CallForm, Drawn, Refusal};
 use std::collections::BTreeMap;
 use std::fmt;
 use std::ops::Range;
@@ -49,6 +50,11 @@ pub enum Event {
     Ended,
     /// A step takes an opcode of this type.
     Opcode(u8),
+    /// In this form, a packet is accepted, or a drawing call or a step draws it, that leaves so many
+    /// bytes over.
+    TakenOver(CallForm, usize),
+    /// In this form, one is refused by 15 that leaves so many bytes over, 3 standing for more.
+    RefusedOver(CallForm, usize),
     /// A step makes the picture drawn on the shown one.
     Turned,
     /// A step changes the palette.
@@ -89,8 +95,8 @@ impl Tally {
     }
 
     /// Counts a check.
-    pub(crate) fn checked(&mut self, packet: &Packet, answer: Checked) {
-        self.packets += 1;
+    pub(crate) fn checked(&mut self, form: CallForm, packet: &Packet, answer: Checked) {
+        self.over(form, Some(packet), answer.err());
         match answer {
             Err(refusal) => self.refused(refusal),
             Ok(()) => {
@@ -110,6 +116,7 @@ impl Tally {
         answer: Answer,
     ) {
         self.calls += 1;
+        self.over(call.form, Some(&call.packet), answer.err());
         match answer {
             Err(refusal) => {
                 self.refused(refusal);
@@ -138,6 +145,7 @@ impl Tally {
     /// Counts a step over a film; `shown` tells whether a picture is shown after it.
     pub(crate) fn stepped(
         &mut self,
+        form: CallForm,
         film: &[u8],
         found: &Start,
         left: &Start,
@@ -145,6 +153,7 @@ impl Tally {
         shown: bool,
     ) {
         self.steps += 1;
+        self.over(form, packet_at(film, &found.state).as_ref(), answer.err());
         match answer {
             Err(refusal) => self.refused(refusal),
             Ok(Step::Taken(bytes)) => {
@@ -194,13 +203,20 @@ impl Tally {
 
     /// The blocks that a step over opcode 11 finished.
     fn video(&mut self, film: &[u8], found: &Start, place: usize) {
-        let State { position, chunk_end, columns, rows, map, .. } = found.state;
-        let body = opcode_head(film, position, chunk_end).ok().and_then(|head| head.body.of(film));
-        let map = map.and_then(|map| map.of(film));
-        let data = body.and_then(|body| body.get(14..));
-        if let (Some(map), Some(data)) = (map, data) {
-            let packet = Packet { columns, rows, map: map.to_vec(), data: data.to_vec() };
+        if let Some(packet) = packet_at(film, &found.state) {
             self.forms(&packet, found.place..place);
+        }
+    }
+
+    /// What a packet leaves over that is taken, or refused by 15.
+    fn over(&mut self, form: CallForm, packet: Option<&Packet>, refused: Option<Refusal>) {
+        let Some(over) = packet.and_then(left_over) else { return };
+        match refused {
+            None => self.note(Event::TakenOver(form, over)),
+            Some(Refusal { number: 15, .. }) => {
+                self.note(Event::RefusedOver(form, over.min(3)));
+            }
+            Some(_) => (),
         }
     }
 

@@ -1,5 +1,6 @@
 //! Every allowance: a call that is allowed n stores makes the first n, for each n from none to all,
-//! in frames of up to 3x3 blocks of every profile. A cut after n stores is such a call, too.
+//! in frames of up to 3x3 blocks of every profile, in both forms. A cut after n stores is such a call,
+//! too.
 
 mod common;
 
@@ -7,25 +8,31 @@ use compare::{Comparison, Event, Proved, Second};
 use maker::calls::{Call, CallList};
 use maker::packet::Draft;
 use maker::{Form, Profile, Seeded, Size};
+use reference::CallForm;
 use std::collections::BTreeSet;
 
-/// A valid packet, and the pictures that it is drawn with.
+/// A valid packet, the form of the calls for it, and the pictures that it is drawn with.
 struct Frame {
     draft: Draft,
+    form: CallForm,
     front: Vec<u8>,
     back: Vec<u8>,
 }
 
 impl Frame {
+    /// In the default form every other packet is padded; none is in the strict form.
     fn make(seed: u64, size: Size, profile: Profile) -> Frame {
         let rng = &mut Seeded::new(seed);
-        let draft = Draft::make(rng, size, profile);
-        Frame { draft, front: rng.bytes(size.pixels()), back: rng.bytes(size.pixels()) }
+        let form = rng.pick(&CallForm::ALL);
+        let over = if form == CallForm::Default { rng.below(2) } else { 0 };
+        let draft = Draft::make(rng, size, profile).with_over(rng, over);
+        Frame { draft, form, front: rng.bytes(size.pixels()), back: rng.bytes(size.pixels()) }
     }
 
     /// Calls of these allowances.
     fn list(&self, allowances: &[usize]) -> CallList {
         let calls = allowances.iter().map(|&allowed| Call {
+            form: self.form,
             packet: self.draft.packet(),
             front: self.front.clone(),
             allowed,
@@ -71,7 +78,10 @@ fn compare(lists: impl Fn(&Frame) -> Vec<Vec<usize>>, wanted: &[Event]) {
             });
         }
     }
-    common::assert_reached(comparison.tally(), wanted);
+    let [default, strict] = CallForm::ALL;
+    let taken = [(default, 0), (default, 1), (strict, 0)];
+    let taken = taken.map(|(form, over)| Event::TakenOver(form, over));
+    common::assert_reached(comparison.tally(), &[wanted, &taken].concat());
 }
 
 #[test]

@@ -1,12 +1,12 @@
 //! Bytes of a lent picture beyond the size are never touched (01, "Numbers of refusal"): neither
 //! written nor read. So a case comes to the same on pictures of just the frame and on pictures with
-//! a tail, whatever its bytes are, and leaves the tail as it was.
+//! a tail, whatever its bytes are, and leaves the tail as it was, in either form.
 
 use compare::{Answer, Decoder, Proved, Second, Step, Walked};
 use maker::packet_damage::{damaged, Damage};
 use maker::states::{self, Start};
 use maker::{calls, film, packet, Seeded, Size};
-use reference::Refusal;
+use reference::{CallForm, Refusal};
 
 const CASES: u64 = 2000;
 /// How often a frame must be drawn on, and a copy from outside be refused, at least.
@@ -47,11 +47,12 @@ fn draw(decoder: &dyn Decoder, number: u64) -> [Answer; 2] {
     let size = Size::new(columns, rows);
     let (front, back) = (rng.bytes(size.pixels()), rng.bytes(size.pixels()));
     let allowances = [calls::allowance(rng, size.blocks()), 312_000];
+    let form = rng.pick(&CallForm::ALL);
     let left = with_any_tail(number, |tail| {
         let (mut front, mut back) = ([&front, tail].concat(), [&back, tail].concat());
         let mut place = 0;
         allowances.map(|allowed| {
-            let answer = decoder.draw(&packet, &mut front, &mut back, &mut place, allowed);
+            let answer = decoder.draw(form, &packet, &mut front, &mut back, &mut place, allowed);
             (answer, place, frame(number, &front, tail), frame(number, &back, tail))
         })
     });
@@ -68,6 +69,7 @@ fn walk(decoder: &dyn Decoder, number: u64) -> Vec<Walked> {
     found.picture_b.truncate(pixels);
     let scratched = rng.one_in(2);
     let film = if scratched { states::scratched_ahead(rng, &film, &found) } else { film.bytes() };
+    let form = rng.pick(&CallForm::ALL);
     let left = with_any_tail(number, |tail| {
         let mut walk = found.clone();
         walk.picture_a.extend(tail);
@@ -75,7 +77,7 @@ fn walk(decoder: &dyn Decoder, number: u64) -> Vec<Walked> {
         let mut left = Vec::new();
         // A scratched 05 may give a larger frame, which a tail is not beyond.
         while left.len() < 10 && walk.state.pixels() <= pixels {
-            let answer = decoder.step(&film, &mut walk);
+            let answer = decoder.step(form, &film, &mut walk);
             let [picture_a, picture_b] =
                 [&walk.picture_a, &walk.picture_b].map(|picture| frame(number, picture, tail));
             left.push((answer, Start { picture_a, picture_b, ..walk.clone() }));

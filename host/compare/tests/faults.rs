@@ -2,27 +2,40 @@
 //! each fault is reported, as what it is, within the first cases that the other tests go through.
 //! Several are those that 01 names ("Slips that look right", "These must not get through").
 
+use compare::forms::left_over;
 use compare::{
-    cases, Answer, Checked, Comparison, Decoder, Found, Kind, Opened, Part, Second, Walked,
+    cases, Answer, Checked, Comparison, Decoder, Found, FromDefault, Kind, Opened, Part, Second,
+    Walked,
 };
 use maker::states::Start;
 use maker::{Form, Packet};
 use reference::film::State;
 use reference::frame::MAX_PIXELS;
-use reference::{Drawn, Refusal};
+use reference::{CallForm, Drawn, Refusal};
 
 const SEED: u64 = 1;
 const CASES: u64 = 2000;
 
 /// The second decoder with a fault in checking and one in drawing.
+#[derive(Clone, Copy)]
 struct Faulty<C, D> {
     check: C,
     draw: D,
 }
 
+/// A check that was made without fault, for one to be put in.
+#[derive(Clone, Copy)]
+struct MadeCheck<'a> {
+    form: CallForm,
+    packet: &'a Packet,
+    answer: Checked,
+}
+
 /// A drawing call that was made without fault, for one to be put in.
 struct Made<'a> {
+    form: CallForm,
     packet: &'a Packet,
+    allowed: usize,
     /// The picture and the place that the call found.
     found: (Vec<u8>, usize),
     front: &'a mut [u8],
@@ -31,17 +44,18 @@ struct Made<'a> {
     answer: Answer,
 }
 
-impl<C: Fn(Checked) -> Checked, D: Fn(&mut Made<'_>)> Decoder for Faulty<C, D> {
+impl<C: Fn(MadeCheck<'_>) -> Checked, D: Fn(&mut Made<'_>)> Decoder for Faulty<C, D> {
     fn name(&self) -> &'static str {
         "faulty decoder"
     }
 
-    fn check(&self, packet: &Packet) -> Checked {
-        (self.check)(Second.check(packet))
+    fn check(&self, form: CallForm, packet: &Packet) -> Checked {
+        (self.check)(MadeCheck { form, packet, answer: Second.check(form, packet) })
     }
 
     fn draw(
         &self,
+        form: CallForm,
         packet: &Packet,
         front: &mut [u8],
         back: &mut [u8],
@@ -49,8 +63,8 @@ impl<C: Fn(Checked) -> Checked, D: Fn(&mut Made<'_>)> Decoder for Faulty<C, D> {
         allowed: usize,
     ) -> Answer {
         let found = (back.to_vec(), *place);
-        let answer = Second.draw(packet, front, back, place, allowed);
-        let mut made = Made { packet, found, front, back, place, answer };
+        let answer = Second.draw(form, packet, front, back, place, allowed);
+        let mut made = Made { form, packet, allowed, found, front, back, place, answer };
         (self.draw)(&mut made);
         made.answer
     }
@@ -59,8 +73,8 @@ impl<C: Fn(Checked) -> Checked, D: Fn(&mut Made<'_>)> Decoder for Faulty<C, D> {
         Second.open(film, stream)
     }
 
-    fn step(&self, film: &[u8], walk: &mut Start) -> Walked {
-        Second.step(film, walk)
+    fn step(&self, form: CallForm, film: &[u8], walk: &mut Start) -> Walked {
+        Second.step(form, film, walk)
     }
 
     fn shown<'a>(&self, state: &State, a: &'a [u8], b: &'a [u8]) -> &'a [u8] {
@@ -70,7 +84,7 @@ impl<C: Fn(Checked) -> Checked, D: Fn(&mut Made<'_>)> Decoder for Faulty<C, D> {
 
 /// The report on a fault in drawing.
 fn reported(fault: impl Fn(&mut Made<'_>)) -> Option<Found> {
-    let faulty = Faulty { check: |answer| answer, draw: fault };
+    let faulty = Faulty { check: unchanged, draw: fault };
     Comparison::new(faulty, Second).run(Kind::Lists, SEED, 0..CASES).err()
 }
 
@@ -80,18 +94,32 @@ fn part(fault: impl Fn(&mut Made<'_>)) -> Part {
     reported(fault).expect("a difference").difference.part
 }
 
+/// A check without fault.
+fn unchanged(made: MadeCheck<'_>) -> Checked {
+    made.answer
+}
+
+/// What a fault in checking is reported as: the form in which it is met.
 #[track_caller]
-fn assert_check_found(fault: impl Fn(Checked) -> Checked) {
+fn check_form(fault: impl Fn(MadeCheck<'_>) -> Checked) -> CallForm {
     let faulty = Faulty { check: fault, draw: |_: &mut Made<'_>| () };
     let compared = Comparison::new(faulty, Second).run(Kind::Packets, SEED, 0..CASES);
-    assert_eq!(compared.expect_err("a difference").difference.part, Part::Answer);
+    let difference = compared.expect_err("a difference").difference;
+    assert_eq!(difference.part, Part::Answer);
+    difference.form
+}
+
+/// A fault in checking, of both forms, is found.
+#[track_caller]
+fn assert_check_found(fault: impl Fn(Checked) -> Checked) {
+    check_form(|made| fault(made.answer));
 }
 
 /// The scaffold itself has no fault.
 #[test]
 fn no_fault() {
     assert_eq!(reported(|_| ()), None);
-    let faulty = Faulty { check: |answer| answer, draw: |_: &mut Made<'_>| () };
+    let faulty = Faulty { check: unchanged, draw: |_: &mut Made<'_>| () };
     let compared = Comparison::new(faulty, Second).run(Kind::Packets, SEED, 0..CASES);
     assert_eq!(compared, Ok(()));
 }
@@ -166,7 +194,8 @@ fn pictures() {
     let all_at_once = |made: &mut Made<'_>| {
         if made.answer.is_ok() {
             let mut place = made.found.1;
-            let drawn = Second.draw(made.packet, made.front, made.back, &mut place, usize::MAX);
+            let (form, packet) = (made.form, made.packet);
+            let drawn = Second.draw(form, packet, made.front, made.back, &mut place, usize::MAX);
             assert_eq!(drawn.map(|drawn| drawn.whole), Ok(true));
         }
     };
@@ -217,11 +246,81 @@ fn forms() {
     }
 }
 
+/// The rule on what may be left over, changed for packets that leave so many bytes over in a call of
+/// this form: what is refused by 15 is taken, or what is taken is refused.
+fn check_turned(form: CallForm, over: usize) -> impl Fn(MadeCheck<'_>) -> Checked + Copy {
+    move |made| match made.answer {
+        answer if made.form != form || left_over(made.packet) != Some(over) => answer,
+        Ok(()) => Err(Refusal::new(15)),
+        Err(_) => Ok(()),
+    }
+}
+
+/// The same of drawing calls. One that is refused for another reason stays so.
+fn draw_turned(form: CallForm, over: usize) -> impl Fn(&mut Made<'_>) + Copy {
+    move |made| {
+        if made.form != form || left_over(made.packet) != Some(over) {
+            return;
+        }
+        if made.answer.is_ok() {
+            made.back.copy_from_slice(&made.found.0);
+            *made.place = made.found.1;
+            made.answer = Err(Refusal::new(15));
+        } else if made.answer == Err(Refusal::new(15)) {
+            let mut packet = made.packet.clone();
+            packet.data.truncate(packet.data.len() - over);
+            let Made { front, back, place, allowed, .. } = made;
+            made.answer = Second.draw(form, &packet, front, back, place, *allowed);
+        }
+    }
+}
+
+/// Programs that take two bytes, or refuse one, in the default form; or that take one, or refuse none,
+/// in the strict form.
+#[test]
+fn left_over_bytes() {
+    let (default, strict) = (CallForm::Default, CallForm::Strict);
+    for (form, over) in [(default, 2), (default, 1), (strict, 1), (strict, 0)] {
+        assert_eq!(check_form(check_turned(form, over)), form, "{over} over");
+        let found = reported(draw_turned(form, over)).expect("a difference");
+        let told = found.to_string().contains(", strict form: ");
+        assert_eq!(told, form == strict, "{found}");
+        assert_eq!((found.difference.part, found.difference.form), (Part::Answer, form), "{over}");
+    }
+}
+
+/// A program that draws the byte left over: as the last pixel of the frame.
+#[test]
+fn the_odd_byte_drawn() {
+    let drawn = |made: &mut Made<'_>| {
+        let whole = made.answer.is_ok_and(|drawn| drawn.whole && drawn.stores > 0);
+        if whole && left_over(made.packet) == Some(1) {
+            made.back[made.packet.pixels() - 1] = made.packet.data[made.packet.data.len() - 1];
+        }
+    };
+    assert!(matches!(part(drawn), Part::Back(_)));
+}
+
+/// A program whose strict form takes one byte, or refuses none, does not agree with its default form:
+/// that is found without the second decoder, too.
+#[test]
+fn forms_that_do_not_agree() {
+    for over in [1, 0] {
+        let check = check_turned(CallForm::Strict, over);
+        let faulty = Faulty { check, draw: draw_turned(CallForm::Strict, over) };
+        for kind in [Kind::Packets, Kind::Lists] {
+            let compared = Comparison::new(faulty, FromDefault(faulty)).run(kind, SEED, 0..CASES);
+            let difference = compared.expect_err("a difference").difference;
+            assert_eq!((difference.part, difference.form), (Part::Answer, CallForm::Strict));
+        }
+    }
+}
+
 /// A fault that both decoders share is found by the book.
 #[test]
 fn shared_faults() {
     let faulty = || Faulty {
-        check: |answer| answer,
+        check: unchanged,
         draw: |made: &mut Made<'_>| {
             if made.answer.is_ok_and(|drawn| drawn.stores > 0) {
                 made.back[0] ^= 1;
@@ -247,14 +346,15 @@ fn reports() {
     assert!(*number > 0 && *seed == SEED);
     let text = found.to_string();
     let [(_, wrong), (_, right)] = &difference.accounts;
+    let strict = if difference.form == CallForm::Strict { ", strict form" } else { "" };
     let expected = format!(
-        "difference in lists, seed {SEED}, case {number}, call {}: place: \
+        "difference in lists, seed {SEED}, case {number}, call {}{strict}: place: \
          faulty decoder {wrong}, second decoder {right}",
         difference.call,
     );
     assert_eq!(text, expected);
 
-    let faulty = Faulty { check: |answer| answer, draw: fault };
+    let faulty = Faulty { check: unchanged, draw: fault };
     let again = Comparison::new(faulty, Second).draw(&cases::list(*seed, *number));
     assert_eq!(again.as_ref(), Err(&**difference));
 }

@@ -1,5 +1,5 @@
-//! Films: after every step the proved library has answered and left the state, the palette, the
-//! place, both pictures and the shown one as the second decoder has.
+//! Films: after every step, of either form, the proved library has answered and left the state, the
+//! palette, the place, both pictures and the shown one as the second decoder has.
 
 mod common;
 
@@ -28,5 +28,6 @@ fn films() {
     ];
     let numbers: Vec<Event> = (1..=16).map(Event::Refused).collect();
     let opcodes: Vec<Event> = ACTED_ON.into_iter().chain(PASSED_OVER).map(Event::Opcode).collect();
-    common::assert_reached(comparison.tally(), &[&answers[..], &numbers, &opcodes].concat());
+    let wanted = [&answers[..], &numbers, &opcodes, &common::LEFT_OVER].concat();
+    common::assert_reached(comparison.tally(), &wanted);
 }

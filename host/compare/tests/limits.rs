@@ -7,6 +7,7 @@ use maker::packet::Draft;
 use maker::states::{self, Start};
 use maker::{film, Form, Packet, Profile, Seeded, Size};
 use reference::film::State;
+use reference::CallForm;
 
 const SIZES: [(usize, usize); 4] = [(80, 60), (1, 1), (80, 1), (1, 60)];
 
@@ -28,11 +29,17 @@ struct Seen {
 
 /// Draws a frame on these pictures, shown and drawn on, until it is whole or a call is refused. Each
 /// call finishes a block at least, so there are no more of them than blocks.
-fn draw(decoder: &dyn Decoder, packet: &Packet, pictures: [&[u8]; 2], allowed: usize) -> Seen {
+fn draw(
+    decoder: &dyn Decoder,
+    form: CallForm,
+    packet: &Packet,
+    pictures: [&[u8]; 2],
+    allowed: usize,
+) -> Seen {
     let [mut front, mut back] = pictures.map(<[u8]>::to_vec);
     let (mut place, mut calls) = (0, Vec::new());
     for _ in 0..packet.columns * packet.rows {
-        let answer = decoder.draw(packet, &mut front, &mut back, &mut place, allowed);
+        let answer = decoder.draw(form, packet, &mut front, &mut back, &mut place, allowed);
         calls.push((answer, place));
         let goes_on = answer.is_ok_and(|drawn| !drawn.whole);
         if !goes_on {
@@ -43,14 +50,15 @@ fn draw(decoder: &dyn Decoder, packet: &Packet, pictures: [&[u8]; 2], allowed: u
 }
 
 /// Draws a frame by both decoders with each allowance. All comes to the same, and the pictures to
-/// that of a single call, which makes every store.
-fn compare_frame(rng: &mut Seeded, size: Size, profile: Profile) {
-    let draft = Draft::make(rng, size, profile);
+/// that of a single call, which makes every store. In the default form the packet is padded.
+fn compare_frame(rng: &mut Seeded, form: CallForm, size: Size, profile: Profile) {
+    let over = usize::from(form == CallForm::Default);
+    let draft = Draft::make(rng, size, profile).with_over(rng, over);
     let packet = draft.packet();
     let (front, back) = (rng.bytes(size.pixels()), rng.bytes(size.pixels()));
     let seen = ALLOWANCES.map(|allowed| {
-        let seen = draw(&Proved, &packet, [&front, &back], allowed);
-        let same = seen == draw(&Second, &packet, [&front, &back], allowed);
+        let seen = draw(&Proved, form, &packet, [&front, &back], allowed);
+        let same = seen == draw(&Second, form, &packet, [&front, &back], allowed);
         assert!(same, "{size:?}, {profile:?}, {allowed} stores a call");
         assert!(seen.front == front, "{size:?}: the shown picture is changed");
         seen
@@ -69,8 +77,12 @@ fn compare_frame(rng: &mut Seeded, size: Size, profile: Profile) {
 #[test]
 fn pictures() {
     for (seed, (columns, rows)) in (0..).zip(SIZES) {
-        for profile in [Profile::Mixed, Profile::BackCopies, Profile::Only(Form::SameBlock)] {
-            compare_frame(&mut Seeded::new(seed), Size::new(columns, rows), profile);
+        for (profile, form) in [
+            (Profile::Mixed, CallForm::Default),
+            (Profile::BackCopies, CallForm::Strict),
+            (Profile::Only(Form::SameBlock), CallForm::Default),
+        ] {
+            compare_frame(&mut Seeded::new(seed), form, Size::new(columns, rows), profile);
         }
     }
 }
@@ -83,7 +95,7 @@ fn counts() {
     let packet = Draft::make(&mut Seeded::new(1), size, Profile::Only(Form::SameBlock)).packet();
     let (front, back) = (vec![7; size.pixels()], vec![0; size.pixels()]);
     for (allowed, calls) in [(65, 4800), (52_000, 6), (312_000, 1)] {
-        let seen = draw(&Proved, &packet, [&front, &back], allowed);
+        let seen = draw(&Proved, CallForm::Default, &packet, [&front, &back], allowed);
         assert_eq!(seen.calls.len(), calls);
         for (number, (answer, place)) in seen.calls.iter().enumerate() {
             assert_eq!(answer.map(|drawn| drawn.stores), Ok(allowed), "call {number}");
@@ -95,10 +107,15 @@ fn counts() {
 
 /// Steps over a film to its end or a refusal: each answer with the state and the place behind it, and
 /// what is left at the end.
-fn walk(decoder: &dyn Decoder, film: &[u8], start: &Start) -> (Vec<(Walked, State, usize)>, Start) {
+fn walk(
+    decoder: &dyn Decoder,
+    form: CallForm,
+    film: &[u8],
+    start: &Start,
+) -> (Vec<(Walked, State, usize)>, Start) {
     let (mut walk, mut steps) = (start.clone(), Vec::new());
     while steps.len() < MOST_STEPS {
-        let answer = decoder.step(film, &mut walk);
+        let answer = decoder.step(form, film, &mut walk);
         steps.push((answer, walk.state, walk.place));
         if matches!(answer, Ok(Step::Ended) | Err(_)) {
             break;
@@ -113,11 +130,11 @@ fn films() {
         let (rng, size) = (&mut Seeded::new(seed), Size::new(columns, rows));
         let film = film::plain(rng, size, Profile::Light, 2);
         let (bytes, opened) = (film.bytes(), states::opening(rng, &film));
-        for allowed in ALLOWANCES {
+        for (allowed, form) in ALLOWANCES.into_iter().zip(CallForm::ALL.into_iter().cycle()) {
             let start = Start { allowed, ..opened.clone() };
-            let seen = walk(&Proved, &bytes, &start);
-            let same = seen == walk(&Second, &bytes, &start);
-            assert!(same, "{size:?}, {allowed} stores a step");
+            let seen = walk(&Proved, form, &bytes, &start);
+            let same = seen == walk(&Second, form, &bytes, &start);
+            assert!(same, "{size:?}, {allowed} stores a step, {form:?}");
             let (steps, left) = seen;
             assert_eq!(steps.last().map(|step| step.0), Some(Ok(Step::Ended)), "{size:?}");
             assert_eq!((left.state.columns, left.state.rows), (columns, rows));

@@ -1,4 +1,4 @@
-//! Checking: the proved library answers as the second decoder does.
+//! Checking: the proved library answers as the second decoder does, in both forms.
 
 mod common;
 
@@ -14,5 +14,6 @@ fn packets() {
     compared.unwrap_or_else(|found| panic!("{found}"));
     let answers = [Event::Accepted, Event::LaterBlock, Event::Smallest, Event::Largest];
     let numbers = [6, 10, 12, 13, 14, 15].map(Event::Refused);
-    common::assert_reached(comparison.tally(), &[&answers[..], &numbers].concat());
+    let wanted = [&answers[..], &numbers, &common::LEFT_OVER].concat();
+    common::assert_reached(comparison.tally(), &wanted);
 }

@@ -1,10 +1,11 @@
-//! Lists of drawing calls for one packet: any allowances, cuts, and refused calls between
-//! (01, "Book of demand 3").
+//! Lists of drawing calls for one packet: any allowances, cuts, calls of both forms, and refused calls
+//! between (01, "Book of demand 3"; the forms: 02, W6).
 
 use crate::packet::{Draft, Packet, Profile};
 use crate::packet_damage::{self, Damage};
 use crate::seeded::Seeded;
 use crate::size::Size;
+use reference::CallForm;
 
 /// Stores of the largest frame.
 const ALL_STORES: usize = 312_000;
@@ -12,6 +13,8 @@ const ALL_STORES: usize = 312_000;
 /// One drawing call.
 #[derive(Clone, Debug)]
 pub struct Call {
+    /// Its form.
+    pub form: CallForm,
     /// The packet given.
     pub packet: Packet,
     /// The shown picture given.
@@ -41,10 +44,10 @@ pub struct CallList {
     pub calls: Vec<Call>,
 }
 
-/// A list of up to 40 calls for a valid packet. Most lists end with the frame whole; calls then
-/// go on now and then.
+/// A list of up to 40 calls for a valid packet, padded or not; if it is padded, strict calls are
+/// refused. Most lists end with the frame whole; calls then go on now and then.
 pub fn list(rng: &mut Seeded, size: Size, profile: Profile) -> CallList {
-    let draft = Draft::make(rng, size, profile);
+    let draft = Draft::make(rng, size, profile).or_padded(rng);
     let packet = draft.packet();
     let spare = rng.pick(&[0, 0, 3]);
     let front = rng.bytes(size.pixels() + spare);
@@ -56,11 +59,15 @@ pub fn list(rng: &mut Seeded, size: Size, profile: Profile) -> CallList {
             calls.extend(refused_call(rng, &draft, &front, back.len(), place));
         }
         let allowed = allowance(rng, size.blocks());
-        let most = allowed.min(draft.stores_from(place));
+        let form = rng.pick(&CallForm::ALL);
+        let refused = form == CallForm::Strict && !draft.over.is_empty();
+        let most = if refused { 0 } else { allowed.min(draft.stores_from(place)) };
         let cut = rng.one_in(5).then(|| rng.below(most + 1));
-        let call =
-            Call { packet: packet.clone(), front: front.clone(), allowed, cut, refused: false };
-        place = draft.place_after(place, call.stores_fed());
+        let (packet, front) = (packet.clone(), front.clone());
+        let call = Call { form, packet, front, allowed, cut, refused };
+        if !refused {
+            place = draft.place_after(place, call.stores_fed());
+        }
         calls.push(call);
         if place == size.blocks() && !rng.one_in(4) {
             break;
@@ -90,16 +97,21 @@ fn refused_call(
     place: usize,
 ) -> Option<Call> {
     let mut front = front.to_vec();
-    let packet = match rng.below(8) {
+    let mut form = rng.pick(&CallForm::ALL);
+    let packet = match rng.below(9) {
         0 => {
             front.truncate(draft.size.pixels() - 1);
             draft.packet()
         }
         1 => larger_packet(rng, draft.size, back)?,
         2 | 3 => smaller_packet(rng, place)?,
+        4 => {
+            form = CallForm::Strict;
+            draft.clone().with_over(rng, 1).packet()
+        }
         _ => {
             let kind = rng.pick(&[
-                Damage::AddData,
+                Damage::LeaveOver,
                 Damage::CutData,
                 Damage::CodeSix,
                 Damage::CopyOutside,
@@ -108,14 +120,14 @@ fn refused_call(
                 Damage::BadColumns,
                 Damage::BadRows,
             ]);
-            if kind == Damage::CutData && draft.packet().data.is_empty() {
+            if kind == Damage::CutData && draft.data_length() == 0 {
                 return None;
             }
             packet_damage::damaged(rng, draft, kind)
         }
     };
     let allowed = allowance(rng, draft.size.blocks());
-    Some(Call { packet, front, allowed, cut: None, refused: true })
+    Some(Call { form, packet, front, allowed, cut: None, refused: true })
 }
 
 /// A valid packet of a larger frame than the picture drawn on holds: 8.

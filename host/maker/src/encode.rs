@@ -17,7 +17,7 @@ pub fn packet(size: Size, wanted: &[u8], front: &[u8], back: &[u8]) -> Draft {
         let pixels = std::array::from_fn(|i| wanted[(y + i / 8) * size.width() + x + i % 8]);
         Wanted { size, number, pixels }.encoded(wanted, front, back)
     });
-    Draft { size, blocks: blocks.collect(), spare: 0 }
+    Draft { size, blocks: blocks.collect(), spare: 0, over: Vec::new() }
 }
 
 /// A block to encode.

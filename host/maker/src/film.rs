@@ -114,10 +114,15 @@ pub fn with_frames(rng: &mut Seeded, frames: usize) -> Film {
 /// A valid film of so many frames of this size, each of them sent, in the shape that other players
 /// look for: the size in a chunk of type 2, each frame in one of type 3, the end in one of type 5.
 pub fn plain(rng: &mut Seeded, size: Size, profile: Profile, frames: usize) -> Film {
+    let packets = (0..frames).map(|_| Draft::make(rng, size, profile).packet()).collect();
+    of_packets(rng, size, packets)
+}
+
+/// A film of that shape whose frames have these packets.
+pub fn of_packets(rng: &mut Seeded, size: Size, packets: Vec<Packet>) -> Film {
     let chunk = |kind, opcodes| Chunk { kind, opcodes, ..Chunk::default() };
     let mut chunks = vec![chunk(2, vec![init_video(size)])];
-    for _ in 0..frames {
-        let packet = Draft::make(rng, size, profile).packet();
+    for packet in packets {
         let [map, video] = packet_opcodes(rng, packet);
         chunks.push(chunk(3, vec![map, video, send(rng)]));
     }
@@ -160,14 +165,14 @@ pub fn packet_opcodes(rng: &mut Seeded, packet: Packet) -> [Opcode; 2] {
     [Opcode::new(0x0F, 0, packet.map), Opcode::new(0x11, 0, body)]
 }
 
-/// One frame: map, video data, usually a send, and other opcodes between them. Now and then a map
-/// is set that another one replaces, or a frame is drawn over before it is sent.
+/// One frame: map, video data, padded or not, usually a send, and other opcodes between them. Now and
+/// then a map is set that another one replaces, or a frame is drawn over before it is sent.
 fn frame(rng: &mut Seeded, opcodes: &mut Vec<Opcode>, size: Size, profile: Profile) {
     if rng.one_in(8) {
         let length = rng.below(9);
         opcodes.push(Opcode::new(0x0F, 0, rng.bytes(length)));
     }
-    let packet = Draft::make(rng, size, profile).packet();
+    let packet = Draft::make(rng, size, profile).or_padded(rng).packet();
     let [map, video] = packet_opcodes(rng, packet);
     opcodes.push(map);
     others(rng, opcodes);

@@ -6,8 +6,9 @@
 //!
 //! Packets, films and calls are written from the documents, encoder's side up: what a maker calls
 //! valid is so by construction, not because a decoder took it. Only [`states`] uses the second
-//! decoder, to walk into the middle of a film, and [`sound`] its table of steps. In comments "01" is
-//! the scope document, "02" that of the requests.
+//! decoder, to walk into the middle of a film, and [`sound`] its table of steps. ([`calls`] has its
+//! names for the two forms of a call.) In comments "01" is the scope document, "02" that of the
+//! requests.
 
 pub mod calls;
 pub mod demo;

@@ -97,10 +97,12 @@ pub struct Draft {
     pub blocks: Vec<Block>,
     /// The nibble behind the last block where their number is odd. It is not read.
     pub spare: u8,
+    /// Bytes left over behind the last block's data. One is not read, more are not taken (02, W6).
+    pub over: Vec<u8>,
 }
 
 impl Draft {
-    /// A valid packet.
+    /// A valid packet with nothing left over.
     pub fn make(rng: &mut Seeded, size: Size, profile: Profile) -> Draft {
         let blocks = (0..size.blocks()).map(|number| {
             let form = profile.form(rng);
@@ -108,7 +110,31 @@ impl Draft {
                 .unwrap_or_else(|| Block { code: Form::Solid.code(), data: rng.bytes(1) })
         });
         let blocks = blocks.collect();
-        Draft { size, blocks, spare: rng.byte() & 0x0F }
+        Draft { size, blocks, spare: rng.byte() & 0x0F, over: Vec::new() }
+    }
+
+    /// As [`Draft::make`], but the last block has this form. `None` where that is a copy that has no
+    /// vector there; code 2 has none in any frame, since it copies from later blocks.
+    pub fn ending_in(rng: &mut Seeded, size: Size, profile: Profile, last: Form) -> Option<Draft> {
+        let mut draft = Draft::make(rng, size, profile);
+        *draft.blocks.last_mut()? = last.block(rng, size, size.blocks() - 1)?;
+        Some(draft)
+    }
+
+    /// The same with so many bytes left over.
+    pub fn with_over(self, rng: &mut Seeded, count: usize) -> Draft {
+        Draft { over: rng.bytes(count), ..self }
+    }
+
+    /// The same, one time in three with a byte left over, as films have that pad their packets.
+    pub fn or_padded(self, rng: &mut Seeded) -> Draft {
+        let count = usize::from(rng.one_in(3));
+        self.with_over(rng, count)
+    }
+
+    /// Bytes of the blocks' data.
+    pub fn data_length(&self) -> usize {
+        self.blocks.iter().map(|block| block.data.len()).sum()
     }
 
     /// Stores that drawing the blocks from `place` on makes: 65 each, 1 for code 1 (01).
@@ -131,11 +157,12 @@ impl Draft {
     pub fn packet(&self) -> Packet {
         let mut codes: Vec<u8> = self.blocks.iter().map(|block| block.code).collect();
         codes.push(self.spare);
+        let data = self.blocks.iter().flat_map(|block| &block.data).chain(&self.over);
         Packet {
             columns: self.size.columns,
             rows: self.size.rows,
             map: codes.chunks_exact(2).map(|pair| pair[0] | pair[1] << 4).collect(),
-            data: self.blocks.iter().flat_map(|block| block.data.clone()).collect(),
+            data: data.copied().collect(),
         }
     }
 }
@@ -148,11 +175,11 @@ fn stores_of(block: &Block) -> usize {
     }
 }
 
-/// A valid packet of a few blocks, of any profile.
+/// A valid packet of a few blocks, of any profile, padded or not.
 pub fn small(rng: &mut Seeded) -> Draft {
     let size = Size::small(rng);
     let profile = rng.pick(&Profile::MANY);
-    Draft::make(rng, size, profile)
+    Draft::make(rng, size, profile).or_padded(rng)
 }
 
 /// Bytes without meaning in the shape of a packet: mostly of a legal size with the right map

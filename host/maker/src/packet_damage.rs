@@ -5,7 +5,7 @@ use crate::packet::{Draft, Packet};
 use crate::seeded::Seeded;
 
 /// Kinds of damage. The first ones change bytes blindly, and the packet may stay valid; from
-/// `AddData` on each is made for one number of refusal.
+/// `LeaveOver` on each is made for one number of refusal.
 #[derive(Clone, Copy, Debug, PartialEq, Eq)]
 pub enum Damage {
     /// Bits of some data bytes turned.
@@ -18,9 +18,9 @@ pub enum Damage {
     RemoveData,
     /// A block gets another code and keeps its data.
     ChangeCode,
-    /// Bytes behind the data: 15.
-    AddData,
-    /// The data cut: 13, if there was any.
+    /// Two bytes or more left over: 15.
+    LeaveOver,
+    /// The blocks' data cut: 13, if there was any.
     CutData,
     /// A block of code 6: 12.
     CodeSix,
@@ -44,7 +44,7 @@ impl Damage {
         Damage::InsertData,
         Damage::RemoveData,
         Damage::ChangeCode,
-        Damage::AddData,
+        Damage::LeaveOver,
         Damage::CutData,
         Damage::CodeSix,
         Damage::CopyOutside,
@@ -77,13 +77,13 @@ pub fn damaged(rng: &mut Seeded, draft: &Draft, damage: Damage) -> Packet {
             }
         }
         Damage::ChangeCode => return with_block(rng, draft, |rng, code| *code = rng.byte() & 0x0F),
-        Damage::AddData => {
-            let length = rng.between(1, 3);
-            packet.data.extend(rng.bytes(length));
+        Damage::LeaveOver => {
+            let count = if rng.one_in(4) { rng.between(3, 300) } else { rng.between(2, 3) };
+            return draft.clone().with_over(rng, count).packet();
         }
         Damage::CutData => {
             let cut = rng.between(1, 3);
-            packet.data.truncate(packet.data.len().saturating_sub(cut));
+            packet.data.truncate(draft.data_length().saturating_sub(cut));
         }
         Damage::CodeSix => return with_block(rng, draft, |_, code| *code = 6),
         Damage::CopyOutside => return with_outside_copy(rng, draft),

@@ -6,6 +6,7 @@ use crate::seeded::Seeded;
 use crate::size::Size;
 use reference::film::{self, Lent, Span, State, Stepped};
 use reference::sound::{Sound, STREAMS};
+use reference::CallForm;
 
 /// Bytes of the longest packet's samples: a word counts them, and each has two bytes at most.
 pub const ENOUGH_ROOM: usize = 131_070;
@@ -131,8 +132,13 @@ pub fn scratched_ahead(rng: &mut Seeded, film: &Film, start: &Start) -> Vec<u8> 
 }
 
 impl Start {
-    /// Takes the step by the second decoder; what is lent changes.
+    /// Takes the step by the second decoder, in the default form; what is lent changes.
     pub fn step(&mut self, film: &[u8]) -> Stepped {
+        self.step_as(CallForm::Default, film)
+    }
+
+    /// Takes it in this form.
+    pub fn step_as(&mut self, form: CallForm, film: &[u8]) -> Stepped {
         let lent = Lent {
             palette: &mut self.palette,
             picture_a: &mut self.picture_a,
@@ -140,7 +146,7 @@ impl Start {
             place: &mut self.place,
             room: &mut self.room,
         };
-        film::step(film, self.state, lent, self.allowed)
+        film::step_as(form, film, self.state, lent, self.allowed)
     }
 
     /// Bytes that the step writes where there is room for them, by the second decoder.

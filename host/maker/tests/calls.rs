@@ -4,7 +4,8 @@
 use maker::calls::{self, CallList};
 use maker::{Profile, Seeded, Size};
 use reference::book::{Book, Call};
-use reference::{draw, Drawn, Refusal};
+use reference::packet::left_over;
+use reference::{draw, draw_as, Drawn, Refusal};
 use std::collections::BTreeMap;
 
 /// How often each thing must be reached at least.
@@ -24,6 +25,7 @@ fn hold_against_book(list: &CallList, reached: &mut Reached) {
     for (number, made) in list.calls.iter().enumerate() {
         let (packet, before) = (&made.packet, (back.clone(), place));
         let call = Call {
+            form: made.form,
             columns: packet.columns,
             rows: packet.rows,
             map: &packet.map,
@@ -31,7 +33,8 @@ fn hold_against_book(list: &CallList, reached: &mut Reached) {
             front: &made.front,
             allowed: made.stores_fed(),
         };
-        let answer = draw(
+        let answer = draw_as(
+            call.form,
             call.columns,
             call.rows,
             call.map,
@@ -49,6 +52,10 @@ fn hold_against_book(list: &CallList, reached: &mut Reached) {
             assert!((back.clone(), place) == before, "call {number}: a refused call stored");
         }
         note_answer(reached, answer, made.cut.is_some());
+        if let Ok(over) = left_over(call.columns, call.rows, call.map, call.data) {
+            let kind = if answer.is_ok() { "taken" } else { "refused" };
+            note(reached, format!("{:?}, {} over, {kind}", call.form, over.min(3)));
+        }
     }
 }
 
@@ -66,14 +73,24 @@ fn note_answer(reached: &mut Reached, answer: Result<Drawn, Refusal>, cut: bool)
 #[test]
 fn drawing_keeps_the_book() {
     let mut reached = Reached::new();
-    for seed in 0..2000 {
+    for seed in 0..3000 {
         let mut rng = Seeded::new(seed);
         let (size, profile) = (Size::small(&mut rng), rng.pick(&Profile::MANY));
         hold_against_book(&calls::list(&mut rng, size, profile), &mut reached);
     }
     let answers = ["whole", "whole at once", "unfinished", "nothing allowed", "cut"];
     let numbers = ["6", "8", "10", "11", "12", "13", "14", "15"];
-    for wanted in answers.iter().chain(&numbers) {
+    let forms = [
+        "Default, 0 over, taken",
+        "Default, 1 over, taken",
+        "Default, 2 over, refused",
+        "Default, 3 over, refused",
+        "Strict, 0 over, taken",
+        "Strict, 1 over, refused",
+        "Strict, 2 over, refused",
+        "Strict, 3 over, refused",
+    ];
+    for wanted in answers.iter().chain(&numbers).chain(&forms) {
         let times = reached.get(*wanted).copied().unwrap_or(0);
         assert!(times >= OFTEN, "{wanted} reached {times} times, wanted {OFTEN}");
     }
@@ -95,11 +112,14 @@ fn large_frames_keep_the_book() {
 /// However a frame is cut up, it comes out as in one call, and the bytes behind it stay.
 #[test]
 fn pieces_make_the_frame_of_one_call() {
+    let mut drawn = 0;
     for seed in 0..500 {
         let mut rng = Seeded::new(seed);
         let size = Size::small(&mut rng);
         let list = calls::list(&mut rng, size, Profile::BackCopies);
-        let accepted = list.calls.iter().find(|call| !call.refused).expect("an accepted call");
+        // In a short list all calls may be strict ones for a padded packet.
+        let Some(accepted) = list.calls.iter().find(|call| !call.refused) else { continue };
+        drawn += 1;
         let packet = &accepted.packet;
         let draw_on = |back: &mut Vec<u8>, place: &mut usize, allowed| {
             draw(
@@ -122,4 +142,5 @@ fn pieces_make_the_frame_of_one_call() {
         assert!(in_pieces == at_once, "seed {seed}");
         assert_eq!(at_once[size.pixels()..], list.back[size.pixels()..], "seed {seed}");
     }
+    assert!(drawn >= 400, "{drawn} frames");
 }

@@ -5,8 +5,9 @@ use maker::film::{self, Film, ACTED_ON, PASSED_OVER};
 use maker::film_damage::{self, Damage};
 use maker::states::{self, Start};
 use maker::{Seeded, Size};
-use reference::film::{opcode_head, open, shown, State, Stepped};
+use reference::film::{opcode, opcode_head, open, shown, State, Stepped};
 use reference::frame::MAX_PIXELS;
+use reference::packet::left_over;
 use reference::sound::NO_STREAM;
 use reference::{listing, Refusal};
 use std::collections::BTreeMap;
@@ -93,6 +94,40 @@ fn valid_films() {
     counts.assert_often(["type 5 version 1", "type 5 version 2", "type 7 version 1"]);
 }
 
+/// Bytes that the packet leaves over which a step at this state would draw, if it is there and its
+/// blocks have no fault.
+fn packet_over(film: &[u8], state: &State) -> Option<usize> {
+    let head = opcode_head(film, state.position, state.chunk_end).ok()?;
+    let packet = head.body.of(film)?.get(14..)?;
+    let map = state.map?.of(film)?;
+    let over = left_over(state.columns, state.rows, map, packet).ok()?;
+    (head.kind == opcode::VIDEO).then_some(over)
+}
+
+/// In valid films some packets are padded, by one byte; in damaged ones two bytes are left over, three
+/// and more.
+#[test]
+fn padded_packets() {
+    let [mut valid, mut damaged] = [(); 2].map(|()| Counts::default());
+    for seed in 0..400 {
+        let film = film::valid(&mut Seeded::new(seed)).bytes();
+        let ended = run(&film, |state, _| {
+            if let Some(over) = packet_over(&film, state) {
+                assert!(over <= 1, "seed {seed}");
+                valid.note(over);
+            }
+        });
+        assert!(ended.is_ok(), "seed {seed}");
+        let film = film_damage::damaged(&mut Seeded::new(seed), Damage::LeaveOver);
+        let mut last = None;
+        let ended = run(&film, |state, _| last = packet_over(&film, state));
+        assert_eq!(ended.map_err(|refusal| refusal.number), Err(15), "seed {seed}");
+        damaged.note(last.expect("a packet").min(4));
+    }
+    valid.assert_often([0, 1]);
+    damaged.assert_often([2, 3, 4]);
+}
+
 /// The shapes of films that a walk may stumble on: empty chunks, no 00, bytes behind its chunk.
 #[test]
 fn shapes_of_films() {
@@ -134,6 +169,7 @@ fn damage_made_for_a_number() {
         (Damage::GradientRange, 7),
         (Damage::NoSize, 9),
         (Damage::NoMap, 9),
+        (Damage::LeaveOver, 15),
     ];
     for (damage, number) in made_for {
         for seed in 0..30 {
@@ -180,7 +216,7 @@ fn damaged_films() {
 #[test]
 fn steps_from_any_state() {
     let mut counts = Counts::default();
-    for seed in 0..12_000 {
+    for seed in 0..16_000 {
         let mut rng = Seeded::new(seed);
         let film = film::with_frames(&mut rng, 2);
         let start = match seed % 2 {

@@ -5,7 +5,7 @@ use maker::packet::{self, Draft};
 use maker::packet_damage::{damaged, Damage};
 use maker::{Form, Packet, Profile, Seeded, Size};
 use reference::packet::Block;
-use reference::{block, check, source, Refusal, Source};
+use reference::{block, check, check_as, source, CallForm, Refusal, Source};
 use std::collections::BTreeMap;
 
 /// How often each thing must be reached at least.
@@ -17,6 +17,11 @@ fn checked(packet: &Packet) -> Result<(), Refusal> {
 
 fn blocks(packet: &Packet) -> Vec<Block<'_>> {
     reference::packet::blocks(packet.columns, packet.rows, &packet.map, &packet.data)
+        .unwrap_or_else(|refusal| panic!("{refusal}: {packet:?}"))
+}
+
+fn left_over(packet: &Packet) -> usize {
+    reference::packet::left_over(packet.columns, packet.rows, &packet.map, &packet.data)
         .unwrap_or_else(|refusal| panic!("{refusal}: {packet:?}"))
 }
 
@@ -40,20 +45,55 @@ fn assert_often<K: Ord + std::fmt::Debug>(counts: &BTreeMap<K, usize>, wanted: &
     }
 }
 
-/// Small packets of every profile are accepted and have every form; odd and even block counts.
+/// Small packets of every profile are accepted and have every form; odd and even block counts; nothing
+/// left over, or a byte.
 #[test]
 fn small_packets() {
     let mut forms = Vec::new();
     let mut odd = Vec::new();
+    let mut over = Vec::new();
     for seed in 0..1000 {
         let mut rng = Seeded::new(seed);
         let packet = packet::small(&mut rng).packet();
         let blocks = blocks(&packet);
         odd.push(blocks.len() % 2 == 1);
         forms.extend(blocks.iter().map(form_of));
+        over.push(left_over(&packet));
     }
     assert_often(&count(forms), &Form::ALL);
     assert_often(&count(odd), &[false, true]);
+    let over = count(over);
+    assert_often(&over, &[0, 1]);
+    assert_eq!(over.len(), 2, "{over:?}");
+}
+
+/// Packets that end in a block of each form but code 2, which copies from later blocks, and leave over
+/// as many bytes as they are asked to. The strict form takes none of them, the default one.
+#[test]
+fn last_blocks() {
+    let mut forms = Vec::new();
+    for seed in 0..200 {
+        let rng = &mut Seeded::new(seed);
+        let (size, profile) = (Size::small(rng), rng.pick(&Profile::MANY));
+        for form in Form::ALL {
+            let Some(draft) = Draft::ending_in(rng, size, profile, form) else { continue };
+            let alone = draft.packet();
+            assert_eq!(blocks(&alone).last().map(form_of), Some(form));
+            forms.push(form);
+            for over in [0, 1, 2, 3, 300] {
+                let packet = draft.clone().with_over(rng, over).packet();
+                assert_eq!((&packet.map, left_over(&packet)), (&alone.map, over));
+                assert!(packet.data.starts_with(&alone.data));
+                let Packet { columns, rows, map, data } = &packet;
+                let taken = |form| check_as(form, *columns, *rows, map, data).is_ok();
+                assert_eq!(CallForm::ALL.map(taken), [over <= 1, over == 0], "{form:?}, {over}");
+            }
+        }
+    }
+    let forms = count(forms);
+    let but_code_2: Vec<Form> = Form::ALL.into_iter().filter(|form| form.code() != 2).collect();
+    assert_often(&forms, &but_code_2);
+    assert!(!forms.contains_key(&Form::BackAhead), "{forms:?}");
 }
 
 /// Packets of any size, up to the largest, are accepted.
@@ -85,7 +125,7 @@ fn packets_of_one_form() {
 #[test]
 fn damage_made_for_a_number() {
     let made_for = [
-        (Damage::AddData, 15),
+        (Damage::LeaveOver, 15),
         (Damage::CutData, 13),
         (Damage::CodeSix, 12),
         (Damage::CopyOutside, 14),
@@ -98,7 +138,7 @@ fn damage_made_for_a_number() {
         for seed in 0..100 {
             let mut rng = Seeded::new(seed);
             let draft = packet::small(&mut rng);
-            let nothing_to_cut = damage == Damage::CutData && draft.packet().data.is_empty();
+            let nothing_to_cut = damage == Damage::CutData && draft.data_length() == 0;
             if !nothing_to_cut {
                 let answer = checked(&damaged(&mut rng, &draft, damage));
                 assert_eq!(answer.map_err(|refusal| refusal.number), Err(number), "{damage:?}");
@@ -108,12 +148,14 @@ fn damage_made_for_a_number() {
 }
 
 /// Damaged packets reach every number of checking, in blocks behind the first, too; some stay
-/// valid. Copies outside are reached for each code that has a vector.
+/// valid. Copies outside are reached for each code that has a vector; two bytes are left over, three
+/// and more.
 #[test]
 fn damaged_packets() {
     let mut numbers = Vec::new();
     let mut later_blocks = Vec::new();
     let mut outside_codes = Vec::new();
+    let mut over = Vec::new();
     for seed in 0..300 {
         let mut rng = Seeded::new(seed);
         let draft = packet::small(&mut rng);
@@ -127,6 +169,9 @@ fn damaged_packets() {
             if refusal.block > 0 {
                 later_blocks.push(refusal.number);
             }
+            if refusal.number == 15 {
+                over.push(left_over(&packet).min(4));
+            }
             if refusal.number == 14 {
                 let byte = packet.map[refusal.block / 2];
                 outside_codes.push(if refusal.block % 2 == 0 { byte & 15 } else { byte >> 4 });
@@ -136,6 +181,7 @@ fn damaged_packets() {
     assert_often(&count(numbers), &[0, 6, 10, 12, 13, 14, 15]);
     assert_often(&count(later_blocks), &[12, 13, 14]);
     assert_often(&count(outside_codes), &[2, 3, 4, 5]);
+    assert_often(&count(over), &[2, 3, 4]);
 }
 
 /// Bytes without meaning reach most numbers; a random packet is hardly ever valid.

@@ -8,9 +8,19 @@
 #![allow(unsafe_code)]
 
 use crate::answer::{Answer, Moved, Numbers};
+use crate::form::Form;
 
 unsafe extern "C" {
     fn mve_check(
+        columns: usize,
+        rows: usize,
+        map: *const u8,
+        map_length: usize,
+        data: *const u8,
+        data_length: usize,
+    ) -> Answer;
+
+    fn mve_check_strict(
         columns: usize,
         rows: usize,
         map: *const u8,
@@ -34,9 +44,25 @@ unsafe extern "C" {
         allowed: usize,
     ) -> Answer;
 
+    fn mve_draw_strict(
+        columns: usize,
+        rows: usize,
+        map: *const u8,
+        map_length: usize,
+        data: *const u8,
+        data_length: usize,
+        front: *const u8,
+        front_length: usize,
+        back: *mut u8,
+        back_length: usize,
+        place: *mut usize,
+        allowed: usize,
+    ) -> Answer;
+
     fn mve_open(film: *const u8, film_length: usize, stream: usize) -> Moved;
 
-    fn mve_step(
+    /// `strict` is 0 for the default form, any other number for the strict one.
+    fn mve_step_as(
         film: *const u8,
         film_length: usize,
         state: Numbers,
@@ -50,6 +76,7 @@ unsafe extern "C" {
         room: *mut u8,
         room_length: usize,
         allowed: usize,
+        strict: usize,
     ) -> Moved;
 
     fn mve_shown(
@@ -61,14 +88,19 @@ unsafe extern "C" {
     ) -> usize;
 }
 
-pub(crate) fn check(columns: usize, rows: usize, map: &[u8], data: &[u8]) -> Answer {
+pub(crate) fn check(form: Form, columns: usize, rows: usize, map: &[u8], data: &[u8]) -> Answer {
+    let call = match form {
+        Form::Default => mve_check,
+        Form::Strict => mve_check_strict,
+    };
     // SAFETY: each address and length are those of a slice that lives through the call; that of an
     // empty slice is not null. Both are only read.
-    unsafe { mve_check(columns, rows, map.as_ptr(), map.len(), data.as_ptr(), data.len()) }
+    unsafe { call(columns, rows, map.as_ptr(), map.len(), data.as_ptr(), data.len()) }
 }
 
-#[allow(clippy::too_many_arguments)] // those of the library's function
+#[allow(clippy::too_many_arguments)] // those of the library's functions
 pub(crate) fn draw(
+    form: Form,
     columns: usize,
     rows: usize,
     map: &[u8],
@@ -78,11 +110,15 @@ pub(crate) fn draw(
     place: &mut usize,
     allowed: usize,
 ) -> Answer {
+    let call = match form {
+        Form::Default => mve_draw,
+        Form::Strict => mve_draw_strict,
+    };
     // SAFETY: each address and length are those of a slice that lives through the call; that of an
     // empty slice is not null. Only `back` and `place` are written; they are borrowed mutably, so
     // they overlap neither each other nor anything that is only read.
     unsafe {
-        mve_draw(
+        call(
             columns,
             rows,
             map.as_ptr(),
@@ -105,8 +141,9 @@ pub(crate) fn open(film: &[u8], stream: usize) -> Moved {
     unsafe { mve_open(film.as_ptr(), film.len(), stream) }
 }
 
-#[allow(clippy::too_many_arguments)] // those of the library's function
+#[allow(clippy::too_many_arguments)] // those of the library's functions
 pub(crate) fn step(
+    form: Form,
     film: &[u8],
     state: Numbers,
     palette: &mut [u8],
@@ -116,11 +153,15 @@ pub(crate) fn step(
     room: &mut [u8],
     allowed: usize,
 ) -> Moved {
+    let strict = match form {
+        Form::Default => 0,
+        Form::Strict => 1,
+    };
     // SAFETY: each address and length are those of a slice that lives through the call; that of an
     // empty slice is not null. Only the palette, the pictures, `place` and the room are written;
     // they are borrowed mutably, so they overlap neither each other nor the film.
     unsafe {
-        mve_step(
+        mve_step_as(
             film.as_ptr(),
             film.len(),
             state,
@@ -134,6 +175,7 @@ pub(crate) fn step(
             room.as_mut_ptr(),
             room.len(),
             allowed,
+            strict,
         )
     }
 }

@@ -1,6 +1,7 @@
 //! A film: opening it, stepping over it, its sound, and the picture that it shows.
 
 use crate::answer::{kind, Answer, Moved, Numbers};
+use crate::form::Form;
 use crate::{ffi, Refusal};
 
 /// A stream number that no film has: opcodes 03, 08 and 09 are passed over, as by every number from
@@ -153,8 +154,8 @@ pub fn open(film: &[u8], stream: usize) -> Result<State, Refusal> {
 ///
 /// In this order: 16 for the state, 8 for a palette that has not 768 bytes or, once a size is known,
 /// for a picture shorter than the frame, then what is wrong with the film: 2 to 7, 9, and 10 to 15
-/// as in [`draw`](crate::draw); of sound 17 to 19. A refused step changes nothing, so the state that
-/// went in still holds.
+/// as in [`draw`](crate::draw): a packet may leave one byte over. Of sound 17 to 19. A refused step
+/// changes nothing, so the state that went in still holds.
 ///
 /// # Examples
 ///
@@ -246,8 +247,79 @@ pub fn step(
     room: &mut [u8],
     allowed: usize,
 ) -> Result<Step, Refusal> {
+    stepped(Form::Default, film, state, palette, a, b, place, room, allowed)
+}
+
+/// Takes one step over a film as [`step`] does, in the strict form: no packet may leave a byte over.
+///
+/// The two forms come to the same, but at an opcode 11 whose packet leaves exactly one byte over and
+/// has no other fault.
+///
+/// # Errors
+///
+/// Those of [`step`], and 15 for one byte left over, too.
+///
+/// # Examples
+///
+/// A film of one frame of one block. Its opcode 11 has 14 bytes that are skipped, the block's colour
+/// and a byte that pads it to an even length.
+///
+/// ```
+/// use mve::{open, step, step_strict, Refusal, Step, NO_STREAM};
+///
+/// let film = [
+///     &b"Interplay MVE File\x1A\0\x1A\0\0\x01\x33\x11"[..],
+///     &[33, 0, 3, 0, 4, 0, 0x05, 0, 1, 0, 1, 0, 1, 0, 0x0f, 0, 0x0e, 16, 0, 0x11, 0],
+///     &[0; 14],
+///     &[0x2a, 0],
+/// ]
+/// .concat();
+///
+/// let (mut palette, mut a, mut b, mut place) = ([0; 768], [0; 64], [0; 64], 0);
+/// let mut state = open(&film, NO_STREAM)?;
+/// for _ in 0..3 {
+///     // A chunk's head, 05 and 0F: the forms do not differ.
+///     let default = step(&film, state, &mut palette, &mut a, &mut b, &mut place, &mut [], 65)?;
+///     let strict =
+///         step_strict(&film, state, &mut palette, &mut a, &mut b, &mut place, &mut [], 65)?;
+///     assert_eq!(default, strict);
+///     state = default.state();
+/// }
+/// let refused = step_strict(&film, state, &mut palette, &mut a, &mut b, &mut place, &mut [], 65);
+/// assert_eq!(refused, Err(Refusal { number: 15, block: 0 }));
+/// let taken = step(&film, state, &mut palette, &mut a, &mut b, &mut place, &mut [], 65)?;
+/// assert!(matches!(taken, Step::Whole(_, 65)));
+/// assert_eq!(b, [0x2a; 64]);
+/// # Ok::<(), Refusal>(())
+/// ```
+#[allow(clippy::too_many_arguments)] // those of `step`
+pub fn step_strict(
+    film: &[u8],
+    state: State,
+    palette: &mut [u8],
+    a: &mut [u8],
+    b: &mut [u8],
+    place: &mut usize,
+    room: &mut [u8],
+    allowed: usize,
+) -> Result<Step, Refusal> {
+    stepped(Form::Strict, film, state, palette, a, b, place, room, allowed)
+}
+
+#[allow(clippy::too_many_arguments)] // those of `step`
+fn stepped(
+    form: Form,
+    film: &[u8],
+    state: State,
+    palette: &mut [u8],
+    a: &mut [u8],
+    b: &mut [u8],
+    place: &mut usize,
+    room: &mut [u8],
+    allowed: usize,
+) -> Result<Step, Refusal> {
     let found = Numbers::from(state);
-    let moved = ffi::step(film, found, palette, a, b, place, room, allowed);
+    let moved = ffi::step(form, film, found, palette, a, b, place, room, allowed);
     let state = moved.taken(found)?;
     match (moved.answer, moved.bytes) {
         (Answer { kind: kind::ACCEPTED, number: 0, block: 0, stores: 0 }, bytes) => {
@@ -300,6 +372,10 @@ mod tests {
     /// and zeros for what is not read; a step that leaves the state gives the very numbers back.
     #[test]
     fn flags() {
+        [Form::Default, Form::Strict].into_iter().for_each(flags_of);
+    }
+
+    fn flags_of(form: Form) {
         let state = State {
             map: Some((3, 4)),
             unsent: true,
@@ -313,7 +389,8 @@ mod tests {
         let unread = Sound { stream: 77, ..Sound::default() };
         for (numbers, sound) in [(format, read), (none, unread)] {
             let step = |film: &[u8], palette: &mut [u8]| {
-                ffi::step(film, numbers, palette, &mut [], &mut [], &mut 0, &mut [], usize::MAX)
+                let (room, allowed) = (&mut [], usize::MAX);
+                ffi::step(form, film, numbers, palette, &mut [], &mut [], &mut 0, room, allowed)
             };
             let taken = step(&[HEADER, &[0; 4]].concat(), &mut [0; 768]);
             let moved = State { position: 30, chunk_end: 30, sound, ..state };

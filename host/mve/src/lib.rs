@@ -12,6 +12,10 @@
 //! A frame comes as a packet: a map with a code for each 8x8 block, and the blocks' data. [`check`]
 //! tells whether a packet is valid, [`draw`] draws it, at once or in pieces.
 //!
+//! Many films pad a packet to an even length, so these calls accept one byte left over behind the
+//! blocks' data. [`check_strict`], [`draw_strict`] and [`step_strict`] accept none: they are for the
+//! mastering desk. A player uses the others, the default forms.
+//!
 //! ```
 //! // One block of code 7: two colours, a bit for each 2x2 pixels.
 //! let (map, data) = ([0x07], [0x22, 0x11, 0xff, 0x81]);
@@ -32,9 +36,10 @@
 mod answer;
 mod ffi;
 mod film;
+mod form;
 mod packet;
 mod refusal;
 
-pub use film::{open, shown, step, Sound, State, Step, NO_STREAM, ROOM_BYTES};
-pub use packet::{check, draw, Drawn};
+pub use film::{open, shown, step, step_strict, Sound, State, Step, NO_STREAM, ROOM_BYTES};
+pub use packet::{check, check_strict, draw, draw_strict, Drawn};
 pub use refusal::Refusal;

@@ -1,17 +1,19 @@
 //! A packet, the map and the data of one frame: checking and drawing it.
 
 use crate::answer::{kind, Answer};
+use crate::form::Form;
 use crate::{ffi, Refusal};
 
 /// Checks a packet for a frame of `columns` by `rows` blocks, each 8x8 pixels.
 ///
 /// The map has one nibble for each block, low nibble first; the data has the blocks' bytes in the
-/// same order.
+/// same order. One byte may be left over behind them, since many films pad a packet to an even length;
+/// it is not read. [`check_strict`] accepts none.
 ///
 /// # Errors
 ///
 /// In this order: 6 for the size, 10 for the length of the map, then block by block 12, 13 and 14,
-/// then 15. The first block with a fault speaks.
+/// then 15 for two bytes or more left over. The first block with a fault speaks.
 ///
 /// # Examples
 ///
@@ -36,8 +38,48 @@ use crate::{ffi, Refusal};
 /// assert_eq!(check(1, 1, &[0x05], &[0x00, 0x00]), Ok(()));
 /// assert_eq!(check(1, 1, &[0x05], &[0x01, 0x00]), Err(Refusal { number: 14, block: 0 }));
 /// ```
+///
+/// Code E has one data byte. A second one pads the packet; a third is too many.
+///
+/// ```
+/// # use mve::{check, Refusal};
+/// assert_eq!(check(1, 1, &[0x0E], &[7, 0]), Ok(()));
+/// assert_eq!(check(1, 1, &[0x0E], &[7, 0, 0]), Err(Refusal { number: 15, block: 0 }));
+/// ```
 pub fn check(columns: usize, rows: usize, map: &[u8], data: &[u8]) -> Result<(), Refusal> {
-    match ffi::check(columns, rows, map, data).taken()? {
+    checked(Form::Default, columns, rows, map, data)
+}
+
+/// Checks a packet as [`check`] does, in the strict form: no byte may be left over.
+///
+/// It is for the mastering desk, which wants to know of every byte too many. The two forms answer the
+/// same, but where exactly one byte is left over and nothing else is wrong.
+///
+/// # Errors
+///
+/// Those of [`check`], and 15 for one byte left over, too.
+///
+/// # Examples
+///
+/// ```
+/// use mve::{check, check_strict, Refusal};
+///
+/// assert_eq!(check_strict(1, 1, &[0x0E], &[7]), Ok(()));
+/// assert_eq!(check_strict(1, 1, &[0x0E], &[7, 0]), Err(Refusal { number: 15, block: 0 }));
+/// assert_eq!(check(1, 1, &[0x0E], &[7, 0]), Ok(()));
+/// ```
+pub fn check_strict(columns: usize, rows: usize, map: &[u8], data: &[u8]) -> Result<(), Refusal> {
+    checked(Form::Strict, columns, rows, map, data)
+}
+
+fn checked(
+    form: Form,
+    columns: usize,
+    rows: usize,
+    map: &[u8],
+    data: &[u8],
+) -> Result<(), Refusal> {
+    match ffi::check(form, columns, rows, map, data).taken()? {
         Answer { kind: kind::ACCEPTED, number: 0, block: 0, stores: 0 } => Ok(()),
         other => other.unknown(),
     }
@@ -92,8 +134,8 @@ impl Drawn {
 /// # Errors
 ///
 /// In this order: 6 for the size, 8 for a picture shorter than the frame, 10 for the length of the
-/// map, 11 for a place above the block count, then 12 to 15 as in [`check`]. The whole packet is
-/// checked at each call, wherever the place is.
+/// map, 11 for a place above the block count, then 12 to 15 as in [`check`]: one byte may be left over.
+/// The whole packet is checked at each call, wherever the place is.
 ///
 /// # Examples
 ///
@@ -142,7 +184,62 @@ pub fn draw(
     place: &mut usize,
     allowed: usize,
 ) -> Result<Drawn, Refusal> {
-    match ffi::draw(columns, rows, map, data, front, back, place, allowed).taken()? {
+    drawn(Form::Default, columns, rows, map, data, front, back, place, allowed)
+}
+
+/// Draws a packet as [`draw`] does, in the strict form: no byte may be left over.
+///
+/// The two forms come to the same picture, place and answer, but where exactly one byte is left over
+/// and nothing else is wrong.
+///
+/// # Errors
+///
+/// Those of [`draw`], and 15 for one byte left over, too.
+///
+/// # Examples
+///
+/// ```
+/// use mve::{draw, draw_strict, Drawn, Refusal};
+///
+/// // A solid block, and a byte that pads the packet.
+/// let (map, padded, front) = ([0x0E], [7, 99], [0; 64]);
+/// let (mut back, mut place) = ([5; 64], 0);
+/// let refused = draw_strict(1, 1, &map, &padded, &front, &mut back, &mut place, 65);
+/// assert_eq!(refused, Err(Refusal { number: 15, block: 0 }));
+/// assert_eq!((back, place), ([5; 64], 0));
+///
+/// let drawn = draw(1, 1, &map, &padded, &front, &mut back, &mut place, 65)?;
+/// assert_eq!(drawn, Drawn::Whole { stores: 65 });
+/// assert_eq!((back, place), ([7; 64], 1));
+/// # Ok::<(), mve::Refusal>(())
+/// ```
+#[allow(clippy::too_many_arguments)] // those of `draw`
+pub fn draw_strict(
+    columns: usize,
+    rows: usize,
+    map: &[u8],
+    data: &[u8],
+    front: &[u8],
+    back: &mut [u8],
+    place: &mut usize,
+    allowed: usize,
+) -> Result<Drawn, Refusal> {
+    drawn(Form::Strict, columns, rows, map, data, front, back, place, allowed)
+}
+
+#[allow(clippy::too_many_arguments)] // those of `draw`
+fn drawn(
+    form: Form,
+    columns: usize,
+    rows: usize,
+    map: &[u8],
+    data: &[u8],
+    front: &[u8],
+    back: &mut [u8],
+    place: &mut usize,
+    allowed: usize,
+) -> Result<Drawn, Refusal> {
+    match ffi::draw(form, columns, rows, map, data, front, back, place, allowed).taken()? {
         Answer { kind: kind::WHOLE, number: 0, block: 0, stores } => Ok(Drawn::Whole { stores }),
         Answer { kind: kind::UNFINISHED, number: 0, block: 0, stores } => {
             Ok(Drawn::Unfinished { stores })

@@ -128,8 +128,8 @@ fn slip_entry_240() {
     assert_eq!(palette_after(0x0D, &body), expected.as_flattened());
 }
 
-/// Each number that checking and drawing meet, in the table's order, on the case of 16x8 pixels. A
-/// refused call changes neither picture nor place.
+/// Each number that checking and drawing meet, in the table's order, on the case of 16x8 pixels: 15 by
+/// two bytes left over (document 02, W6). A refused call changes neither picture nor place.
 #[test]
 fn refusals() {
     let meets = |columns, map: &[u8], data: &[u8], front: usize, found: usize| {
@@ -150,7 +150,7 @@ fn refusals() {
     assert_eq!(meets(2, &[0x6E], &[0], 128, 2), (12, 1));
     assert_eq!(meets(2, &[0xEE], &[0], 128, 2), (13, 1));
     assert_eq!(meets(2, &[0x2E], &[0, 0], 128, 2), (14, 1));
-    assert_eq!(meets(2, &[0xEE], &[0, 0, 0], 128, 2), (15, 0));
+    assert_eq!(meets(2, &[0xEE], &[0, 0, 0, 0], 128, 2), (15, 0));
 }
 
 /// Slices without a byte are lent like others.

@@ -8,13 +8,19 @@ fn library_folder(root: &Path) -> PathBuf {
     env::var_os("MVE_LIB_DIR").map_or_else(|| root.join("target/staticlib"), PathBuf::from)
 }
 
+/// In C99, the oldest C with the inline functions that the header has, and in C11.
 #[test]
 fn c_program() {
+    ["c99", "c11"].into_iter().for_each(compiled_and_run);
+}
+
+fn compiled_and_run(standard: &str) {
     let here = Path::new(env!("CARGO_MANIFEST_DIR"));
     let root = here.join("../..");
-    let program = Path::new(env!("CARGO_TARGET_TMPDIR")).join("header");
+    let program = Path::new(env!("CARGO_TARGET_TMPDIR")).join(format!("header_{standard}"));
     let compiled = Command::new("cc")
-        .args(["-std=c11", "-Wall", "-Wextra", "-Wpedantic", "-Werror", "-I"])
+        .arg(format!("-std={standard}"))
+        .args(["-Wall", "-Wextra", "-pedantic", "-Werror", "-I"])
         .arg(root.join("include"))
         .arg(here.join("tests/c/header.c"))
         .arg(library_folder(&root).join("libmve.a"))

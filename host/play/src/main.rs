@@ -173,8 +173,10 @@ fn begin(arguments: &Arguments) -> Result<Kept, Failure> {
 /// A run of the player, up to its stop. All that it knows besides `kept` it finds out anew, the
 /// film included.
 ///
-/// What a step gives is written before the state is saved: a stop in between writes a picture twice,
-/// but loses none; samples go to the same place of the file again.
+/// Steps are of the default form: many films pad their packets by a byte, and are to be played
+/// (`step_strict` is for the mastering desk). What a step gives is written before the state is saved: a
+/// stop in between writes a picture twice, but loses none; samples go to the same place of the file
+/// again.
 fn run(kept: &mut Kept, arguments: &Arguments, watchdog: &mut Watchdog) -> Result<Run, Failure> {
     kept.load().sound.cut(&arguments.folder)?;
     let film = fs::read(&arguments.film).map_err(Failure::Film)?;

@@ -5,6 +5,7 @@ mod common;
 
 use common::{assert_played, assert_refused, Options};
 use maker::film_damage::{self, Damage};
+use maker::packet::Draft;
 use maker::{demo, film, Profile, Seeded, Size};
 use reference::pictures;
 use reference::sound::NO_STREAM;
@@ -52,6 +53,29 @@ fn long_and_large_films() {
         for &allowance in allowances {
             assert_played("long_and_large_films", &film, &played, &silent(allowance));
         }
+    }
+}
+
+/// A film of which every packet leaves bytes over: one is played, to the pictures of the film without
+/// it; two are refused.
+#[test]
+fn padded_films() {
+    for seed in 0..10 {
+        let rng = &mut Seeded::new(seed);
+        let (size, profile) = (Size::small(rng), rng.pick(&Profile::MANY));
+        let drafts = [(); 4].map(|()| Draft::make(rng, size, profile));
+        let [plain, padded, refused] = [0, 1, 2].map(|over| {
+            let rng = &mut Seeded::new(seed);
+            let packets = drafts.clone().map(|draft| draft.with_over(rng, over).packet());
+            film::of_packets(rng, size, packets.to_vec()).bytes()
+        });
+        let played = pictures::play(&padded, NO_STREAM);
+        assert_eq!(played.pictures, pictures::play(&plain, NO_STREAM).pictures);
+        assert_eq!(played.pictures.len(), 4);
+        assert_played("padded_films", &padded, &played, &silent(ALLOWANCES[seed as usize % 4]));
+        let played = pictures::play(&refused, NO_STREAM);
+        assert_eq!(played.refusal.map(|refusal| refusal.number), Some(15));
+        assert_refused("padded_films", &refused, &played, &silent(1000));
     }
 }
 

@@ -7,12 +7,14 @@
 //! The claim is about lists whose accepted calls all have one packet, map, size and front.
 
 use crate::frame::FrameSize;
-use crate::packet::{self, Block, Drawn};
+use crate::packet::{self, Block, CallForm, Drawn};
 use crate::refusal::Refusal;
 
 /// One drawing call as the book is fed it. A call cut at j is fed as one allowed j.
 #[derive(Clone, Copy, Debug)]
 pub struct Call<'a> {
+    /// Its form. Demand 3 reads the default (02, W6); the strict form is held to it, too.
+    pub form: CallForm,
     /// Blocks in a row of the frame.
     pub columns: usize,
     /// Rows of blocks.
@@ -68,6 +70,7 @@ impl Book {
     pub fn enter(&mut self, call: &Call<'_>) -> Result<Drawn, Refusal> {
         let size = FrameSize::new(call.columns, call.rows)?;
         let blocks = packet::accepted_blocks(
+            call.form,
             size,
             call.map,
             call.data,

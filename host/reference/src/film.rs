@@ -1,8 +1,8 @@
 //! The film: header, chunks, opcodes, one step, the shown picture
-//! (01, "Film, chunks, opcodes" and "Numbers of refusal"; 02, W1 and W5).
+//! (01, "Film, chunks, opcodes" and "Numbers of refusal"; 02, W1, W5 and W6).
 
 use crate::frame::FrameSize;
-use crate::packet;
+use crate::packet::{self, CallForm};
 use crate::palette;
 use crate::refusal::{self, Refusal};
 use crate::sound::{self, Sound};
@@ -122,6 +122,15 @@ pub struct Lent<'a> {
     pub room: &'a mut [u8],
 }
 
+/// What a step's drawing is allowed.
+#[derive(Clone, Copy)]
+struct Allowance {
+    /// How many stores.
+    stores: usize,
+    /// What its packet may leave over.
+    form: CallForm,
+}
+
 /// The answer to one step. Only drawing counts stores; every other step makes 0 (01). Only 08 and
 /// 09 write to the room; every other step writes 0 bytes.
 #[derive(Clone, Copy, Debug, PartialEq, Eq)]
@@ -209,12 +218,25 @@ pub fn opcode_head(film: &[u8], position: usize, chunk_end: usize) -> Result<Opc
     Ok(OpcodeHead { kind, version, body: Span { start, length } })
 }
 
-/// One step: takes a chunk head where position and chunk end are equal, else one opcode.
+/// One step, in the default form: takes a chunk head where position and chunk end are equal, else one
+/// opcode.
 ///
 /// Refusals come in the order 16, 8, 2 for a chunk head, and 16, 8, 3, 4, 5, then the opcode's
 /// own. While drawing is unfinished the state stays, so that the next step draws on.
-pub fn step(film: &[u8], state: State, mut lent: Lent<'_>, allowed: usize) -> Stepped {
-    match take_step(film, state, &mut lent, allowed) {
+pub fn step(film: &[u8], state: State, lent: Lent<'_>, allowed: usize) -> Stepped {
+    step_as(CallForm::Default, film, state, lent, allowed)
+}
+
+/// [`step`] in this form: it is that of the drawing.
+pub fn step_as(
+    form: CallForm,
+    film: &[u8],
+    state: State,
+    mut lent: Lent<'_>,
+    allowed: usize,
+) -> Stepped {
+    let allowance = Allowance { stores: allowed, form };
+    match take_step(film, state, &mut lent, allowance) {
         Ok(Stepped::Taken(after, bytes)) => Stepped::Taken(after.settled(), bytes),
         Ok(Stepped::Whole(after, stores)) => Stepped::Whole(after.settled(), stores),
         Ok(stays) => stays,
@@ -237,14 +259,14 @@ fn take_step(
     film: &[u8],
     state: State,
     lent: &mut Lent<'_>,
-    allowed: usize,
+    allowance: Allowance,
 ) -> Result<Stepped, Refusal> {
     check_state(film, &state)?;
     check_lent(&state, lent)?;
     if state.position == state.chunk_end {
         enter_chunk(film, state)
     } else {
-        take_opcode(film, state, lent, allowed)
+        take_opcode(film, state, lent, allowance)
     }
 }
 
@@ -285,7 +307,7 @@ fn take_opcode(
     film: &[u8],
     state: State,
     lent: &mut Lent<'_>,
-    allowed: usize,
+    allowance: Allowance,
 ) -> Result<Stepped, Refusal> {
     let head = opcode_head(film, state.position, state.chunk_end)?;
     let moved = State { position: head.body.start + head.body.length, ..state };
@@ -312,7 +334,7 @@ fn take_opcode(
             *lent.place = 0;
             Ok(taken(State { map: Some(head.body), ..moved }))
         }
-        opcode::VIDEO => draw_video(film, &body[VIDEO_FRONT..], state, moved, lent, allowed),
+        opcode::VIDEO => draw_video(film, &body[VIDEO_FRONT..], state, moved, lent, allowance),
         opcode::INIT_AUDIO => {
             let sound = sound::initialize(state.sound, head.version, body)?;
             Ok(taken(State { sound, ..moved }))
@@ -413,7 +435,7 @@ fn draw_video(
     state: State,
     moved: State,
     lent: &mut Lent<'_>,
-    allowed: usize,
+    allowance: Allowance,
 ) -> Result<Stepped, Refusal> {
     let map = state.map.and_then(|map| map.of(film));
     let (Some(map), false) = (map, state.has_no_size()) else {
@@ -424,8 +446,8 @@ fn draw_video(
     } else {
         (&*lent.picture_b, &mut *lent.picture_a)
     };
-    let State { columns, rows, .. } = state;
-    let drawn = packet::draw(columns, rows, map, packet, front, back, lent.place, allowed)?;
+    let (State { columns, rows, .. }, Allowance { stores, form }) = (state, allowance);
+    let drawn = packet::draw_as(form, columns, rows, map, packet, front, back, lent.place, stores)?;
     Ok(if drawn.whole {
         let after = State { map: None, unsent: true, ..moved };
         Stepped::Whole(after, drawn.stores)

@@ -1,5 +1,5 @@
 //! A packet: the map and the data of one frame. Checking it, and drawing it store by store
-//! (01, "Packet, blocks, place").
+//! (01, "Packet, blocks, place"; what may be left over: 02, W6).
 
 use crate::block::{self, Source};
 use crate::frame::{FrameSize, BLOCK_PIXELS, BLOCK_SIDE};
@@ -9,6 +9,29 @@ use crate::refusal::{self, Refusal};
 const REFUSED_CODE: u8 = 0x6;
 /// "Untouched" (01): the only code without pixel stores.
 const UNTOUCHED: u8 = 0x1;
+
+/// The form of a call that takes a packet (02, W6): how many bytes may be left over behind the last
+/// block's data.
+#[derive(Clone, Copy, Debug, PartialEq, Eq, PartialOrd, Ord)]
+pub enum CallForm {
+    /// One, since films pad packets to an even length. A call is of this form where none is named.
+    Default,
+    /// None, as the mastering desk asks.
+    Strict,
+}
+
+impl CallForm {
+    /// Both forms.
+    pub const ALL: [CallForm; 2] = [CallForm::Default, CallForm::Strict];
+
+    /// The bytes that may be left over: 1 or 0.
+    pub const fn may_be_left(self) -> usize {
+        match self {
+            CallForm::Default => 1,
+            CallForm::Strict => 0,
+        }
+    }
+}
 
 /// A block of an accepted packet.
 #[derive(Clone, Copy, Debug, PartialEq, Eq)]
@@ -52,10 +75,22 @@ impl Block<'_> {
     }
 }
 
-/// Checks a packet for a frame of so many columns and rows of blocks: 6, 10, then block by block 12,
-/// 13, 14, then 15.
+/// Checks a packet for a frame of so many columns and rows of blocks, in the default form: 6, 10, then
+/// block by block 12, 13, 14, then 15.
 pub fn check(columns: usize, rows: usize, map: &[u8], data: &[u8]) -> Result<(), Refusal> {
-    blocks(columns, rows, map, data).map(|_| ())
+    check_as(CallForm::Default, columns, rows, map, data)
+}
+
+/// [`check`] in this form.
+pub fn check_as(
+    form: CallForm,
+    columns: usize,
+    rows: usize,
+    map: &[u8],
+    data: &[u8],
+) -> Result<(), Refusal> {
+    let left = left_over(columns, rows, map, data)?;
+    check_left_over(form, left)
 }
 
 /// The blocks of a packet that [`check`] accepts, in order.
@@ -65,6 +100,24 @@ pub fn blocks<'a>(
     map: &[u8],
     data: &'a [u8],
 ) -> Result<Vec<Block<'a>>, Refusal> {
+    let (blocks, left) = split_packet(columns, rows, map, data)?;
+    check_left_over(CallForm::Default, left)?;
+    Ok(blocks)
+}
+
+/// The bytes behind the data of a packet's last block, whether or not so many may be left over; or the
+/// refusal of a check that comes before 15.
+pub fn left_over(columns: usize, rows: usize, map: &[u8], data: &[u8]) -> Result<usize, Refusal> {
+    split_packet(columns, rows, map, data).map(|(_, left)| left)
+}
+
+/// The tests of a check in front of 15.
+fn split_packet<'a>(
+    columns: usize,
+    rows: usize,
+    map: &[u8],
+    data: &'a [u8],
+) -> Result<(Vec<Block<'a>>, usize), Refusal> {
     let size = FrameSize::new(columns, rows)?;
     check_map_length(size, map)?;
     split(size, map, data)
@@ -79,7 +132,7 @@ pub struct Drawn {
     pub stores: usize,
 }
 
-/// Draws a packet on `back`, going on from `place`, with at most `allowed` stores.
+/// Draws a packet on `back`, going on from `place`, with at most `allowed` stores, in the default form.
 ///
 /// The place (01) is the number of blocks that are finished: the block to draw next. It is stored
 /// once behind each block, so a call that ends inside a block has that block drawn again from its
@@ -95,8 +148,24 @@ pub fn draw(
     place: &mut usize,
     allowed: usize,
 ) -> Result<Drawn, Refusal> {
+    draw_as(CallForm::Default, columns, rows, map, data, front, back, place, allowed)
+}
+
+/// [`draw`] in this form.
+#[allow(clippy::too_many_arguments)] // those of `draw`
+pub fn draw_as(
+    form: CallForm,
+    columns: usize,
+    rows: usize,
+    map: &[u8],
+    data: &[u8],
+    front: &[u8],
+    back: &mut [u8],
+    place: &mut usize,
+    allowed: usize,
+) -> Result<Drawn, Refusal> {
     let size = FrameSize::new(columns, rows)?;
-    let blocks = accepted_blocks(size, map, data, front, back, *place)?;
+    let blocks = accepted_blocks(form, size, map, data, front, back, *place)?;
     let mut stores = 0;
     'drawing: for block in &blocks[*place..] {
         for i in 0..block.pixel_stores() {
@@ -118,6 +187,7 @@ pub fn draw(
 
 /// The tests of a drawing call behind that of the size: 8, 10, 11, then 12 to 15.
 pub(crate) fn accepted_blocks<'a>(
+    form: CallForm,
     size: FrameSize,
     map: &[u8],
     data: &'a [u8],
@@ -132,7 +202,9 @@ pub(crate) fn accepted_blocks<'a>(
     if place > size.blocks() {
         return Err(Refusal::new(refusal::PLACE));
     }
-    split(size, map, data)
+    let (blocks, left) = split(size, map, data)?;
+    check_left_over(form, left)?;
+    Ok(blocks)
 }
 
 fn check_map_length(size: FrameSize, map: &[u8]) -> Result<(), Refusal> {
@@ -143,9 +215,14 @@ fn check_map_length(size: FrameSize, map: &[u8]) -> Result<(), Refusal> {
     }
 }
 
-/// Gives each block its part of the data. All blocks are tested from block 0 on, whatever the
-/// place, and the lowest one with a fault speaks (01, "Numbers of refusal").
-fn split<'a>(size: FrameSize, map: &[u8], data: &'a [u8]) -> Result<Vec<Block<'a>>, Refusal> {
+/// Gives each block its part of the data, and tells how many bytes are left over. All blocks are
+/// tested from block 0 on, whatever the place, and the lowest one with a fault speaks (01, "Numbers of
+/// refusal").
+fn split<'a>(
+    size: FrameSize,
+    map: &[u8],
+    data: &'a [u8],
+) -> Result<(Vec<Block<'a>>, usize), Refusal> {
     let mut blocks = Vec::with_capacity(size.blocks());
     let mut rest = data;
     for number in 0..size.blocks() {
@@ -153,10 +230,15 @@ fn split<'a>(size: FrameSize, map: &[u8], data: &'a [u8]) -> Result<Vec<Block<'a
         rest = &rest[block.data.len()..];
         blocks.push(block);
     }
-    if may_be_left(rest) {
-        Ok(blocks)
-    } else {
+    Ok((blocks, rest.len()))
+}
+
+/// 15: more bytes are left over than may be.
+fn check_left_over(form: CallForm, left: usize) -> Result<(), Refusal> {
+    if left > form.may_be_left() {
         Err(Refusal::new(refusal::DATA_LEFT))
+    } else {
+        Ok(())
     }
 }
 
@@ -184,9 +266,4 @@ fn map_code(map: &[u8], block: usize) -> u8 {
     } else {
         byte >> 4
     }
-}
-
-/// The rule on data behind the last block: none may be left (01, refusal 15).
-fn may_be_left(rest: &[u8]) -> bool {
-    rest.is_empty()
 }

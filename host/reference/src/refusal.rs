@@ -30,7 +30,7 @@ pub const CODE_6: u8 = 12;
 pub const DATA_SHORT: u8 = 13;
 /// A copied block does not lie inside the picture.
 pub const COPY_OUTSIDE: u8 = 14;
-/// Data bytes left over behind the last block.
+/// More data bytes left over behind the last block than may be: two or more, in the strict form one.
 pub const DATA_LEFT: u8 = 15;
 /// A film state that cannot be.
 pub const STATE: u8 = 16;

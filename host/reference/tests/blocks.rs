@@ -5,7 +5,7 @@
 mod common;
 
 use common::{block, hex};
-use reference::{block::source, check, draw, packet, Refusal, Source};
+use reference::{block::source, check, check_as, draw, packet, CallForm, Refusal, Source};
 
 /// Eight rows from the rows given; the last one is repeated to the bottom.
 fn layout(rows: &[&str]) -> Vec<u8> {
@@ -315,7 +315,8 @@ fn forms() -> Vec<(u8, Vec<u8>)> {
 }
 
 /// Each form takes just its length: every shorter one is 13, also where the bytes that choose the
-/// form are missing, and one byte more is 15.
+/// form are missing, and every longer one is 15 in the strict form; in the default one byte more is
+/// taken (02, W6).
 #[test]
 fn lengths() {
     for (code, data) in forms() {
@@ -326,9 +327,13 @@ fn lengths() {
             let answer = check(1, 1, &[code], &data[..length]);
             assert_eq!(answer, Err(short), "{case} cut to {length}");
         }
-        let left = Refusal { number: 15, block: 0 };
-        let longer = [&data[..], &[0]].concat();
-        assert_eq!(check(1, 1, &[code], &longer), Err(left), "{case}");
+        let left = Err(Refusal { number: 15, block: 0 });
+        for (over, default, strict) in [(0, Ok(()), Ok(())), (1, Ok(()), left), (2, left, left)] {
+            let longer = [&data[..], &[0; 2][..over]].concat();
+            let answer = |form| check_as(form, 1, 1, &[code], &longer);
+            assert_eq!(answer(CallForm::Default), default, "{case} and {over}");
+            assert_eq!(answer(CallForm::Strict), strict, "{case} and {over}");
+        }
     }
 }
 

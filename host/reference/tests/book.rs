@@ -2,13 +2,14 @@
 //! calls is tested beside their maker.)
 
 use reference::book::{Book, Call};
-use reference::{Drawn, Refusal};
+use reference::{CallForm, Drawn, Refusal};
 
 const FRONT: [u8; 128] = [1; 128];
 
 /// The marked case of 01: 16x8 pixels, map E2, data 00 07.
 fn call(allowed: usize) -> Call<'static> {
-    Call { columns: 2, rows: 1, map: &[0xE2], data: &[0x00, 0x07], front: &FRONT, allowed }
+    let (form, map, data) = (CallForm::Default, &[0xE2], &[0x00, 0x07]);
+    Call { form, columns: 2, rows: 1, map, data, front: &FRONT, allowed }
 }
 
 fn drawn(whole: bool, stores: usize) -> Result<Drawn, Refusal> {
@@ -54,6 +55,7 @@ fn several_calls() {
 fn frame_is_worked_out_from_the_picture_found() {
     let front = [1; 192];
     let call = |allowed| Call {
+        form: CallForm::Default,
         columns: 3,
         rows: 1,
         map: &[0xE2, 0x03],
@@ -90,7 +92,8 @@ fn refused_calls() {
         (Call { map: &[0x6E], ..call(65) }, refused(12, 1)),
         (Call { data: &[0x00], ..call(65) }, refused(13, 1)),
         (Call { data: &[0x01, 0x07], ..call(65) }, refused(14, 0)),
-        (Call { data: &[0, 7, 7], ..call(65) }, refused(15, 0)),
+        (Call { data: &[0, 7, 7, 7], ..call(65) }, refused(15, 0)),
+        (Call { form: CallForm::Strict, data: &[0, 7, 7], ..call(65) }, refused(15, 0)),
     ];
     for (call, answer) in calls {
         assert_eq!(book.enter(&call), answer);
@@ -98,4 +101,27 @@ fn refused_calls() {
     }
     // At place 0 the small packet is not refused.
     assert_eq!(Book::open(&[5; 128]).enter(&small), drawn(true, 1));
+}
+
+/// A packet with a byte left over (02, W6): the marked case again, in the default form. Strict calls
+/// between are refused and make no store; with nothing left over both forms come to the same.
+#[test]
+fn odd_byte() {
+    let refused = Err(Refusal { number: 15, block: 0 });
+    let padded = |form, allowed| Call { form, data: &[0x00, 0x07, 0xFF], ..call(allowed) };
+    let mut book = Book::open(&[5; 128]);
+    assert_eq!(book.enter(&padded(CallForm::Strict, 130)), refused);
+    assert_eq!((book.picture(), book.place()), (&[5; 128][..], 0));
+    assert_eq!(book.enter(&padded(CallForm::Default, 75)), drawn(false, 75));
+    assert_eq!(book.enter(&padded(CallForm::Strict, 130)), refused);
+    assert_eq!(book.enter(&padded(CallForm::Default, 75)), drawn(true, 65));
+    let mut strict = Book::open(&[5; 128]);
+    let call = Call { form: CallForm::Strict, ..call(312_000) };
+    assert_eq!(strict.enter(&call), drawn(true, 130));
+    for book in [book, strict] {
+        assert_eq!(book.place(), 2);
+        for row in book.picture().chunks(16) {
+            assert_eq!(row, [[5; 8], [7; 8]].concat());
+        }
+    }
 }

@@ -415,7 +415,7 @@ fn numbers_10_to_15() {
         (&[0x6E], &[1], 12, 1),
         (&[0xEE], &[1], 13, 1),
         (&[0x5E], &[1, 0x01, 0], 14, 1),
-        (&[0xEE], &[1, 2, 3], 15, 0),
+        (&[0xEE], &[1, 2, 3, 4], 15, 0),
     ] {
         let opcodes = [size(2, 1), opcode(0x0F, 0, map), video(packet)];
         let mut lent = Lent::zero(128);

@@ -145,10 +145,12 @@ fn number_14_code_4() {
     }
 }
 
+/// 15: two bytes or more (02, W6). The strict form is in `odd_byte.rs`.
 #[test]
 fn number_15_bytes_left_over() {
     assert_eq!(check(1, 1, &[0xE], &[1]), Ok(()));
-    assert_eq!(check(1, 1, &[0xE], &[1, 2]), refused(15));
+    assert_eq!(check(1, 1, &[0xE], &[1, 2]), Ok(()));
+    assert_eq!(check(1, 1, &[0xE], &[1, 2, 3]), refused(15));
     assert_eq!(check(1, 1, &[0x1], &[0; 70_000]), refused(15));
 }
 
@@ -166,8 +168,8 @@ fn order_of_checking() {
     assert_eq!(check(2, 1, &[0x65], &[0x01]), refused_in(13, 0));
     // Block 0 has code 6 (12) and block 1 lacks data.
     assert_eq!(check(2, 1, &[0xE6], &[]), refused_in(12, 0));
-    // Block 1 copies outside (14) with a byte left over (15).
-    assert_eq!(check(2, 1, &[0x51], &[1, 0, 0]), refused_in(14, 1));
+    // Block 1 copies outside (14) with bytes left over (15).
+    assert_eq!(check(2, 1, &[0x51], &[1, 0, 0, 0]), refused_in(14, 1));
 }
 
 /// The order 6, 8, 10, 11, 12 to 15 of drawing, and that a refused call changes nothing.
@@ -175,7 +177,7 @@ fn order_of_checking() {
 fn order_of_drawing() {
     let refuse = |columns: usize, pixels: usize, map: &[u8], at: usize| {
         let (front, mut back, mut place) = (vec![1; pixels], vec![2; pixels], at);
-        let drawn = draw(columns, 1, map, &[9], &front, &mut back, &mut place, 312_000);
+        let drawn = draw(columns, 1, map, &[9, 9], &front, &mut back, &mut place, 312_000);
         assert_eq!(back, vec![2; pixels]);
         assert_eq!(place, at);
         drawn
@@ -186,7 +188,7 @@ fn order_of_drawing() {
     assert_eq!(refuse(2, 128, &[], 9), refused(10));
     assert_eq!(refuse(2, 128, &[0x6E], 9), refused(11));
     assert_eq!(refuse(2, 128, &[0x6E], 1), refused_in(12, 1));
-    assert_eq!(refuse(2, 128, &[0xEE], 1), refused_in(13, 1));
+    assert_eq!(refuse(2, 128, &[0xFE], 1), refused_in(13, 1));
     assert_eq!(refuse(2, 128, &[0x12], 1), refused_in(14, 0));
     assert_eq!(refuse(2, 128, &[0x11], 1), refused(15));
 }

@@ -6,6 +6,7 @@ use crate::list::{self, Packet, Store};
 use crate::state;
 use mve::ROOM_BYTES;
 use reference::film::{Lent, State, Stepped};
+use reference::CallForm;
 
 /// A process to stop, and what is expected at a stop.
 pub trait Case {
@@ -22,9 +23,10 @@ pub trait Case {
     fn go_on(&self, left: &Memory) -> Result<(), String>;
 }
 
-/// A call of `mve_draw`. The first picture is front, the second one back.
+/// A call of `mve_draw` or `mve_draw_strict`. The first picture is front, the second one back.
 #[derive(Clone, Debug)]
 pub struct Drawing {
+    form: CallForm,
     packet: maker::Packet,
     allowed: usize,
     found: Memory,
@@ -34,19 +36,31 @@ pub struct Drawing {
 }
 
 impl Drawing {
-    /// A call with a valid packet, behind an earlier one that made so many stores.
-    pub fn new(packet: maker::Packet, first: Memory, earlier: usize, allowed: usize) -> Drawing {
+    /// A call of this form with a packet that is valid in it, behind an earlier one that made so many
+    /// stores.
+    pub fn new(
+        form: CallForm,
+        packet: maker::Packet,
+        first: Memory,
+        earlier: usize,
+        allowed: usize,
+    ) -> Drawing {
         let (mut found, mut end) = (first.clone(), first);
-        second_draw(&packet, &mut found, earlier);
-        second_draw(&packet, &mut end, usize::MAX);
-        let drawn = second_draw(&packet, &mut found.clone(), allowed);
+        second_draw(form, &packet, &mut found, earlier);
+        second_draw(form, &packet, &mut end, usize::MAX);
+        let drawn = second_draw(form, &packet, &mut found.clone(), allowed);
         let answer = match drawn.whole {
             true => format!("whole {}\n", drawn.stores),
             false => format!("unfinished {}\n", drawn.stores),
         };
         let mut stores = list::drawing(&listed(&packet), &found).expect("a valid packet");
         stores.truncate(allowed);
-        Drawing { packet, allowed, found, stores, answer, end }
+        Drawing { form, packet, allowed, found, stores, answer, end }
+    }
+
+    /// The form of the call.
+    pub fn form(&self) -> CallForm {
+        self.form
     }
 
     /// The packet.
@@ -61,17 +75,22 @@ fn listed(packet: &maker::Packet) -> Packet<'_> {
 }
 
 /// A call of the second decoder.
-fn second_draw(packet: &maker::Packet, memory: &mut Memory, allowed: usize) -> reference::Drawn {
+fn second_draw(
+    form: CallForm,
+    packet: &maker::Packet,
+    memory: &mut Memory,
+    allowed: usize,
+) -> reference::Drawn {
     let maker::Packet { columns, rows, map, data } = packet;
     let Memory { pictures: [front, back], place, .. } = memory;
-    reference::draw(*columns, *rows, map, data, front, back, place, allowed)
+    reference::draw_as(form, *columns, *rows, map, data, front, back, place, allowed)
         .expect("a valid packet")
 }
 
 impl Case for Drawing {
     fn arguments(&self) -> Vec<String> {
         let maker::Packet { columns, rows, map, data } = &self.packet;
-        let mut words = vec!["--draw".to_string()];
+        let mut words = vec!["--draw".to_string(), form_name(self.form)];
         words.extend([*columns, *rows, self.allowed].map(|number| number.to_string()));
         words.extend([hex(map), hex(data)]);
         words
@@ -94,7 +113,11 @@ impl Case for Drawing {
         let due = list::due(&listed(&self.packet), left.place);
         let mut memory = left.clone();
         let Memory { pictures: [front, back], place, .. } = &mut memory;
-        let drawn = mve::draw(*columns, *rows, map, data, front, back, place, usize::MAX);
+        let draw = match self.form {
+            CallForm::Default => mve::draw,
+            CallForm::Strict => mve::draw_strict,
+        };
+        let drawn = draw(*columns, *rows, map, data, front, back, place, usize::MAX);
         if drawn != Ok(mve::Drawn::Whole { stores: due }) {
             return Err(format!("the new call answers {drawn:?}, with {due} stores due"));
         }
@@ -102,10 +125,11 @@ impl Case for Drawing {
     }
 }
 
-/// A walk over a film to its end by `mve_step`, every step with the same allowance. What is kept
-/// begins with the film's first state.
+/// A walk over a film to its end by `mve_step` or `mve_step_strict`, every step with the same allowance.
+/// What is kept begins with the film's first state.
 #[derive(Clone, Debug)]
 pub struct Walk {
+    form: CallForm,
     film: Vec<u8>,
     allowed: usize,
     found: Memory,
@@ -128,14 +152,20 @@ pub struct Step {
 }
 
 impl Walk {
-    /// A walk over a valid film, for a stream of its sound.
-    pub fn new(film: Vec<u8>, stream: usize, first: Memory, allowed: usize) -> Walk {
+    /// A walk by steps of this form over a film that is valid in it, for a stream of its sound.
+    pub fn new(
+        form: CallForm,
+        film: Vec<u8>,
+        stream: usize,
+        first: Memory,
+        allowed: usize,
+    ) -> Walk {
         let opened = reference::film::open(&film, stream).expect("a valid film");
         let found = Memory { state: state::second_numbers(opened), ..first };
-        let (stores, calls) = listed_walk(&film, opened, found.clone(), allowed);
+        let (stores, calls) = listed_walk(form, &film, opened, found.clone(), allowed);
         let answer = format!("ended after {calls} steps\n");
-        let steps = steps(&film, stream, found.clone());
-        Walk { film, allowed, found, stores, answer, steps }
+        let steps = steps(form, &film, stream, found.clone());
+        Walk { form, film, allowed, found, stores, answer, steps }
     }
 
     /// The steps that nothing stops.
@@ -151,6 +181,7 @@ impl Walk {
 
 /// The stores of a walk, those of the state included, and how many steps it has.
 fn listed_walk(
+    form: CallForm,
     film: &[u8],
     opened: State,
     mut memory: Memory,
@@ -164,7 +195,7 @@ fn listed_walk(
         }
         let mut model = memory.clone();
         listed.iter().for_each(|&store| model.make(store));
-        let next = match second_step(film, state, &mut memory, allowed).0 {
+        let next = match second_step(form, film, state, &mut memory, allowed).0 {
             Stepped::Taken(next, _) | Stepped::Whole(next, _) => next,
             Stepped::Unfinished(same, _) => same,
             Stepped::Ended(_) => return (stores, calls),
@@ -183,13 +214,13 @@ fn listed_walk(
 }
 
 /// The steps of a film that nothing stops.
-pub fn steps(film: &[u8], stream: usize, mut memory: Memory) -> Vec<Step> {
+pub fn steps(form: CallForm, film: &[u8], stream: usize, mut memory: Memory) -> Vec<Step> {
     let mut state = reference::film::open(film, stream).expect("a valid film");
     memory.state = state::second_numbers(state);
     let mut steps = Vec::new();
     loop {
         let before = memory.clone();
-        let (answer, samples) = second_step(film, state, &mut memory, usize::MAX);
+        let (answer, samples) = second_step(form, film, state, &mut memory, usize::MAX);
         let next = match answer {
             Stepped::Taken(next, _) | Stepped::Whole(next, _) | Stepped::Ended(next) => next,
             other => panic!("a valid film is answered {other:?}"),
@@ -211,6 +242,7 @@ pub fn at(steps: &[Step], state: Numbers) -> Result<usize, String> {
 
 /// A step of the second decoder, and the samples that it writes.
 fn second_step(
+    form: CallForm,
     film: &[u8],
     state: State,
     memory: &mut Memory,
@@ -219,14 +251,15 @@ fn second_step(
     let Memory { palette, pictures: [picture_a, picture_b], place, .. } = memory;
     let mut room = vec![0; ROOM_BYTES];
     let lent = Lent { palette, picture_a, picture_b, place, room: &mut room };
-    let stepped = reference::film::step(film, state, lent, allowed);
+    let stepped = reference::film::step_as(form, film, state, lent, allowed);
     room.truncate(if let Stepped::Taken(_, bytes) = stepped { bytes } else { 0 });
     (stepped, room)
 }
 
 impl Case for Walk {
     fn arguments(&self) -> Vec<String> {
-        vec!["--film".to_string(), self.allowed.to_string(), hex(&self.film)]
+        let form = form_name(self.form);
+        vec!["--film".to_string(), form, self.allowed.to_string(), hex(&self.film)]
     }
 
     fn found(&self) -> &Memory {
@@ -249,7 +282,11 @@ impl Case for Walk {
         let mut memory = left.clone();
         let Memory { palette, pictures: [a, b], place, .. } = &mut memory;
         let (given, mut room) = (state::of_numbers(left.state), vec![0; samples.len()]);
-        let step = mve::step(&self.film, given, palette, a, b, place, &mut room, usize::MAX)
+        let call = match self.form {
+            CallForm::Default => mve::step,
+            CallForm::Strict => mve::step_strict,
+        };
+        let step = call(&self.film, given, palette, a, b, place, &mut room, usize::MAX)
             .map_err(|refusal| format!("the new step is refused: {refusal}"))?;
         memory.state = state::numbers(step.state());
         let packet = list::packet_at(&self.film, state);
@@ -285,6 +322,16 @@ fn same(memory: &Memory, undisturbed: &Memory) -> Result<(), String> {
 
 /// No state: of a drawing call, which has none.
 pub const NO_STATE: Numbers = [0; 17];
+
+/// A form as an argument.
+fn form_name(form: CallForm) -> String {
+    format!("{form:?}")
+}
+
+/// The form of an argument.
+pub fn form_named(word: &str) -> CallForm {
+    CallForm::ALL.into_iter().find(|&form| form_name(form) == word).expect("a form")
+}
 
 /// Bytes as an argument.
 fn hex(bytes: &[u8]) -> String {

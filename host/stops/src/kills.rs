@@ -9,6 +9,7 @@ use crate::stopped;
 use maker::film::{init_video, Film};
 use maker::{Profile, Seeded, Size};
 use mve::NO_STREAM;
+use reference::CallForm;
 use std::env;
 use std::fs::{self, File};
 use std::io::{self, Read, Seek, Write};
@@ -86,7 +87,7 @@ pub fn play(player: Player, film: &str, allowed: usize) -> io::Result<()> {
     if player == Player::BeginsAnew {
         kept.place = 0;
     }
-    stopped::walk(kept, &film, allowed, |kept, next| {
+    stopped::walk(CallForm::Default, kept, &film, allowed, |kept, next| {
         let position = (next.position as u64).to_le_bytes();
         let picture = mve::shown(next, &kept.a, &kept.b);
         output.write_all(&[&position[..], &kept.palette, picture].concat())
@@ -99,7 +100,8 @@ fn film(rng: &mut Seeded) -> Film {
     let mut chunks = vec![made::chunk(vec![init_video(SIZE)])];
     for frame in 1..=FRAMES {
         let profile = Profile::MANY[frame % Profile::MANY.len()];
-        let [map, video, send] = made::frame(rng, SIZE, profile);
+        let over = rng.below(2); // half of the packets are padded
+        let [map, video, send] = made::frame(rng, SIZE, profile, over);
         let mut opcodes = vec![map, video];
         if frame % SENT == 0 {
             opcodes.extend([made::gradients(rng), made::set_palette(rng)]);
@@ -116,7 +118,7 @@ pub fn kill(program: &Path, player: Player, seed: u64, kills: usize) -> io::Resu
     let rng = &mut Seeded::new(seed);
     let bytes = film(rng).bytes();
     let film = Stored::new(&bytes)?;
-    let steps = cases::steps(&bytes, NO_STREAM, made::memory(rng, LENT));
+    let steps = cases::steps(CallForm::Default, &bytes, NO_STREAM, made::memory(rng, LENT));
     let sent = pictures(&steps);
     let mut killed = Killed::default();
     while killed.kills < kills {

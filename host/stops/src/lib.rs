@@ -2,11 +2,11 @@
 //! instructions.
 //!
 //! What is lent to the library lies in memory that two processes share. One calls `mve_draw` or walks
-//! over a film by `mve_step`. The other one steps it, machine instruction by machine instruction, and
-//! looks at the memory after each ([`watch`]): it must be as a prefix of the listed stores leaves it,
-//! and the call made anew on a copy of it must end as if nothing had been stopped. The list and what
-//! the calls end with are the second decoder's ([`list`], [`cases`]). Or it kills the process at a
-//! random moment and starts the next one, which goes on ([`kills`]).
+//! over a film by `mve_step`, or uses their strict forms. The other one steps it, machine instruction by
+//! machine instruction, and looks at the memory after each ([`watch`]): it must be as a prefix of the
+//! listed stores leaves it, and the call made anew on a copy of it must end as if nothing had been
+//! stopped. The list and what the calls end with are the second decoder's ([`list`], [`cases`]). Or it
+//! kills the process at a random moment and starts the next one, which goes on ([`kills`]).
 //!
 //! `tests/` has what the gate runs, and [`wrong`] drawings that are wrong on purpose, which must be
 //! noticed. `stops SEED COUNT` steps more cases, and kills more, by hand. It needs x86-64 Linux and

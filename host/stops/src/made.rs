@@ -9,6 +9,7 @@ use maker::packet::Draft;
 use maker::sound::Format;
 use maker::{Form, Profile, Seeded, Size};
 use mve::NO_STREAM;
+use reference::CallForm;
 
 /// Memory with any colours and any pixels, so that nearly every store changes it.
 pub fn memory(rng: &mut Seeded, lent: usize) -> Memory {
@@ -17,46 +18,54 @@ pub fn memory(rng: &mut Seeded, lent: usize) -> Memory {
     Memory { palette, pictures, place: 0, state: NO_STATE }
 }
 
-/// Drawings of a form. The first draws four blocks at once, the second stops inside the first block,
-/// and the third goes on behind a call that was stopped so and stops inside the second block. (A copy
-/// has no vector in some corner of the frame; a solid block stands in for it there.)
+/// Drawings of blocks of a form. The first draws four blocks at once, of a packet that is padded; the
+/// second stops inside the first block; and the third, a strict call, goes on behind one that was
+/// stopped so and stops inside the second block. (A copy has no vector in some corner of the frame; a
+/// solid block stands in for it there.)
 pub fn of_form(rng: &mut Seeded, form: Form) -> [Drawing; 3] {
     // Code 1 has one store a block, all others 65.
     let (block, pixels) = if form == Form::Untouched { (1, 0) } else { (65, 29) };
     let sizes = [Size::new(2, 2), Size::new(2, 1), Size::new(1, 2)];
     let stores = [(0, usize::MAX), (0, pixels), (pixels, block + pixels)];
+    let calls = [(CallForm::Default, 1), (CallForm::Default, 0), (CallForm::Strict, 0)];
     std::array::from_fn(|i| {
-        let packet = Draft::make(rng, sizes[i], Profile::Only(form)).packet();
-        Drawing::new(packet, memory(rng, LENT), stores[i].0, stores[i].1)
+        let draft = Draft::make(rng, sizes[i], Profile::Only(form));
+        let packet = draft.with_over(rng, calls[i].1).packet();
+        Drawing::new(calls[i].0, packet, memory(rng, LENT), stores[i].0, stores[i].1)
     })
 }
 
-/// A drawing of any blocks, place and allowance, in a frame of up to 3x3 blocks.
+/// A drawing of any blocks, place, form and allowance, in a frame of up to 3x3 blocks.
 pub fn drawing(rng: &mut Seeded) -> Drawing {
     let size = Size::new(rng.between(1, 3), rng.between(1, 3));
     let profile = rng.pick(&Profile::MANY);
-    let draft = Draft::make(rng, size, profile);
+    let form = rng.pick(&CallForm::ALL);
+    let over = if form == CallForm::Default { rng.below(2) } else { 0 };
+    let draft = Draft::make(rng, size, profile).with_over(rng, over);
     let earlier = if rng.one_in(2) { rng.below(draft.stores_from(0) + 1) } else { 0 };
     let allowed = allowance(rng, size.blocks());
-    Drawing::new(draft.packet(), memory(rng, LENT), earlier, allowed)
+    Drawing::new(form, draft.packet(), memory(rng, LENT), earlier, allowed)
 }
 
-/// A walk over a film of two frames, so that either picture is drawn on.
-pub fn walk(rng: &mut Seeded, profile: Profile, allowed: usize) -> Walk {
+/// A walk over a film of two frames, so that either picture is drawn on. In the default form the first
+/// frame's packet is padded.
+pub fn walk(rng: &mut Seeded, form: CallForm, profile: Profile, allowed: usize) -> Walk {
     let size = rng.pick(&[Size::new(2, 1), Size::new(1, 2)]);
-    let frames = [frame(rng, size, profile), frame(rng, size, profile)];
+    let over = usize::from(form == CallForm::Default);
+    let frames = [frame(rng, size, profile, over), frame(rng, size, profile, 0)];
     let [first, second] = frames.map(Vec::from);
     let first = [vec![init_video(size)], first, vec![Opcode::new(0x01, 0, Vec::new())]];
     let second = [second, vec![Opcode::new(0x00, 0, Vec::new())]];
     let chunks = vec![chunk(first.concat()), chunk(second.concat())];
     let film = Film { size, stream: NO_STREAM, chunks, tail: Vec::new() };
-    Walk::new(film.bytes(), NO_STREAM, memory(rng, LENT), allowed)
+    Walk::new(form, film.bytes(), NO_STREAM, memory(rng, LENT), allowed)
 }
 
 /// A walk over a film that changes the palette by each of its three opcodes.
 pub fn palette_walk(rng: &mut Seeded) -> Walk {
     let opcodes = vec![gradients(rng), set_palette(rng), set_palette_compressed(rng)];
-    Walk::new(film_of(NO_STREAM, opcodes), NO_STREAM, memory(rng, LENT), 0)
+    let film = film_of(NO_STREAM, opcodes);
+    Walk::new(CallForm::Default, film, NO_STREAM, memory(rng, LENT), 0)
 }
 
 /// A walk over a film with sound of a format: two packets, silence and another packet, for a stream.
@@ -77,7 +86,7 @@ pub fn sound_walk(rng: &mut Seeded, format: Format) -> Walk {
         let front = words(&[number as u16, 1 << stream, count as u16]);
         opcodes.push(Opcode::new(kind, 0, [front, rng.bytes(length)].concat()));
     }
-    Walk::new(film_of(stream, opcodes), stream, memory(rng, LENT), 0)
+    Walk::new(CallForm::Default, film_of(stream, opcodes), stream, memory(rng, LENT), 0)
 }
 
 /// A film of one chunk of these opcodes.
@@ -91,9 +100,9 @@ pub fn chunk(opcodes: Vec<Opcode>) -> Chunk {
     Chunk { opcodes, ..Chunk::default() }
 }
 
-/// Map, video data and send.
-pub fn frame(rng: &mut Seeded, size: Size, profile: Profile) -> [Opcode; 3] {
-    let packet = Draft::make(rng, size, profile).packet();
+/// Map, video data, which leaves so many bytes over, and send.
+pub fn frame(rng: &mut Seeded, size: Size, profile: Profile, over: usize) -> [Opcode; 3] {
+    let packet = Draft::make(rng, size, profile).with_over(rng, over).packet();
     let [map, video] = packet_opcodes(rng, packet);
     [map, video, Opcode::new(0x07, 0, vec![0; 4])]
 }

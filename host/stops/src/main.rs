@@ -4,6 +4,7 @@
 use maker::calls::allowance;
 use maker::sound::Format;
 use maker::{Profile, Seeded};
+use reference::CallForm;
 use std::env;
 use std::io;
 use std::path::Path;
@@ -57,7 +58,8 @@ fn long(seed: u64, count: usize) -> io::Result<String> {
     for number in 0..count {
         let (profile, allowed) = (rng.pick(&Profile::MANY), allowance(rng, 2).max(65));
         drawings += stepped(&program, &made::drawing(rng), number)?;
-        walks += stepped(&program, &made::walk(rng, profile, allowed), number)?;
+        let form = rng.pick(&CallForm::ALL);
+        walks += stepped(&program, &made::walk(rng, form, profile, allowed), number)?;
         walks += stepped(&program, &made::palette_walk(rng), number)?;
         let format = rng.pick(&Format::ALL);
         walks += stepped(&program, &made::sound_walk(rng, format), number)?;

@@ -1,11 +1,12 @@
 //! The process that is stopped: what it does with the memory that it is given.
 
-use crate::cases::hex_bytes;
+use crate::cases::{form_named, hex_bytes};
 use crate::ffi;
 use crate::kept::Kept;
 use crate::state;
 use crate::wrong::{self, Wrong};
 use mve::{Drawn, State, Step, ROOM_BYTES};
+use reference::CallForm;
 use std::io;
 
 /// The bytes of each picture that are lent to a process that is stepped: more than the pixels of any
@@ -19,13 +20,17 @@ pub fn run(arguments: &[String]) -> io::Result<String> {
     let kept = Kept::<LENT>::given()?;
     ffi::trace_me()?;
     match words[..] {
-        ["--draw", columns, rows, allowed, map, data] => {
+        ["--draw", form, columns, rows, allowed, map, data] => {
             let [columns, rows, allowed] = [columns, rows, allowed].map(number);
             let (map, data) = (hex_bytes(map), hex_bytes(data));
+            let draw = match form_named(form) {
+                CallForm::Default => mve::draw,
+                CallForm::Strict => mve::draw_strict,
+            };
             ffi::stop();
             kept.enter();
             let Kept { a, b, place, .. } = &mut *kept;
-            let drawn = mve::draw(columns, rows, &map, &data, a, b, place, allowed);
+            let drawn = draw(columns, rows, &map, &data, a, b, place, allowed);
             kept.leave();
             ffi::stop();
             Ok(match drawn.map_err(io::Error::other)? {
@@ -33,10 +38,10 @@ pub fn run(arguments: &[String]) -> io::Result<String> {
                 Drawn::Unfinished { stores } => format!("unfinished {stores}\n"),
             })
         }
-        ["--film", allowed, film] => {
-            let (allowed, film) = (number(allowed), hex_bytes(film));
+        ["--film", form, allowed, film] => {
+            let (form, allowed, film) = (form_named(form), number(allowed), hex_bytes(film));
             ffi::stop();
-            let steps = walk(kept, &film, allowed, |_, _| Ok(()))?;
+            let steps = walk(form, kept, &film, allowed, |_, _| Ok(()))?;
             ffi::stop();
             Ok(format!("ended after {steps} steps\n"))
         }
@@ -60,9 +65,11 @@ fn number(word: &str) -> usize {
     word.parse().expect("a number")
 }
 
-/// Walks over a film from the saved state to its end, as the example players do: a picture that the
-/// film sends is sent before the state is saved. How many steps it took.
+/// Walks over a film from the saved state to its end, by steps of this form, as the example players do
+/// in the default form: a picture that the film sends is sent before the state is saved. How many steps
+/// it took.
 pub fn walk<const LENT: usize>(
+    form: CallForm,
     kept: &mut Kept<LENT>,
     film: &[u8],
     allowed: usize,
@@ -70,11 +77,15 @@ pub fn walk<const LENT: usize>(
 ) -> io::Result<usize> {
     // It need not outlive a stop: a step that is taken again writes the same samples.
     let mut room = vec![0; ROOM_BYTES];
+    let call = match form {
+        CallForm::Default => mve::step,
+        CallForm::Strict => mve::step_strict,
+    };
     for steps in 1.. {
         let state = state::of_numbers(kept.saved_state());
         kept.enter();
         let Kept { palette, a, b, place, .. } = &mut *kept;
-        let step = mve::step(film, state, palette, a, b, place, &mut room, allowed);
+        let step = call(film, state, palette, a, b, place, &mut room, allowed);
         kept.leave();
         match step.map_err(io::Error::other)? {
             Step::Unfinished(..) => {}

@@ -105,7 +105,8 @@ pub struct WrongDrawing {
 impl Case for WrongDrawing {
     fn arguments(&self) -> Vec<String> {
         let mut words = self.right.arguments();
-        words.remove(3); // the allowance: there is no limit
+        words.remove(4); // the allowance: there is no limit
+        words.remove(1); // the form
         words.splice(..1, ["--wrong".to_string(), format!("{:?}", self.wrong)]);
         words
     }

@@ -3,6 +3,7 @@
 
 use maker::sound::Format;
 use maker::{Packet, Seeded};
+use reference::CallForm;
 use std::path::Path;
 use stops::cases::{Case, Drawing, Walk};
 use stops::kills::{kill, Player};
@@ -15,7 +16,8 @@ use stops::wrong::{Wrong, WrongDrawing};
 fn drawn(wrong: Wrong) -> Watched {
     let packet = Packet { columns: 2, rows: 1, map: vec![0xE2], data: vec![0x00, 0x07] };
     let memory = made::memory(&mut Seeded::new(1), LENT);
-    let case = WrongDrawing { right: Drawing::new(packet, memory, 0, usize::MAX), wrong };
+    let right = Drawing::new(CallForm::Default, packet, memory, 0, usize::MAX);
+    let case = WrongDrawing { right, wrong };
     let watched = watch(Path::new(env!("CARGO_BIN_EXE_stops")), &case);
     watched.unwrap_or_else(|error| panic!("{wrong:?}: {error}"))
 }

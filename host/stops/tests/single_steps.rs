@@ -3,7 +3,8 @@
 
 use maker::sound::Format;
 use maker::{Form, Profile, Seeded};
-use reference::packet::blocks;
+use reference::packet::{blocks, left_over};
+use reference::CallForm;
 use std::path::Path;
 use stops::cases::{Case, Drawing, Walk};
 use stops::list::Store;
@@ -27,6 +28,12 @@ fn forms(drawing: &Drawing) -> Vec<Form> {
     blocks.iter().map(|block| Form::of(block.code, block.data).expect("a form")).collect()
 }
 
+/// The bytes that a packet leaves over.
+fn over(drawing: &Drawing) -> usize {
+    let maker::Packet { columns, rows, map, data } = drawing.packet();
+    left_over(*columns, *rows, map, data).expect("a valid packet")
+}
+
 /// The form of the block in which a drawing stops.
 fn stopped_in(drawing: &Drawing) -> Option<Form> {
     let is_place = |store: &&Store| matches!(store, Store::Place(_));
@@ -41,6 +48,9 @@ fn drawings_of_every_form() {
     for (seed, form) in (0..).zip(Form::ALL) {
         let drawings = made::of_form(&mut Seeded::new(seed), form);
         assert!(forms(&drawings[0]).contains(&form), "{form:?}");
+        let calls = drawings.each_ref().map(|drawing| (drawing.form(), over(drawing)));
+        let [default, strict] = CallForm::ALL;
+        assert_eq!(calls, [(default, 1), (default, 0), (strict, 0)]);
         let has_pixels = form != Form::Untouched;
         let stops = drawings.iter().any(|drawing| stopped_in(drawing) == Some(form));
         assert_eq!(stops, has_pixels, "{form:?}");
@@ -60,21 +70,26 @@ fn drawings_of_every_form() {
 #[test]
 fn drawings_of_any_blocks() {
     let mut all = Counts::default();
+    let (mut padded, mut strict) = (0, 0);
     for seed in 0..50 {
         let drawing = made::drawing(&mut Seeded::new(seed));
+        padded += over(&drawing);
+        strict += usize::from(drawing.form() == CallForm::Strict);
         all += stepped(&format!("seed {seed}"), &drawing);
     }
-    println!("{all:?}");
-    assert!(all.instructions >= 30_000 && all.changes >= 500);
+    println!("{all:?}, {padded} of padded packets, {strict} by strict calls");
+    assert!(all.instructions >= 30_000 && all.changes >= 500 && padded >= 5 && strict >= 10);
 }
 
-/// The second block of each frame is begun by one step and drawn by the next.
+/// The second block of each frame is begun by one step and drawn by the next. Every other film is walked
+/// over by strict steps; in the others a packet is padded.
 #[test]
 fn films_of_every_form() {
     let mut all = Counts::default();
     for (seed, form) in (0..).zip(Form::ALL) {
-        let walk = made::walk(&mut Seeded::new(seed), Profile::Only(form), 65 + 29);
-        all += stepped(&format!("{form:?}"), &walk);
+        let call = CallForm::ALL[seed as usize % 2];
+        let walk = made::walk(&mut Seeded::new(seed), call, Profile::Only(form), 65 + 29);
+        all += stepped(&format!("{form:?}, {call:?}"), &walk);
     }
     println!("{all:?}");
     assert!(all.instructions >= 50_000 && all.changes >= 1000);
@@ -84,9 +99,9 @@ fn films_of_every_form() {
 fn films_of_any_blocks() {
     let mut all = Counts::default();
     for (seed, profile) in (0..).zip(Profile::MANY) {
-        for allowed in [65, usize::MAX] {
-            let walk = made::walk(&mut Seeded::new(seed), profile, allowed);
-            all += stepped(&format!("{profile:?}, allowed {allowed}"), &walk);
+        for (allowed, call) in [65, usize::MAX].into_iter().zip(CallForm::ALL) {
+            let walk = made::walk(&mut Seeded::new(seed), call, profile, allowed);
+            all += stepped(&format!("{profile:?}, allowed {allowed}, {call:?}"), &walk);
         }
     }
     println!("{all:?}");

@@ -41,7 +41,7 @@ fn input_is_read_back() {
     assert!(packets.len() >= 300, "{} cases", packets.len());
 }
 
-/// The first case byte by byte, and the answers that documents 01 and 02 give to the first eight.
+/// The first case byte by byte, and the answers that documents 01 and 02 give to the first eleven.
 #[test]
 fn hand_cases() {
     let input = vectors::generate().input;
@@ -55,6 +55,9 @@ fn hand_cases() {
         ((1, 60), "accepted"),
         ((1, 0), "refused 6 0"),
         ((1, 61), "refused 6 0"),
+        ((1, 1), "accepted"),
+        ((1, 1), "accepted"),
+        ((1, 1), "refused 15 0"),
     ];
     let (packets, answers) = (read(&input), output_lines());
     for (number, (size, answer)) in expected.into_iter().enumerate() {
@@ -79,6 +82,27 @@ fn every_number() {
     for wanted in ["accepted", "6", "10", "12", "13", "14", "15", "later block"] {
         let times = counts.get(wanted).copied().unwrap_or(0);
         assert!(times >= OFTEN, "{wanted} is there {times} times, wanted {OFTEN}");
+    }
+}
+
+/// Last blocks of each form but code 2, with 0 to 3 bytes left over: up to one is accepted.
+#[test]
+fn every_last_block() {
+    let mut counts: BTreeMap<(Form, usize), usize> = BTreeMap::new();
+    let (input, answers) = (vectors::generate().input, output_lines());
+    for (packet, answer) in read(&input).iter().zip(answers) {
+        let Packet { columns, rows, map, data } = packet;
+        let Ok(over) = reference::packet::left_over(*columns, *rows, map, data) else { continue };
+        let expected = if over <= 1 { "accepted" } else { "refused 15 0" };
+        assert_eq!(answer, expected, "{over} over");
+        let used = &data[..data.len() - over];
+        let blocks = reference::packet::blocks(*columns, *rows, map, used).expect("accepted");
+        let last = blocks.last().and_then(|block| Form::of(block.code, block.data));
+        *counts.entry((last.expect("a block"), over)).or_insert(0) += 1;
+    }
+    for form in Form::ALL.into_iter().filter(|form| form.code() != 2) {
+        let missing = (0..=3).find(|&over| !counts.contains_key(&(form, over)));
+        assert_eq!(missing, None, "{form:?}");
     }
 }
 

@@ -1,39 +1,21 @@
-use mathlib.Core.Path.{ap}
-use native.Mathlib.Omega.{arith}
-use lib.ListN.{length}
-use Rattle.dpcm.proofs.Table.{steps-length}
-use Rattle.dpcm.proofs.Decoding.{is-sample}
 use Rattle.dpcm.specs.Samples.{sampleAfter}
-use Rattle.dpcm.specs.Steps.{steps}
 use borrow.Author.Needs.{needs}
 use Rattle.dpcm.proofs.sample_after.Statement.{statement}
 use Rattle.dpcm.proofs.sample_after.Tie as tie
 use Rattle.dpcm.proofs.sample_after.Reads as reads
 use Rattle.dpcm.proofs.sample_after.Lts as lts
+use Rattle.dpcm.proofs.steps.step_of.Reads as step-of-reads
 use Rattle.std.proofs.num.wrapping_add_u16.Reads as wrapping-add-u16-reads
-use Rattle.words.proofs.wide.Reads as wide-reads
 
-wide-requires : tie.Need-wide-requires
-wide-requires c κs = search needs
-
-mul-wrapping-add-u16 : tie.Need-mul-wrapping-add-u16
-mul-wrapping-add-u16 c = search needs
-
-shared-slice-read-wrapping-add-u16 : tie.Need-shared-slice-read-wrapping-add-u16
-shared-slice-read-wrapping-add-u16 c = omega (arith, ap length (c .before .before .before .pre), steps-length)
+step-of-requires : tie.Need-step-of-requires
+step-of-requires c κs = search needs
 
 wrapping-add-u16-requires : tie.Need-wrapping-add-u16-requires
 wrapping-add-u16-requires c κs = search needs
 
 returns : tie.Need-returns
-returns c = is-sample _ _ _ _ _ (c .before .before .before .before .pre) (c .before .before .wide .ensures .0) (c .wrapping-add-u16 .ensures)
+unfolding sampleAfter
+returns c = search needs
 
 pub sample-after-spec : {M : Type 1} → statement M
-sample-after-spec =
-    tie.close
-    (tie.spec
-    wide-requires
-    mul-wrapping-add-u16
-    shared-slice-read-wrapping-add-u16
-    wrapping-add-u16-requires
-    returns)
+sample-after-spec = tie.close (tie.spec step-of-requires wrapping-add-u16-requires returns)

@@ -1,58 +1,18 @@
-use mathlib.Core.Path.{sym, ap, _∙_}
-use native.Mathlib.Omega.{arith}
-use Rattle.packet.specs.Verdict.{told}
-use Rattle.packet.proofs.Sizes.{few}
-use Rattle.draw.proofs.Judged.{accepted-call}
-use Rattle.draw.proofs.Called.{says-refused, says-whole, says-unfinished}
 use borrow.Author.Needs.{needs}
 use Rattle.draw.proofs.draw.Statement.{statement}
 use Rattle.draw.proofs.draw.Tie as tie
 use Rattle.draw.proofs.draw.Reads as reads
 use Rattle.draw.proofs.draw.Lts as lts
-use Rattle.draw.proofs.draw_blocks.Reads as draw-blocks-reads
-use Rattle.draw.proofs.judge.Reads as judge-reads
+use Rattle.draw.proofs.draw_within.Reads as draw-within-reads
 
-judge-requires : tie.Need-judge-requires
-judge-requires c κs = search needs
-
-enum-known-r : tie.Need-enum-known-r
-enum-known-r c = search needs
-
-enum-told : tie.Need-enum-told
-enum-told c = search needs
-
-draw-blocks-requires : tie.Need-draw-blocks-requires
-draw-blocks-requires c κs = accepted-call _ _ _ _ _ _ _ (sym (sym (ap told (c .before .before .enum-told .given .1)) ∙ c .before .before .before .before .judge .ensures)) .1
-
-mul-if1 : tie.Need-mul-if1
-mul-if1 c = omega (arith, few _ _ (accepted-call _ _ _ _ _ _ _ (sym (sym (ap told (c .before .before .before .before .before .enum-told .given .1)) ∙ c .before .before .before .before .before .before .before .judge .ensures)) .0))
+draw-within-requires : tie.Need-draw-within-requires
+draw-within-requires c κs = search needs
 
 same-length : tie.Need-same-length
 same-length c = search needs
 
 returns : tie.Need-returns
-returns c = says-whole _ _ _ _ _ (c .before .before .before .draw-blocks .ensures) (sym (ap told (c .before .before .before .before .before .before .enum-told .given .1)) ∙ c .before .before .before .before .before .before .before .before .judge .ensures) (c .if1 .taken)
-
-returns-2 : tie.Need-returns-2
-returns-2 c = says-refused _ _ _ _ (sym (ap told (c .before .r .given .1)) ∙ c .before .before .before .judge .ensures)
-
-same-length-2 : tie.Need-same-length-2
-same-length-2 c = search needs
-
-returns-3 : tie.Need-returns-3
-returns-3 c = says-unfinished _ _ _ _ _ (c .before .before .before .draw-blocks .ensures) (sym (ap told (c .before .before .before .before .before .before .enum-told .given .1)) ∙ c .before .before .before .before .before .before .before .before .judge .ensures) (c .if1 .left)
+returns c = c .before .before .draw-within .ensures
 
 pub draw-spec : {M : Type 1} → statement M
-draw-spec =
-    tie.close
-    (tie.spec
-    judge-requires
-    enum-known-r
-    enum-told
-    draw-blocks-requires
-    mul-if1
-    same-length
-    returns
-    returns-2
-    same-length-2
-    returns-3)
+draw-spec = tie.close (tie.spec draw-within-requires same-length returns)

@@ -1,44 +1,15 @@
-use mathlib.Core.Path.{sym, _∙_}
-use native.Mathlib.Omega.{arith}
-use Rattle.packet.proofs.Sizes.{few, is-sized, judges-blocks, refuses-10, refuses-6}
-use Rattle.packet.specs.Verdict.{verdict}
 use borrow.Author.Needs.{needs}
 use Rattle.packet.proofs.check.Statement.{statement}
 use Rattle.packet.proofs.check.Tie as tie
 use Rattle.packet.proofs.check.Reads as reads
 use Rattle.packet.proofs.check.Lts as lts
-use Rattle.packet.proofs.check_blocks.Reads as check-blocks-reads
-use Rattle.packet.proofs.is_legal_size.Reads as is-legal-size-reads
+use Rattle.packet.proofs.check_leaving.Reads as check-leaving-reads
 
-is-legal-size-requires : tie.Need-is-legal-size-requires
-is-legal-size-requires c κs = search needs
-
-mul-if2 : tie.Need-mul-if2
-mul-if2 c = omega (arith, few _ _ (sym (c .before .is-legal-size .ensures) ∙ c .if1 .taken))
-
-add-if2 : tie.Need-add-if2
-add-if2 c = omega (arith, few _ _ (sym (c .before .is-legal-size .ensures) ∙ c .if1 .taken))
-
-check-blocks-requires : tie.Need-check-blocks-requires
-check-blocks-requires c κs = is-sized _ _ _ _ (sym (c .before .before .is-legal-size .ensures) ∙ c .before .if1 .taken) (c .if2 .taken)
+check-leaving-requires : tie.Need-check-leaving-requires
+check-leaving-requires c κs = search needs
 
 returns : tie.Need-returns
-returns c = judges-blocks _ _ _ _ (sym (c .before .before .before .is-legal-size .ensures) ∙ c .before .before .if1 .taken) (c .before .if2 .taken) _ (c .check-blocks .ensures)
-
-returns-2 : tie.Need-returns-2
-returns-2 c = refuses-10 _ _ _ _ (sym (c .before .before .is-legal-size .ensures) ∙ c .before .if1 .taken) (c .if2 .left)
-
-returns-3 : tie.Need-returns-3
-returns-3 c = refuses-6 _ _ _ _ (sym (c .before .is-legal-size .ensures) ∙ c .if1 .left)
+returns c = c .check-leaving .ensures
 
 pub check-spec : {M : Type 1} → statement M
-check-spec =
-    tie.close
-    (tie.spec
-    is-legal-size-requires
-    mul-if2
-    add-if2
-    check-blocks-requires
-    returns
-    returns-2
-    returns-3)
+check-spec = tie.close (tie.spec check-leaving-requires returns)

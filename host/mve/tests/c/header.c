@@ -1,5 +1,6 @@
-/* The film of document 01's listing, stepped over through the C header, with a call that leaves a block begun; then a film
-   with sound, in rooms that are too small at first. Exits with 0 where every answer is the one that the documents give. */
+/* The film of document 01's listing, stepped over through the C header, with a call that leaves a block begun; a film with
+   sound, in rooms that are too small at first; and packets with bytes left over, by the default and the strict forms. Exits
+   with 0 where every answer is the one that the documents give. */
 #include "mve.h"
 
 #include <stdio.h>
@@ -51,7 +52,7 @@ static int is_same(struct mve_state s, struct mve_state t) {
 static int sound(void) {
     uint8_t palette[768] = {0}, none[1] = {0}, room[16], heard[sizeof samples];
     size_t place = 0, length = 0, refused = 0;
-    EXPECT(MVE_VERSION == 4 && MVE_ROOM_BYTES == 2 * 65535);
+    EXPECT(MVE_VERSION == 5 && MVE_ROOM_BYTES == 2 * 65535);
 
     struct mve_stepped s = mve_open(sound_film, sizeof sound_film, 5);
     EXPECT(s.kind == MVE_TAKEN && s.bytes == 0 && s.state.stream == 5 && s.state.has_format == 0);
@@ -152,6 +153,72 @@ static int pictures(void) {
     return 0;
 }
 
+/* One solid block, with a byte that pads its packet: the default forms take it, the strict forms refuse it. */
+static int padded_packet(void) {
+    const uint8_t map[] = {0x0e}, data[] = {0x2a, 0x99, 0x99};
+    uint8_t front[64] = {0}, back[64] = {0}, zeros[64] = {0}, drawn[64];
+    size_t place = 0;
+    memset(drawn, 0x2a, sizeof drawn);
+    for (size_t length = 1; length <= 3; length += 1) {
+        struct mve_answer answer = mve_check(1, 1, map, 1, data, length);
+        EXPECT(answer.kind == (length <= 2 ? MVE_ACCEPTED : MVE_REFUSED));
+        EXPECT(answer.number == (length <= 2 ? 0 : MVE_DATA_LEFT) && answer.block == 0);
+        answer = mve_check_strict(1, 1, map, 1, data, length);
+        EXPECT(answer.kind == (length == 1 ? MVE_ACCEPTED : MVE_REFUSED));
+        EXPECT(answer.number == (length == 1 ? 0 : MVE_DATA_LEFT) && answer.block == 0);
+    }
+
+    struct mve_answer answer = mve_draw_strict(1, 1, map, 1, data, 2, front, 64, back, 64, &place, 70);
+    EXPECT(answer.kind == MVE_REFUSED && answer.number == MVE_DATA_LEFT && answer.stores == 0);
+    EXPECT(place == 0 && memcmp(back, zeros, 64) == 0);
+    answer = mve_draw(1, 1, map, 1, data, 2, front, 64, back, 64, &place, 70);
+    EXPECT(answer.kind == MVE_WHOLE && answer.stores == 65 && place == 1 && memcmp(back, drawn, 64) == 0);
+    place = 0;
+    memset(back, 0, sizeof back);
+    answer = mve_draw_strict(1, 1, map, 1, data, 1, front, 64, back, 64, &place, 70);
+    EXPECT(answer.kind == MVE_WHOLE && answer.stores == 65 && place == 1 && memcmp(back, drawn, 64) == 0);
+    return 0;
+}
+
+/* The film again, as it is, and cut in its opcode 07. Its packet has one byte; where the length of opcode 11 says two, the
+   first byte of the next opcode's head is left over. */
+static int padded_film(void) {
+    uint8_t palette[768] = {0}, a[64] = {0}, b[64] = {0}, zeros[64] = {0}, drawn[64], room[1], padded[71];
+    size_t place = 0;
+    memset(drawn, 0x2a, sizeof drawn);
+    memcpy(padded, film, sizeof padded);
+    padded[42] = 25; /* the chunk's length: 5 bytes of opcode 0F, 20 of opcode 11 */
+    padded[51] = 16; /* the opcode's */
+
+    struct mve_stepped s = mve_open(padded, sizeof padded, 0);
+    while (s.kind == MVE_TAKEN && s.state.position != 51) {
+        s = mve_step_strict(padded, sizeof padded, s.state, palette, sizeof palette, a, sizeof a, b, sizeof b, &place,
+                            room, 0, 70);
+    }
+    EXPECT(s.kind == MVE_TAKEN && s.state.has_map != 0);
+    struct mve_state at_video = s.state;
+    s = mve_step_strict(padded, sizeof padded, at_video, palette, sizeof palette, a, sizeof a, b, sizeof b, &place, room,
+                        0, 70);
+    EXPECT(s.kind == MVE_REFUSED && s.number == MVE_DATA_LEFT && s.block == 0 && s.stores == 0 && s.bytes == 0);
+    EXPECT(is_same(s.state, at_video) && place == 0 && memcmp(b, zeros, 64) == 0);
+    /* Every number but 0 means the strict form. */
+    s = mve_step_as(padded, sizeof padded, at_video, palette, sizeof palette, a, sizeof a, b, sizeof b, &place, room, 0,
+                    70, (size_t)-1);
+    EXPECT(s.kind == MVE_REFUSED && s.number == MVE_DATA_LEFT && memcmp(b, zeros, 64) == 0);
+    s = mve_step(padded, sizeof padded, at_video, palette, sizeof palette, a, sizeof a, b, sizeof b, &place, room, 0, 70);
+    EXPECT(s.kind == MVE_WHOLE && s.stores == 65 && s.state.position == 71 && place == 1);
+    EXPECT(memcmp(b, drawn, 64) == 0);
+
+    /* With nothing left over the strict form draws the same. */
+    memset(b, 0, sizeof b);
+    for (s = mve_open(film, sizeof film, 0); s.kind == MVE_TAKEN || s.kind == MVE_WHOLE;) {
+        s = mve_step_strict(film, sizeof film, s.state, palette, sizeof palette, a, sizeof a, b, sizeof b, &place, room, 0,
+                            70);
+    }
+    EXPECT(s.kind == MVE_ENDED && s.state.front == 1 && memcmp(b, drawn, 64) == 0);
+    return 0;
+}
+
 int main(void) {
-    return pictures() | sound();
+    return pictures() | sound() | padded_packet() | padded_film();
 }

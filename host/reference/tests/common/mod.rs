@@ -4,7 +4,7 @@
 
 use reference::film::{self, State, Stepped};
 use reference::sound::NO_STREAM;
-use reference::Refusal;
+use reference::{CallForm, Refusal};
 
 /// Bytes from hex digits; blanks and line ends are skipped.
 pub fn hex(text: &str) -> Vec<u8> {
@@ -78,6 +78,16 @@ impl Lent {
     }
 
     pub fn step(&mut self, film: &[u8], state: State, allowed: usize) -> Stepped {
+        self.step_as(CallForm::Default, film, state, allowed)
+    }
+
+    pub fn step_as(
+        &mut self,
+        form: CallForm,
+        film: &[u8],
+        state: State,
+        allowed: usize,
+    ) -> Stepped {
         let lent = film::Lent {
             palette: &mut self.palette,
             picture_a: &mut self.a,
@@ -85,7 +95,7 @@ impl Lent {
             place: &mut self.place,
             room: &mut self.room,
         };
-        film::step(film, state, lent, allowed)
+        film::step_as(form, film, state, lent, allowed)
     }
 
     /// Takes `count` steps that must be taken or whole.

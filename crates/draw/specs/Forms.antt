@@ -1,0 +1,48 @@
+-- The two forms of the drawing call (document 02, W6), and the byte that is left over: `proofs/Forms`, `proofs/Over`.
+-- Assumes nothing.
+use mathlib.Core.Path.{_≡_}
+use mathlib.Core.List.{List}
+use Prim.Native.Nat.{ℕ}
+use lib.ListN.{length, take}
+use Rattle.refusal.specs.Number.{accept, refuse}
+use Rattle.packet.specs.Packet.{blocks, start}
+use Rattle.packet.specs.Verdict.{default, strict}
+use Rattle.packet.specs.Forms.{OneOver}
+use Rattle.stores.specs.Stores.{Memory}
+use Rattle.stores.specs.Calls.{cut, happens, reply}
+use Rattle.draw.specs.Call.{Request, within, request, packetOf, drawVerdict, calling, pictures, leaves}
+
+-- two calls at one memory come to the same: the verdict, what they leave, cut or not, and what they say
+pub record SameCall (c d : Request) (m : Memory) : Type 0 where
+  pub verdict : drawVerdict c m ≡ drawVerdict d m
+  pub leaves : leaves c m ≡ leaves d m
+  pub says : reply calling m c ≡ reply calling m d
+  pub cuts : (j : ℕ) → happens calling m (cut c j) ≡ happens calling m (cut d j)
+
+-- ---- the two forms
+
+-- the same call where so many bytes may be left over
+abbrev pub inForm : ℕ → Request → Request
+inForm spare c = request (c .columns) (c .rows) (c .map) (c .bytes) (c .front) (within (c .allowed .stores) spare)
+
+-- all tests but 15 pass, and exactly one byte is left over
+pub record Odd (c : Request) (m : Memory) : Type 0 where
+  pub accepted : drawVerdict (inForm default c) m ≡ accept
+  pub over : OneOver (packetOf c)
+
+pub record Forms (c : Request) (m : Memory) : Type 0 where
+  pub same : (Odd c m → ⊥) → SameCall (inForm default c) (inForm strict c) m
+  -- the strict call is then refused, and changes nothing
+  pub odd : Odd c m → (drawVerdict (inForm strict c) m ≡ refuse 15 0) × (leaves (inForm strict c) m ≡ pictures (c .front) m)
+  pub strict-accepts : drawVerdict (inForm strict c) m ≡ accept → SameCall (inForm default c) (inForm strict c) m
+
+-- ---- what is left over is not read
+
+-- the same call with other data bytes
+abbrev pub withBytes : Request → List ℕ → Request
+withBytes c bytes = request (c .columns) (c .rows) (c .map) bytes (c .front) (c .allowed)
+
+-- a call that is not refused comes to the same with as many bytes that are the same where the blocks read them
+abbrev pub OverUnread : Request → Memory → Type 0
+OverUnread c m = (bytes : List ℕ) → length (c .bytes) ≡ length bytes
+    → take (start (packetOf c) (blocks (packetOf c))) (c .bytes) ≡ take (start (packetOf c) (blocks (packetOf c))) bytes → SameCall c (withBytes c bytes) m

@@ -1,0 +1,182 @@
+-- The two forms of the film step: `step-forms`. What they come to is carried through each choice of the step by `Differ`.
+-- Assumes nothing.
+use mathlib.Core.Path.{_≡_, refl, sym, ap, _∙_, subst}
+use mathlib.Core.Logic.{_⊎_, inl, inr}
+use mathlib.Core.Bool.{Bool, true, false, cond}
+use mathlib.Core.List.{List}
+use Prim.Native.Nat.{ℕ, _+_, _≤_, _<_}
+use native.Mathlib.Decide.{decLt}
+use native.Mathlib.Omega.{arith}
+use lib.Dec.{eqb}
+use lib.ListN.{length}
+use Rattle.refusal.specs.Number.{Verdict, accept, refuse}
+use Rattle.packet.specs.Packet.{packet, blocks, start}
+use Rattle.packet.specs.Verdict.{default, strict}
+use Rattle.packet.specs.Accepted.{Accepts}
+use Rattle.packet.specs.Forms.{OneOver}
+use Rattle.stores.specs.Stores.{Memory, memory}
+use Rattle.stores.specs.Calls.{leave, outcome}
+use Rattle.draw.specs.Forms.{inForm}
+use Rattle.draw.specs.Call.{Request, within, request, packetOf as packetIn, drawVerdict, comes}
+use Rattle.draw.specs.Drawing.{plan}
+use Rattle.packet.proofs.Forms.{Differ as DifferAs}
+use Rattle.draw.proofs.Forms.{verdicts-differ}
+use Rattle.state.specs.declared.Map.{Map}
+use Rattle.state.specs.declared.Map.the-variants.{Missing, Part}
+use Rattle.state.specs.declared.State.{State}
+use Rattle.sound.specs.Format.{chosen}
+use Rattle.heads.specs.declared.Opcode.{Opcode}
+use Rattle.heads.specs.Heads.{hears}
+use Rattle.next.specs.Next.{Standing, nextOf}
+use Rattle.next.specs.Next as found
+use Rattle.opcodes.specs.Opcodes.{refused, quiet, drawnAs, drawnStep}
+use Rattle.film.specs.Film.{Lent, withPictures, swap, Outcome, after, called, drawSecond, drawOn, part, drawBy, act, takeOn, standing, stepOf}
+use Rattle.walk.specs.Draws.{packetOf, Draws, Drew}
+use Rattle.walk.specs.Forms.{Odd, Forms}
+use Rattle.walk.proofs.Draws.{drew-accepted, not-refused, draws-exactly}
+
+-- the outcomes x of the default and y of the strict form: one, or a drawing that the strict form refuses by 15
+abbrev Differ : Lent → Outcome → Outcome → Type 0
+Differ l x y = (x ≡ y) ⊎ (Drew (x .step .answer) × (y ≡ after (quiet (refused 15 0)) l))
+
+differ-by : (l : Lent) (b : Bool) (x x′ y y′ : Outcome) → Differ l x x′ → Differ l y y′ → Differ l (cond b x y) (cond b x′ y′)
+differ-by l true x x′ y y′ p q = p
+differ-by l false x x′ y y′ p q = q
+
+module _ (film : List ℕ) (st : State) (n : ℕ) where
+  second-differ : (p : ℕ) (map packet : List ℕ) (l : Lent)
+      → Differ l (drawSecond st p map packet (within n default) l) (drawSecond st p map packet (within n strict) l)
+  unfolding called outcome leave comes drawnAs
+  second-differ p map packet l = by (verdicts-differ q m)
+    where
+      q : Request
+      q = request (st .columns) (st .rows) map packet (l .first) (within n default)
+
+      m : Memory
+      m = memory (l .second) (l .place)
+
+      outcomeBy : Verdict → Outcome
+      outcomeBy v =
+          after (drawnStep st p (outcome (plan (packetIn q) (l .first)) m (comes v n)))
+          (withPictures l (l .first) (leave (plan (packetIn q) (l .first)) m (comes v n) .picture) (leave (plan (packetIn q) (l .first)) m (comes v n) .place))
+
+      by : DifferAs (OneOver (packetIn q)) (drawVerdict q m) (drawVerdict (inForm strict q) m)
+          → Differ l (drawSecond st p map packet (within n default) l) (drawSecond st p map packet (within n strict) l)
+      by (inl e) = inl (ap outcomeBy e)
+      by (inr d) = inr (drew-accepted st p q m (d .1), ap outcomeBy (d .2))
+
+  swap-differ : (l : Lent) (x y : Outcome) → Differ (swap l) x y → Differ l (after (x .step) (swap (x .lent))) (after (y .step) (swap (y .lent)))
+  swap-differ l x y (inl e) = inl (ap (λ (o : Outcome). after (o .step) (swap (o .lent))) e)
+  swap-differ l x y (inr d) = inr (d .0, ap (λ (o : Outcome). after (o .step) (swap (o .lent))) (d .1))
+
+  on-differ : (p : ℕ) (map packet : List ℕ) (l : Lent) → Differ l (drawOn st p map packet (within n default) l) (drawOn st p map packet (within n strict) l)
+  unfolding drawOn
+  on-differ p map packet l =
+      differ-by l (eqb (st .front) 0) _ _ _ _ (second-differ p map packet l) (swap-differ l _ _ (second-differ p map packet (swap l)))
+
+  map-differ : (map : Map) (body : List ℕ) (p : ℕ) (l : Lent) → Differ l (drawBy map film st body p (within n default) l) (drawBy map film st body p (within n strict) l)
+  unfolding drawBy
+  map-differ Missing body p l = inl refl
+  map-differ (Part s long) body p l =
+      differ-by l (eqb (st .columns) 0) _ _ _ _ (inl refl) (on-differ p (part film s (s + long)) (part body 14 (length body)) l)
+
+  act-differ : (kind version s : ℕ) (body : List ℕ) (p : ℕ) (l : Lent)
+      → Differ l (act film st kind version s body p (within n default) l) (act film st kind version s body p (within n strict) l)
+  unfolding act
+  act-differ kind version s body p l =
+      differ-by l (eqb kind 15) _ _ _ _ (inl refl) (differ-by l (eqb kind 17) _ _ _ _ (map-differ (st .map) body p l) (inl refl))
+
+  standing-differ : (s : Standing) (l : Lent) → Differ l (standing s film st (within n default) l) (standing s film st (within n strict) l)
+  unfolding standing takeOn
+  standing-differ (found.refused k b) l = inl refl
+  standing-differ found.ended l = inl refl
+  standing-differ (found.chunk c) l = inl refl
+  standing-differ (found.opcode o) l =
+      differ-by l (hears (chosen (st .sound .stream)) (o .kind)) _ _ _ _ (inl refl)
+      (act-differ (o .kind) (o .version) (o .start) (part film (o .start) (o .start + o .long)) (o .start + o .long) l)
+
+  module _ (l : Lent) where
+    steps-differ : Differ l (stepOf film st (within n default) l) (stepOf film st (within n strict) l)
+    unfolding stepOf
+    steps-differ = standing-differ (nextOf film st (length (l .palette)) (length (l .first)) (length (l .second))) l
+
+    exactly : (spare : ℕ) → (Draws spare film st l → Drew (stepOf film st (within n spare) l .step .answer)) × (Drew (stepOf film st (within n spare) l .step .answer) → Draws spare film st l)
+    exactly spare = draws-exactly film st (within n spare) l
+
+    -- the bytes that a drawing uses, with so many that may be left over
+    Used : ℕ → Opcode → ℕ → ℕ → Type 0
+    Used spare o s long =
+        let p = packet (st .columns) (st .rows) (part film s (s + long)) (packetOf film o) in
+        length (packetOf film o) ≤ start p (blocks p) + spare
+
+    used-as : (spare : ℕ) (o o′ : Opcode) (s s′ long long′ : ℕ) → o ≡ o′ → s ≡ s′ → long ≡ long′ → Used spare o s long → Used spare o′ s′ long′
+    used-as spare o o′ s s′ long long′ e f g u = rw (← e, ← f, ← g) u
+
+    opcode-is : (o o′ : Opcode) → found.opcode o ≡ found.opcode o′ → o ≡ o′
+    opcode-is o o′ e = cc
+
+    part-is : (s long s′ long′ : ℕ) → Part s long ≡ Part s′ long′ → (s ≡ s′) × (long ≡ long′)
+    part-is s long s′ long′ e = (cc, cc)
+
+    -- what the strict form draws leaves no byte over
+    none-over : Draws strict film st l → Odd film st l → ⊥
+    unfolding Used
+    none-over d o =
+        let a = o .draws in
+        let m = part-is (d .start) (d .long) (a .start) (a .long) (sym (d .mapped) ∙ a .mapped) in
+        let u = used-as strict (d .found) (a .found) (d .start) (a .start) (d .long) (a .long) (opcode-is (d .found) (a .found) (sym (d .stands) ∙ a .stands)) (m .0) (m .1) (d .accepted .used) in
+        omega (arith, u, o .over)
+
+    -- and what leaves none over the strict form draws
+    strictly : (d : Draws default film st l) → Used strict (d .found) (d .start) (d .long) → Draws strict film st l
+    unfolding Used
+    strictly d u =
+        record {
+          found = d .found;
+          stands = d .stands;
+          is-11 = d .is-11;
+          start = d .start;
+          long = d .long;
+          mapped = d .mapped;
+          accepted = record { wide = d .accepted .wide; high = d .accepted .high; mapped = d .accepted .mapped; drawn = d .accepted .drawn; used = u };
+          within = d .within;
+        }
+
+    not-drawn : (x : Outcome) → x ≡ after (quiet (refused 15 0)) l → Drew (x .step .answer) → ⊥
+    not-drawn x e d = not-refused 15 0 (subst (λ (y : Outcome). Drew (y .step .answer)) e d)
+
+    odd-refused : Odd film st l → stepOf film st (within n strict) l ≡ after (quiet (refused 15 0)) l
+    odd-refused o = by steps-differ
+      where
+        by : Differ l (stepOf film st (within n default) l) (stepOf film st (within n strict) l) → stepOf film st (within n strict) l ≡ after (quiet (refused 15 0)) l
+        by (inr d) = d .1
+        by (inl e) =
+            absurd (none-over (exactly strict .1 (subst (λ (y : Outcome). Drew (y .step .answer)) e (exactly default .0 (o .draws)))) o)
+
+    is-odd : (d : Draws default film st l) → (Draws strict film st l → ⊥) → Odd film st l
+    unfolding Used
+    is-odd d never =
+        let p = packet (st .columns) (st .rows) (part film (d .start) (d .start + d .long)) (packetOf film (d .found)) in
+        record {
+          draws = d;
+          over =
+              elim (decLt (start p (blocks p)) (length (packetOf film (d .found)))) [
+                | yes h ↦ omega (arith, d .accepted .used)
+                | no h ↦ absurd (never (strictly d (omega arith)))
+              ];
+        }
+
+    same-step : (Odd film st l → ⊥) → stepOf film st (within n default) l ≡ stepOf film st (within n strict) l
+    same-step never = by steps-differ
+      where
+        by : Differ l (stepOf film st (within n default) l) (stepOf film st (within n strict) l) → stepOf film st (within n default) l ≡ stepOf film st (within n strict) l
+        by (inl e) = e
+        by (inr d) = absurd (never (is-odd (exactly default .1 (d .0)) (λ s. not-drawn _ (d .1) (exactly strict .0 s))))
+
+    pub step-forms : Forms film st n l
+    step-forms =
+        record {
+          same = same-step;
+          odd = λ o. (exactly default .0 (o .draws), odd-refused o);
+          strict-draws = λ d. same-step (none-over (exactly strict .1 d));
+        }
