@@ -59,6 +59,38 @@ share, whenever one of them is stopped or killed; host/stops tests it.
 A block has at most 65 stores, the largest picture 312,000. A call that is allowed 64 or fewer finishes no block that has
 pixels to store, so allow 65 or more.
 
+LINKING FOR A BOOT STAGE
+
+libmve.a is one object for x86-64 and the System V ABI. It needs no operating system, and of the C library only what is
+undefined below. Every function has a section of its own, so that the linker's --gc-sections leaves out those that are not
+called. All relocations are relative: code and constants may be loaded at any address, as long as they stay together.
+
+    code                        40,874 bytes
+    constants                   1,201 bytes
+    memory of its own           0 bytes
+    undefined symbols           memset
+    relocations                 R_X86_64_PC32, R_X86_64_PLT32
+    vector registers            xmm0 to xmm15
+    below the stack pointer     40 bytes
+    stack of mve_check          160 bytes
+    stack of mve_check_strict   176 bytes
+    stack of mve_draw           448 bytes
+    stack of mve_draw_strict    448 bytes
+    stack of mve_open           8 bytes
+    stack of mve_shown          8 bytes
+    stack of mve_step_as        736 bytes
+
+The stack of a call is the most that it takes, together with all that it calls: return addresses, pushed registers and
+arguments, locals with the copies of constant tables, and what is used below the stack pointer. Each call takes less than
+1,024 bytes. The arguments that its caller puts on the stack come on top. Of an undefined function, as memset, only the
+return address is counted: the function is the host's own, and so is its stack.
+
+At a call the stack pointer is a multiple of 16, as the ABI says. An interrupt that is taken on the same stack must leave
+the ABI's red zone alone, the 128 bytes below the stack pointer. Every instruction is one that every x86-64 processor
+has, up to SSE2; a stage without an operating system switches SSE on first (CR4.OSFXSR).
+
+The table is made by `cargo run -p stack -- --header` in host/, and a test holds it to the archive.
+
 THE FILM
 
 Numbers are little-endian, a word is 16 bits.
