@@ -1,0 +1,56 @@
+//! Colours as other programs take them.
+
+use crate::walk::PALETTE;
+
+/// A palette of components of 8 bits, from one of 6 bits, 0 to 63: the two high bits come again as the
+/// low ones, so that 0 is 0 and 63 is 255.
+pub fn widened(palette: &[u8; PALETTE]) -> [u8; PALETTE] {
+    palette.map(|component| component << 2 | component >> 4)
+}
+
+/// Thousandths of what 255 of red, green and blue give of luma and of the differences (ITU-R BT.601).
+const WEIGHTS: [[i32; 3]; 3] =
+    [[65_481, 128_553, 24_966], [-37_797, -74_203, 112_000], [112_000, -93_786, -18_214]];
+/// What black has of each.
+const OFFSETS: [i32; 3] = [16, 128, 128];
+
+/// Luma and colour differences in limited range: 16 to 235, and 16 to 240. Rounded to the nearest.
+pub fn ycbcr(colour: [u8; 3]) -> [u8; 3] {
+    std::array::from_fn(|part| {
+        let weights = WEIGHTS[part].iter().zip(colour);
+        let sum: i32 = weights.map(|(weight, component)| weight * i32::from(component)).sum();
+        (OFFSETS[part] + (sum + 127_500).div_euclid(255_000)) as u8
+    })
+}
+
+#[cfg(test)]
+mod tests {
+    use super::*;
+
+    #[test]
+    fn components() {
+        let mut palette = [0; PALETTE];
+        palette[..6].copy_from_slice(&[0, 1, 15, 16, 32, 63]);
+        let wide = widened(&palette);
+        assert_eq!(wide[..6], [0, 4, 60, 65, 130, 255]);
+        assert_eq!(wide[6..], [0; PALETTE - 6]);
+    }
+
+    /// The colour bars of BT.601 at full brightness.
+    #[test]
+    fn bars() {
+        let bars = [
+            ([0, 0, 0], [16, 128, 128]),
+            ([255, 255, 255], [235, 128, 128]),
+            ([255, 0, 0], [81, 90, 240]),
+            ([0, 255, 0], [145, 54, 34]),
+            ([0, 0, 255], [41, 240, 110]),
+            ([255, 255, 0], [210, 16, 146]),
+            ([0, 255, 255], [170, 166, 16]),
+            ([255, 0, 255], [106, 202, 222]),
+        ];
+        for (colour, expected) in bars {
+            assert_eq!(ycbcr(colour), expected, "{colour:?}");
+        }
+    }
+}

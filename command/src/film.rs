@@ -1,0 +1,34 @@
+//! Reading a film: its header is judged before the rest is read.
+
+use mve::Refusal;
+use std::fs::File;
+use std::io::{self, Read};
+use std::path::Path;
+
+/// The bytes of a film's header.
+const HEADER: u64 = 26;
+
+/// A film that was not read.
+#[derive(Debug)]
+pub enum Unread {
+    Failed(io::Error),
+    /// The header is refused. With the length of the file.
+    Refused(Refusal, u64),
+}
+
+impl From<io::Error> for Unread {
+    fn from(error: io::Error) -> Unread {
+        Unread::Failed(error)
+    }
+}
+
+/// Reads a film whose header is right.
+pub fn read(path: &Path) -> Result<Vec<u8>, Unread> {
+    let mut file = File::open(path)?;
+    let length = file.metadata()?.len();
+    let mut film = Vec::new();
+    file.by_ref().take(HEADER).read_to_end(&mut film)?;
+    mve::open(&film, mve::NO_STREAM).map_err(|refusal| Unread::Refused(refusal, length))?;
+    file.read_to_end(&mut film)?;
+    Ok(film)
+}

@@ -1,0 +1,178 @@
+//! What the command says where it fails: what is wrong, with which file, what to do; and its exit
+//! statuses.
+
+use crate::refusals::Refused;
+use std::fmt;
+use std::io::{self, ErrorKind};
+use std::path::{Path, PathBuf};
+
+/// The exit status where a film is refused, or does not have what is asked for.
+pub const REFUSED: u8 = 1;
+/// The exit status of wrong use, and where a file cannot be read or written.
+pub const FAILED: u8 = 2;
+/// As of a program that the signal for a closed pipe has ended, which says nothing.
+const CLOSED: u8 = 141;
+
+/// Why the command fails.
+#[derive(Debug)]
+pub enum Failure {
+    Read(PathBuf, io::Error),
+    Write(PathBuf, io::Error),
+    /// A file that may not be overwritten.
+    Exists(PathBuf),
+    /// A folder in place of a file.
+    IsFolder(PathBuf),
+    /// A file in place of a folder.
+    IsFile(PathBuf),
+    /// A folder that has numbered pictures.
+    HasPictures(PathBuf),
+    /// Y4M is not for eyes.
+    Terminal,
+    /// A film that is refused, and what becomes of its pictures.
+    Refused(PathBuf, Refused, Kept),
+    /// A film that sends too few pictures: so many.
+    NoPicture(PathBuf, usize),
+    /// A film without sound in the stream, and the streams that it has.
+    NoSound(PathBuf, usize, Vec<usize>),
+    /// More than a WAV file can hold.
+    SoundTooLong(PathBuf),
+    /// Nobody reads standard output any longer.
+    Closed,
+}
+
+/// What becomes of the pictures before a refusal.
+#[derive(Clone, Copy, Debug, PartialEq, Eq)]
+pub enum Kept {
+    /// They are not kept.
+    Nothing,
+    /// There is none that is wanted.
+    NoPicture,
+    /// So many are written.
+    Pictures(usize),
+}
+
+impl Kept {
+    pub fn pictures(count: usize) -> Kept {
+        if count == 0 {
+            Kept::NoPicture
+        } else {
+            Kept::Pictures(count)
+        }
+    }
+}
+
+impl Failure {
+    /// A write that failed.
+    pub fn write(path: &Path, error: io::Error) -> Failure {
+        Failure::Write(path.into(), error)
+    }
+
+    /// A write to standard output that failed.
+    pub fn standard_output(error: io::Error) -> Failure {
+        match error.kind() {
+            ErrorKind::BrokenPipe => Failure::Closed,
+            _ => Failure::Write("standard output".into(), error),
+        }
+    }
+
+    pub fn status(&self) -> u8 {
+        match self {
+            Failure::Refused(..) | Failure::NoPicture(..) | Failure::NoSound(..) => REFUSED,
+            Failure::Closed => CLOSED,
+            _ => FAILED,
+        }
+    }
+}
+
+impl fmt::Display for Failure {
+    fn fmt(&self, f: &mut fmt::Formatter<'_>) -> fmt::Result {
+        match self {
+            Failure::Read(path, error) => {
+                write!(f, "{}: cannot be read: {}", name(path), why(error))
+            }
+            Failure::Write(path, error) => {
+                write!(f, "{}: cannot be written: {}", name(path), why(error))
+            }
+            Failure::Exists(path) => {
+                write!(f, "{}: exists already: give another name, or --force", name(path))
+            }
+            Failure::IsFolder(path) => write!(f, "{}: is a folder: give another name", name(path)),
+            Failure::IsFile(path) => write!(f, "{}: is no folder: give another name", name(path)),
+            Failure::HasPictures(path) => {
+                let path = name(path);
+                write!(f, "{path}: has numbered pictures already: give another folder, or --force")
+            }
+            Failure::Terminal => {
+                write!(f, "Y4M is not for a terminal: send it to a player (| ffplay -) or a file")
+            }
+            Failure::Refused(path, refused, kept) => write!(f, "{}: {refused} {kept}", name(path)),
+            Failure::NoPicture(path, 0) => write!(f, "{}: the film sends no picture", name(path)),
+            Failure::NoPicture(path, count) => {
+                let (path, last) = (name(path), count - 1);
+                write!(f, "{path}: the film sends pictures 0 to {last} only: give a lower --from")
+            }
+            Failure::NoSound(path, stream, others) => no_sound(f, path, *stream, others),
+            Failure::SoundTooLong(path) => {
+                let path = name(path);
+                write!(
+                    f,
+                    "{path}: the sound is too long for a WAV file: choose a part by --pictures"
+                )
+            }
+            Failure::Closed => Ok(()),
+        }
+    }
+}
+
+fn no_sound(
+    f: &mut fmt::Formatter<'_>,
+    path: &Path,
+    stream: usize,
+    others: &[usize],
+) -> fmt::Result {
+    let path = name(path);
+    if others.is_empty() {
+        return write!(f, "{path}: the film has no sound: leave --sound out");
+    }
+    let others: Vec<_> = others.iter().map(usize::to_string).collect();
+    let others = others.join(", ");
+    write!(f, "{path}: no sound in stream {stream}: give --stream one of {others}")
+}
+
+impl fmt::Display for Kept {
+    fn fmt(&self, f: &mut fmt::Formatter<'_>) -> fmt::Result {
+        match self {
+            Kept::Nothing => write!(f, "Nothing is written; --partial keeps what comes before it."),
+            Kept::NoPicture => write!(f, "No picture is written."),
+            Kept::Pictures(1) => write!(f, "The picture before it is written."),
+            Kept::Pictures(count) => write!(f, "The {count} pictures before it are written."),
+        }
+    }
+}
+
+/// A path for a message or a table: on one line, and without any sequence that steers a terminal.
+pub fn name(path: &Path) -> String {
+    path.to_string_lossy().replace(char::is_control, "\u{FFFD}")
+}
+
+/// What the system says of an error, without its number.
+pub fn why(error: &io::Error) -> String {
+    let text = error.to_string();
+    text.split(" (os error").next().unwrap_or_default().into()
+}
+
+#[cfg(test)]
+mod tests {
+    use super::*;
+
+    #[test]
+    fn names() {
+        assert_eq!(name(Path::new("a b/é\n\u{1b}[2J.mve")), "a b/é\u{FFFD}\u{FFFD}[2J.mve");
+    }
+
+    #[test]
+    fn errors() {
+        assert_eq!(why(&io::Error::from_raw_os_error(2)), "No such file or directory");
+        assert_eq!(why(&io::Error::other("a (b) c")), "a (b) c");
+    }
+}

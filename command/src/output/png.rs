@@ -1,0 +1,76 @@
+//! PNG pictures in a folder: their indices and their palette as in the film.
+
+use super::{Finished, Part, Pictures};
+use crate::colours::widened;
+use crate::messages::Failure;
+use crate::walk::Picture;
+use ::png::{BitDepth, ColorType, Encoder, EncodingError, FilterType};
+use std::fs::{self, File};
+use std::io::{BufWriter, Write};
+use std::path::Path;
+
+/// Numbered pictures, 000000.png and so on, by their numbers in the film.
+pub struct Png {
+    part: Part,
+}
+
+impl Png {
+    pub fn begin(folder: &Path) -> Result<Png, Failure> {
+        Ok(Png { part: Part::folder(folder)? })
+    }
+}
+
+impl Pictures for Png {
+    fn add(&mut self, number: usize, picture: &Picture<'_>, _: u32) -> Result<(), Failure> {
+        let name = format!("{number:06}.png");
+        let written = write(&self.part.inside(&name), picture);
+        written.map_err(|error| Failure::write(&self.part.target.join(name), error.into()))
+    }
+
+    fn finish(self: Box<Self>) -> Result<Finished, Failure> {
+        Ok(Finished { parts: vec![self.part], note: None })
+    }
+}
+
+fn write(path: &Path, picture: &Picture<'_>) -> Result<(), EncodingError> {
+    let mut file = BufWriter::new(File::create_new(path)?);
+    let mut encoder = Encoder::new(&mut file, picture.width.into(), picture.height.into());
+    encoder.set_color(ColorType::Indexed);
+    encoder.set_depth(BitDepth::Eight);
+    encoder.set_palette(widened(picture.palette).to_vec());
+    encoder.set_filter(FilterType::NoFilter); // neighbours of indices are no differences
+    let mut writer = encoder.write_header()?;
+    writer.write_image_data(picture.pixels)?;
+    writer.finish()?;
+    Ok(file.flush()?)
+}
+
+/// Sees to it that a folder has no numbered picture.
+pub fn check(folder: &Path) -> Result<(), Failure> {
+    let entries = fs::read_dir(folder).map_err(|error| Failure::write(folder, error))?;
+    let mut names = entries.flatten().map(|entry| entry.file_name());
+    match names.any(|name| is_numbered(&name.to_string_lossy())) {
+        true => Err(Failure::HasPictures(folder.into())),
+        false => Ok(()),
+    }
+}
+
+fn is_numbered(name: &str) -> bool {
+    let number = name.strip_suffix(".png").unwrap_or_default();
+    number.len() >= 6 && number.bytes().all(|byte| byte.is_ascii_digit())
+}
+
+#[cfg(test)]
+mod tests {
+    use super::is_numbered;
+
+    #[test]
+    fn numbers() {
+        for name in ["000000.png", "123456789.png"] {
+            assert!(is_numbered(name), "{name}");
+        }
+        for name in ["00000.png", "000000.PNG", "00000a.png", "000000.ppm", ".png", "000000"] {
+            assert!(!is_numbered(name), "{name}");
+        }
+    }
+}

@@ -1,0 +1,125 @@
+//! The walk over a film: step after step by the proved library, with palette, pictures and samples in
+//! memory of its own.
+
+use crate::opcodes::Opcode;
+use crate::refusals::Refused;
+use mve::{State, Step};
+
+/// The bytes of the largest picture: 80 by 60 blocks of 8x8 pixels.
+const LARGEST_PICTURE: usize = 80 * 60 * 64;
+/// Bytes of a palette.
+pub const PALETTE: usize = 768;
+/// The stores of the largest picture: with so many a step, none is stopped.
+pub const ALL_STORES: usize = 312_000;
+/// The stores of a block: a step that is allowed fewer never finishes one.
+pub const LEAST_STORES: usize = 65;
+
+/// How a film is walked.
+#[derive(Clone, Copy, Debug)]
+pub struct Rules {
+    /// The stream of its sound; [`mve::NO_STREAM`] for none.
+    pub stream: usize,
+    /// No byte of a packet may be left over.
+    pub strict: bool,
+    /// The stores that a step is allowed.
+    pub allowance: usize,
+}
+
+/// A film that is being walked.
+pub struct Walk<'a> {
+    film: &'a [u8],
+    rules: Rules,
+    state: State,
+    palette: [u8; PALETTE],
+    a: Vec<u8>,
+    b: Vec<u8>,
+    place: usize,
+    room: Vec<u8>,
+    stops: usize,
+}
+
+/// What a step has passed.
+#[derive(Clone, Copy, Debug)]
+pub struct Passed<'a> {
+    /// The opcode; none of a chunk's head.
+    pub opcode: Option<Opcode<'a>>,
+    /// Whether a picture was sent to the display.
+    pub sent: bool,
+    /// Bytes of samples; see [`Walk::samples`].
+    bytes: usize,
+}
+
+/// A picture that was sent.
+#[derive(Clone, Copy, Debug)]
+pub struct Picture<'a> {
+    /// In pixels.
+    pub width: u16,
+    pub height: u16,
+    /// A palette entry for each pixel, row by row.
+    pub pixels: &'a [u8],
+    /// 256 entries of red, green and blue, 0 to 63.
+    pub palette: &'a [u8; PALETTE],
+}
+
+impl<'a> Walk<'a> {
+    /// Opens a film.
+    pub fn open(film: &'a [u8], rules: Rules) -> Result<Walk<'a>, Refused> {
+        let state = mve::open(film, rules.stream).map_err(|refusal| Refused::new(refusal, 0))?;
+        Ok(Walk {
+            film,
+            rules,
+            state,
+            palette: [0; PALETTE],
+            a: vec![0; LARGEST_PICTURE],
+            b: vec![0; LARGEST_PICTURE],
+            place: 0,
+            room: vec![0; mve::ROOM_BYTES],
+            stops: 0,
+        })
+    }
+
+    /// Passes the next chunk's head or opcode; none where the film has ended. A step that its stores
+    /// do not suffice for is taken again until they do.
+    pub fn pass(&mut self) -> Result<Option<Passed<'a>>, Refused> {
+        let before = self.state;
+        let (after, bytes) = loop {
+            match self.step()? {
+                Step::Unfinished(..) => self.stops += 1,
+                Step::Taken(after, bytes) => break (after, bytes),
+                Step::Whole(after, _) => break (after, 0),
+                Step::Ended(_) => return Ok(None),
+            }
+        };
+        self.state = after;
+        let sent = before.unsent && !after.unsent;
+        Ok(Some(Passed { opcode: Opcode::at(self.film, &before), sent, bytes }))
+    }
+
+    fn step(&mut self) -> Result<Step, Refused> {
+        let Walk { film, state, palette, a, b, place, room, .. } = self;
+        let step = if self.rules.strict { mve::step_strict } else { mve::step };
+        let step = step(film, *state, palette, a, b, place, room, self.rules.allowance);
+        step.map_err(|refusal| Refused::new(refusal, state.position))
+    }
+
+    /// The samples of what was passed last.
+    pub fn samples(&self, passed: &Passed<'_>) -> &[u8] {
+        &self.room[..passed.bytes]
+    }
+
+    /// The picture that is shown; of no pixel before the film has told its size.
+    pub fn picture(&self) -> Picture<'_> {
+        let Walk { state, palette, a, b, .. } = self;
+        let [width, height] = [state.columns, state.rows].map(|blocks| 8 * blocks as u16);
+        Picture { width, height, pixels: mve::shown(state, a, b), palette }
+    }
+
+    pub fn state(&self) -> &State {
+        &self.state
+    }
+
+    /// How often a step was stopped because its stores did not suffice.
+    pub fn stops(&self) -> usize {
+        self.stops
+    }
+}

@@ -1,0 +1,15 @@
+//! Whole films beside the players that people have: libavformat splits a seeded film into packets and
+//! libavcodec decodes them, and every picture, every colour and every sample is held against those of
+//! the proved library.
+//!
+//! docs/PEERS.md lists the places where libavformat and libavcodec differ from the documents; the
+//! tests have a case for each. In comments "01" is the scope document, "02" that of the requests,
+//! "003" the source document of the file.
+
+pub mod comparison;
+#[cfg(libav)]
+mod ffi;
+pub mod film;
+pub mod libav;
+pub mod ours;
+pub mod played;
