@@ -17,7 +17,7 @@ pub enum Checked {
     Refused(Refusal),
 }
 
-// Whether n blocks, from 1 to most.
+// Whether n is from 1 to most.
 fn is_legal(most: usize, n: usize) -> bool
     ensures { λ r. ⌜ r ≡ legal most n ⌝ }
 {
