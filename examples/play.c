@@ -4,6 +4,8 @@
 
 Writes each picture that the film sends to FOLDER, as 000000.ppm, 000001.ppm and so on, and the sound of stream STREAM
 (0 to 15, 0 if it is not given; above 15 none) as 000000.wav; where format or rate changes 000001.wav begins, and so on.
+The heading of each picture says, in a line like "# rows 3 to 5" or "# rows none", which rows of blocks were touched
+since this one of the two pictures was last sent: all that a display with a copy of each needs to be sent.
 FOLDER must be there and hold no name that ends in .ppm or .wav. Every step is allowed ALLOWANCE stores; when they do
 not suffice, the player is stopped as a watchdog would stop it, and goes on. If EVERY is given, it is also stopped at
 every so many opcodes of sound, when what they give is written and the state is not saved yet. Exits with 0 where the
@@ -46,10 +48,19 @@ struct sound {
     size_t rate;
 };
 
-/* Where a player is: what it must not lose at a stop. */
+/* Rows of blocks, from the first to the last; none where `touched` is 0. */
+struct rows {
+    size_t touched;
+    size_t first;
+    size_t last;
+};
+
+/* Where a player is: what it must not lose at a stop. The rows of each of the two pictures, a and b, are those touched
+   since it was last sent, which a display's copy of it lacks: a stop may fall between drawing and sending. */
 struct saved {
     struct mve_state state;
     struct sound sound;
+    struct rows unsent[2];
 };
 
 /* All that a stop leaves, beside the files. In a real player it lies in memory that outlives the stop. */
@@ -195,10 +206,30 @@ static int scaled(uint8_t component) {
     return (component * 255 + 31) / 63;
 }
 
-static bool write_ppm(FILE *file, const struct kept *kept, struct mve_state state) {
+/* Joins the rows that a packet touches to those of the picture that it was drawn on, which was not the front. */
+static void join_rows(struct saved *next, struct mve_stepped drawn) {
+    struct rows *rows = &next->unsent[1 - drawn.state.front];
+    if (drawn.touched == 0) {
+        return;
+    }
+    if (rows->touched == 0 || drawn.first_row < rows->first) {
+        rows->first = drawn.first_row;
+    }
+    if (rows->touched == 0 || drawn.last_row > rows->last) {
+        rows->last = drawn.last_row;
+    }
+    rows->touched = 1;
+}
+
+static bool write_ppm(FILE *file, const struct kept *kept, struct mve_state state, struct rows rows) {
     const uint8_t *front = state.front == 0 ? kept->a : kept->b;
     size_t shown = mve_shown(state, kept->a, sizeof kept->a, kept->b, sizeof kept->b);
-    fprintf(file, "P6\n%zu %zu\n255\n", 8 * state.columns, 8 * state.rows);
+    if (rows.touched != 0) {
+        fprintf(file, "P6\n# rows %zu to %zu\n", rows.first, rows.last);
+    } else {
+        fprintf(file, "P6\n# rows none\n");
+    }
+    fprintf(file, "%zu %zu\n255\n", 8 * state.columns, 8 * state.rows);
     for (size_t i = 0; i < shown; i++) {
         const uint8_t *colour = &kept->palette[3 * front[i]];
         putc(scaled(colour[0]), file);
@@ -208,16 +239,18 @@ static bool write_ppm(FILE *file, const struct kept *kept, struct mve_state stat
     return ferror(file) == 0;
 }
 
-/* Writes the shown picture under the first free number. It gets its number when it is written in full, so that a stop
-   leaves no half picture that counts. */
-static bool write_picture(const struct kept *kept, struct mve_state state, const struct arguments *arguments,
+/* Writes the shown picture under the first free number, with the rows that were touched since it was last sent; then
+   none are. It gets its number when it is written in full, so that a stop leaves no half picture that counts. */
+static bool write_picture(const struct kept *kept, struct saved *next, const struct arguments *arguments,
                           size_t film_length) {
     char part[FILENAME_MAX], path[FILENAME_MAX];
+    struct mve_state state = next->state;
+    struct rows *rows = &next->unsent[state.front];
     size_t number = count_pictures(arguments->folder);
     picture_path(path, sizeof path, arguments->folder, number);
     snprintf(part, sizeof part, "%s/picture.part", arguments->folder);
     FILE *file = fopen(part, "wb");
-    bool written = file != NULL && write_ppm(file, kept, state);
+    bool written = file != NULL && write_ppm(file, kept, state, *rows);
     if (file != NULL && fclose(file) != 0) {
         written = false;
     }
@@ -226,6 +259,7 @@ static bool write_picture(const struct kept *kept, struct mve_state state, const
         remove(part);
         return false;
     }
+    *rows = (struct rows){0};
     fprintf(stderr, "\r%s: byte %zu of %zu, pictures: %zu", arguments->film, state.position, film_length, number + 1);
     return true;
 }
@@ -390,7 +424,7 @@ static bool write_output(const struct film *film, const struct kept *kept, struc
     if (bytes > 0 && !write_samples(&next->sound, room, bytes, arguments)) {
         return false;
     }
-    return before.unsent == 0 || next->state.unsent != 0 || write_picture(kept, next->state, arguments, film->length);
+    return before.unsent == 0 || next->state.unsent != 0 || write_picture(kept, next, arguments, film->length);
 }
 
 /* Whether the watchdog stops a run that has just written what an opcode of sound gave. */
@@ -410,9 +444,10 @@ static enum outcome play(const struct film *film, struct kept *kept, const struc
         struct mve_stepped step =
             mve_step(film->bytes, film->length, saved.state, kept->palette, sizeof kept->palette, kept->a,
                      sizeof kept->a, kept->b, sizeof kept->b, &kept->place, room, sizeof room, arguments->allowance);
-        struct saved next = {step.state, saved.sound};
+        struct saved next = saved;
+        next.state = step.state;
         switch (step.kind) {
-        case MVE_UNFINISHED:
+        case MVE_UNFINISHED: /* the next run goes on with the packet, and is told the same rows at its end */
             return STOPPED;
         case MVE_ENDED:
             return finish_sound(saved.sound, arguments) ? ENDED : FAILED;
@@ -422,6 +457,7 @@ static enum outcome play(const struct film *film, struct kept *kept, const struc
             }
             return FAILED;
         default: /* MVE_TAKEN, MVE_WHOLE */
+            join_rows(&next, step);
             if (!write_output(film, kept, saved.state, &next, room, step.bytes, arguments)) {
                 return FAILED;
             }

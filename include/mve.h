@@ -65,20 +65,20 @@ libmve.a is one object for x86-64 and the System V ABI. It needs no operating sy
 undefined below. Every function has a section of its own, so that the linker's --gc-sections leaves out those that are not
 called. All relocations are relative: code and constants may be loaded at any address, as long as they stay together.
 
-    code                        40,874 bytes
+    code                        40,822 bytes
     constants                   1,201 bytes
     memory of its own           0 bytes
     undefined symbols           memset
     relocations                 R_X86_64_PC32, R_X86_64_PLT32
     vector registers            xmm0 to xmm15
     below the stack pointer     40 bytes
-    stack of mve_check          160 bytes
+    stack of mve_check          176 bytes
     stack of mve_check_strict   176 bytes
-    stack of mve_draw           448 bytes
-    stack of mve_draw_strict    448 bytes
+    stack of mve_draw           464 bytes
+    stack of mve_draw_strict    464 bytes
     stack of mve_open           8 bytes
     stack of mve_shown          8 bytes
-    stack of mve_step_as        736 bytes
+    stack of mve_step_as        800 bytes
 
 The stack of a call is the most that it takes, together with all that it calls: return addresses, pushed registers and
 arguments, locals with the copies of constant tables, and what is used below the stack pointer. Each call takes less than
@@ -169,6 +169,28 @@ forms may be mixed, also within one picture.
 
 The fields of 7 to A, of one bit or two, run left to right, then down, from the low end of each byte. docs/FORMAT.md tells
 how the colours choose a form, and the offsets.
+
+THE ROWS TOUCHED
+
+A row of blocks is touched by a packet where it holds a block other than code 1; code 0 counts, whatever it copies.
+Where there is such a row, `touched` is 1, and `first_row` and `last_row` are the first and the last of them, counted
+from 0 (8 rows of pixels each); where there is none, all three are 0. They are told by MVE_ACCEPTED of mve_check, and by
+MVE_WHOLE and MVE_UNFINISHED of mve_draw and mve_step, in both forms, and are always those of the whole packet, whatever
+the place and the count of stores. Every other answer has none. A drawing leaves all pixels of the other rows, and the
+whole front picture, as they are.
+
+For a display that keeps a copy of each of the two pictures and has a slow link: a copy is its picture as it was last
+sent. So keep, for each of the two pictures, the rows touched since that picture was last sent; begin with no row where
+the copies begin as the pictures do, else with all. When a step answers MVE_WHOLE, join its rows to those of the picture
+drawn on: b where the front of the state that went in is 0, a where it is 1. The frame is sent by a step that leaves no
+frame unsent where one was (opcode 07); the picture drawn on is now the front. Send the rows kept for it, from the first
+to the last of all, to its copy; then none are kept for it. The other copy stays as it is: its picture was not drawn on.
+The rows of the last packet alone may be too few, since a frame that is never sent is drawn over, and its rows are still
+to be sent. A 07 with no frame unsent sends nothing.
+
+Save the rows together with the state, in one write: a stop may fall between 11 and 07. A drawing that was stopped or is
+unfinished is taken again and tells the same rows at its end. A host that gives up an unfinished drawing must join the
+rows of MVE_UNFINISHED, too.
 */
 
 #ifndef MVE_H
@@ -184,8 +206,8 @@ extern "C" {
 /* The version of this interface. It changes with every change of the calls, of the structs, of the packets that are
    accepted and of the pictures that they give; CHANGELOG.md says what changed. 1 was without sound, and without this
    number; 2 counted sizes in pixels; 3 took the fields of codes 7 to A from the high end of each byte; 4 had the strict
-   forms alone, under the names of the default ones. */
-#define MVE_VERSION 5
+   forms alone, under the names of the default ones; 5 told no rows. */
+#define MVE_VERSION 6
 
 /* A room that is always enough: a word counts a packet's samples, and each has two bytes at most. */
 #define MVE_ROOM_BYTES 131070
@@ -246,12 +268,16 @@ struct mve_state {
     uint16_t right;
 };
 
-/* number and block: of a refusal, else 0; block only for 12 to 14. stores: how many the call made. */
+/* number and block: of a refusal, else 0; block only for 12 to 14. stores: how many the call made. touched, first_row,
+   last_row: see THE ROWS TOUCHED. */
 struct mve_answer {
     size_t kind;
     size_t number;
     size_t block;
     size_t stores;
+    size_t touched;
+    size_t first_row;
+    size_t last_row;
 };
 
 /* bytes: how many the step wrote at the room's front; 0 but for an 08 or 09 of the stream that is taken. */
@@ -261,6 +287,9 @@ struct mve_stepped {
     size_t block;
     size_t stores;
     size_t bytes;
+    size_t touched;
+    size_t first_row;
+    size_t last_row;
     struct mve_state state;
 };
 
@@ -303,8 +332,8 @@ static inline struct mve_stepped mve_step_strict(const uint8_t *film, size_t fil
 size_t mve_shown(struct mve_state state, const uint8_t *a, size_t a_length,
                  const uint8_t *b, size_t b_length);
 
-/* Whether a packet is accepted for a picture of columns by rows blocks: MVE_ACCEPTED, or MVE_REFUSED by 6, 10, 12 to
-   15. */
+/* Whether a packet is accepted for a picture of columns by rows blocks: MVE_ACCEPTED with the rows that it touches, or
+   MVE_REFUSED by 6, 10, 12 to 15. */
 struct mve_answer mve_check(size_t columns, size_t rows, const uint8_t *map, size_t map_length,
                             const uint8_t *data, size_t data_length);
 

@@ -86,7 +86,7 @@ impl<'a> Walk<'a> {
             match self.step()? {
                 Step::Unfinished(..) => self.stops += 1,
                 Step::Taken(after, bytes) => break (after, bytes),
-                Step::Whole(after, _) => break (after, 0),
+                Step::Whole(after, ..) => break (after, 0),
                 Step::Ended(_) => return Ok(None),
             }
         };

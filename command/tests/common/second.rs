@@ -115,7 +115,7 @@ impl Second {
                 Stepped::Refused(refusal) => return Err((refusal, state.position)),
                 Stepped::Ended(_) => return Ok(()),
                 Stepped::Unfinished(..) => unreachable!("no picture has more stores"),
-                Stepped::Whole(after, _) => {
+                Stepped::Whole(after, ..) => {
                     state = after;
                     0
                 }

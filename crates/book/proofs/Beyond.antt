@@ -21,7 +21,7 @@ use Rattle.stores.proofs.Recover.{after-off}
 use Rattle.stores.proofs.Within.{AgreeTo, agree-take, take-agree, take-short, drop-same, Both, after-within, cut-least}
 use Rattle.paint.specs.Value.{pixelValue}
 use Rattle.draw.specs.Drawing.{sizeAt, targetAt, valueAt, plan}
-use Rattle.draw.specs.Call.{Request, packetOf, callVerdict, drawVerdict, Reason, comes, calling}
+use Rattle.draw.specs.Call.{Request, packetOf, callVerdict, drawVerdict, Reason, comes, calling, rowsOf}
 use Rattle.draw.specs.Asked.{Accepted}
 use Rattle.draw.proofs.Judged.{accepted-call}
 use Rattle.book.specs.Beyond.{area, Unwritten, showing, SameTo, SameCalls, Unread}
@@ -119,15 +119,15 @@ module _ (c : Request) (front : List ℕ) (m m′ : Memory) (f : take (area c) (
   same-drawn n e = let g = drawn-both n e in record { picture = agree-take (area c) _ _ (g .pictures); place = g .place }
 
   same-calls : (v : Verdict) → drawVerdict c m ≡ v → SameCalls (area c) c front m m′
-  unfolding comes leave leaveCut outcome count happens
+  unfolding comes leave leaveCut outcome count happens rowsOf
   same-calls (refuse n k) e =
       let e′ = sym same-verdict ∙ e in
-      record { answers = rw (e, e′) refl; leaves = rw (e, e′) s; cuts = λ j. rw (e, e′) s }
+      record { tells = rw (e, e′) refl; leaves = rw (e, e′) s; cuts = λ j. rw (e, e′) s }
   same-calls accept e =
       let e′ = sym same-verdict ∙ e in
       let g = drawn-both (c .allowed .stores) e in
       record {
-        answers = rw (e, e′, g .place, s .place) refl;
+        tells = rw (e, e′, g .place, s .place) refl;
         leaves = rw (e, e′) (same-drawn (c .allowed .stores) e);
         cuts =
             λ j.

@@ -9,7 +9,9 @@ use Prim.Native.Nat.{ℕ, _+_, _*_, _/_, _≤_, _<_}
 use native.Mathlib.Omega.{arith}
 use lib.ListN.{length}
 use Rattle.refusal.specs.Number.{Verdict, accept, refuse}
-use Rattle.packet.specs.Packet.{packet, blocks, kind}
+use Rattle.packet.specs.declared.Touched.the-variants.{None}
+use Rattle.packet.specs.Rows.{touched}
+use Rattle.packet.specs.Packet.{Packet, packet, blocks, kind}
 use Rattle.packet.specs.Asked.{Sized}
 use Rattle.packet.proofs.Sizes.{is-size, is-sized}
 use Rattle.packet.proofs.Exactly.{accepts-more}
@@ -18,10 +20,11 @@ use Rattle.stores.specs.Calls.{allowed, whole, step, reply, Event, returns, cut
 use Rattle.stores.proofs.Calls.{as-booked}
 use Rattle.paint.proofs.Counts.{count-few}
 use Rattle.draw.specs.Drawing.{sizeAt, plan}
-use Rattle.draw.specs.Call.{Request, packetOf, drawVerdict, comes, calling}
+use Rattle.draw.specs.Call.{Request, packetOf, drawVerdict, comes, calling, rowsOf}
 use Rattle.draw.specs.Taken.{DrawAccepts}
 use Rattle.draw.proofs.Exactly.{drawn-exactly}
-use Rattle.book.specs.Demand.{Same, OnlyRefusedDiffer, CutsWithin, Given, leavesAt, Progresses, Demand3}
+use Rattle.book.specs.Demand.{Same, OnlyRefusedDiffer, CutsWithin, Given, leavesAt, Progresses, TellsRows, Demand3}
+use Rattle.book.proofs.Rows.{same-rows, list-unchanged}
 use Rattle.book.proofs.Lawful.{plan-lawful}
 
 -- ---- lists
@@ -84,6 +87,19 @@ module _ (c : Request) (first : List ℕ) (g : Given c first) where
   goes-on m (returns r) f = λ q l. f (r .allowed .stores) (comes-on (drawVerdict r m) (r .allowed .stores) q) (omega arith)
   goes-on m (cut r j) f = tt
 
+  rows-by : (v : Verdict) (r : Request) → (v ≡ accept → Same r c) → v ≡ accept → rowsOf v (packetOf r) ≡ touched (packetOf c)
+  unfolding rowsOf
+  rows-by v r f e = rw e (same-rows r c (f e))
+
+  no-rows : (v : Verdict) (p : Packet) (a k : ℕ) → v ≡ refuse a k → rowsOf v p ≡ None
+  unfolding rowsOf
+  no-rows v p a k e = rw e
+
+  tells : (m : Memory) (e : Event Request) → (drawVerdict (callOf e) m ≡ accept → Same (callOf e) c) → Returning (TellsRows c) m e
+  unfolding Returning callOf
+  tells m (returns r) f = record { taken = rows-by (drawVerdict r m) r f; refused = no-rows (drawVerdict r m) (packetOf r) }
+  tells m (cut r j) f = tt
+
   shows : (m : Memory) (e : Event Request) → leavesAt m e .shown ≡ callOf e .front
   unfolding leavesAt callOf
   shows m (returns r) = refl
@@ -98,6 +114,8 @@ module _ (c : Request) (first : List ℕ) (g : Given c first) where
         booked = b;
         accepts = each-as _ _ _ (λ m e at l. takes m (callOf e) (at .0) (l .0)) m es (b .at-most) (b .keeps-length);
         shown = each-as _ _ _ (λ m e f _. (shows m e, λ q. shows m e ∙ f q .front)) m es o o;
+        rows = each-as _ _ _ (λ m e f _. tells m e f) m es o o;
+        outside = list-unchanged c m es o;
         progress = each-as _ _ _ (λ m e f _. goes-on m e f) m es (b .goes-on 64 at-most-64) o;
         finishes = b .ends 64 at-most-64;
       }

@@ -1,3 +1,4 @@
 pub mod Lawful
 pub mod Beyond
 pub mod Demand
+pub mod Rows

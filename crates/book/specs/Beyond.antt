@@ -7,8 +7,8 @@ use Prim.Native.Nat.{ℕ, _-_}
 use lib.ListN.{take, drop}
 use Rattle.packet.specs.Packet.{pixels}
 use Rattle.stores.specs.Stores.{Memory}
-use Rattle.stores.specs.Calls.{Event, cut, callOf, happens, reply, step}
-use Rattle.draw.specs.Call.{Request, request, calling}
+use Rattle.stores.specs.Calls.{Event, cut, callOf, happens, step}
+use Rattle.draw.specs.Call.{Request, request, calling, report}
 
 -- the bytes of a picture of a call's size
 abbrev pub area : Request → ℕ
@@ -27,10 +27,10 @@ pub record SameTo (n : ℕ) (m m′ : Memory) : Type 0 where
   pub picture : take n (m .picture) ≡ take n (m′ .picture)
   pub place : m .place ≡ m′ .place
 
--- a call, and the same with another shown picture, at two memories: one answer and count, and what they leave is the same up to n, also where both are
+-- a call, and the same with another shown picture, at two memories: one answer and count, the same rows, and what they leave is the same up to n, also where both are
 -- cut at one point
 pub record SameCalls (n : ℕ) (c : Request) (front : List ℕ) (m m′ : Memory) : Type 0 where
-  pub answers : reply calling m c ≡ reply calling m′ (showing c front)
+  pub tells : report m c ≡ report m′ (showing c front)
   pub leaves : SameTo n (step calling m c) (step calling m′ (showing c front))
   pub cuts : (j : ℕ) → SameTo n (happens calling m (cut c j)) (happens calling m′ (cut (showing c front) j))
 

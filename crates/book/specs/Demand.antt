@@ -7,13 +7,15 @@ use mathlib.Core.Logic.{_⊎_}
 use mathlib.Core.List.{List}
 use Prim.Native.Nat.{ℕ, _≤_, _<_}
 use lib.ListN.{length, getD}
-use Rattle.refusal.specs.Number.{accept}
+use Rattle.refusal.specs.Number.{accept, refuse}
+use Rattle.packet.specs.declared.Touched.the-variants.{None}
+use Rattle.packet.specs.Rows.{touched, Outside}
 use Rattle.packet.specs.Packet.{blocks, pixels}
 use Rattle.packet.specs.Accepted.{Accepts}
 use Rattle.stores.specs.Stores.{Memory, memory, final}
 use Rattle.stores.specs.Calls.{whole, Event, returns, cut, callOf, step, reply, happens, Returning, CutWithin, finally, ampleCalls, Each, AsBooked}
 use Rattle.draw.specs.Drawing.{plan}
-use Rattle.draw.specs.Call.{Request, packetOf, drawVerdict, calling, Pictures, pictures, leaves}
+use Rattle.draw.specs.Call.{Request, packetOf, drawVerdict, calling, Pictures, pictures, leaves, report}
 
 -- two calls bring the same packet, map, size and shown picture
 pub record Same (a b : Request) : Type 0 where
@@ -46,6 +48,11 @@ leavesAt m (cut c j) = pictures (c .front) (happens calling m (cut c j))
 abbrev pub Progresses : Memory → Request → Type 0
 Progresses m r = drawVerdict r m ≡ accept → 65 ≤ r .allowed .stores → (m .place < step calling m r .place) ⊎ (reply calling m r .answer ≡ whole)
 
+-- the rows that a call tells where the packet of c is drawn
+pub record TellsRows (c : Request) (m : Memory) (r : Request) : Type 0 where
+  pub taken : drawVerdict r m ≡ accept → report m r .rows ≡ touched (packetOf c)
+  pub refused : (n k : ℕ) → drawVerdict r m ≡ refuse n k → report m r .rows ≡ None
+
 -- what a list of calls es that finds the picture first and place 0 comes to
 pub record Demand3 (c : Request) (first : List ℕ) (es : List (Event Request)) : Type 0 where
   -- the place, every byte of the picture drawn on, every answer and every count are the book's; "whole" has left the picture of demand 2; the place
@@ -55,6 +62,10 @@ pub record Demand3 (c : Request) (first : List ℕ) (es : List (Event Request)) 
   pub accepts : Each calling (λ m e. Same (callOf e) c → c .allowed .spare ≤ callOf e .allowed .spare → drawVerdict (callOf e) m ≡ accept) (memory first 0) es
   -- each call, refused, cut or not, leaves the shown picture that it was lent; one that is not refused, that of c
   pub shown : Each calling (λ m e. (leavesAt m e .shown ≡ callOf e .front) × (drawVerdict (callOf e) m ≡ accept → leavesAt m e .shown ≡ c .front)) (memory first 0) es
+  -- each call that returns and is not refused tells the rows of blocks that the packet of c touches, and one that is refused none
+  pub rows : Each calling (Returning (TellsRows c)) (memory first 0) es
+  -- and outside them the picture is as it was found, whatever calls were cut
+  pub outside : (t : ℕ) → Outside (c .columns) (touched (packetOf c)) t → getD (finally calling (memory first 0) es .picture) t 0 ≡ getD first t 0
   -- each call that returns makes progress
   pub progress : Each calling (Returning Progresses) (memory first 0) es
   -- as many such calls as there are blocks leave the picture of demand 2, whatever refused calls, cut calls and calls allowed less stand between

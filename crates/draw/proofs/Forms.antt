@@ -16,7 +16,7 @@ use Rattle.packet.proofs.Forms.{Differ, differ-if, differ-else, blocks-differ}
 use Rattle.stores.specs.Stores.{Memory}
 use Rattle.stores.specs.Calls.{cut, leave, leaveCut, outcome, happens}
 use Rattle.draw.specs.Drawing.{plan}
-use Rattle.draw.specs.Call.{Request, packetOf, callVerdict, drawVerdict, comes, calling, pictures, leaves}
+use Rattle.draw.specs.Call.{Request, packetOf, callVerdict, drawVerdict, comes, calling, pictures, leaves, reporting, rowsOf}
 use Rattle.draw.specs.Forms.{SameCall, inForm, Odd, Forms}
 use Rattle.draw.proofs.Judged.{accepted-call}
 
@@ -39,7 +39,7 @@ by-verdict c m e =
     record {
       verdict = e;
       leaves = ap (λ (v : Verdict). pictures (c .front) (leave p m (comes v n))) e;
-      says = ap (λ (v : Verdict). outcome p m (comes v n)) e;
+      tells = ap (λ (v : Verdict). reporting (outcome p m (comes v n)) (rowsOf v (packetOf c))) e;
       cuts = λ j. ap (λ (v : Verdict). leaveCut p m (comes v n) j) e;
     }
 

@@ -8,9 +8,12 @@ use lib.Dec.{ltb}
 use lib.ListN.{length}
 use Rattle.refusal.specs.Number.{Verdict, accept, refuse, number, block}
 use Rattle.packet.specs.Packet.{Packet, packet, blocks, pixels}
+use Rattle.packet.specs.declared.Touched.{Touched}
+use Rattle.packet.specs.declared.Touched.the-variants.{None}
+use Rattle.packet.specs.Rows.{touched}
 use Rattle.packet.specs.Verdict.{legalSize, mapFits, blocksVerdict}
 use Rattle.stores.specs.Stores.{Memory}
-use Rattle.stores.specs.Calls.{Call, refused, allowed, Answer, whole, unfinished, refusal, Outcome, Calling, step}
+use Rattle.stores.specs.Calls.{Call, refused, allowed, Answer, whole, unfinished, refusal, Outcome, Calling, step, reply}
 use Rattle.draw.specs.Drawing.{plan}
 use Rattle.draw.specs.declared.Allowed.{Allowed}
 use Rattle.draw.specs.declared.Drawn.{Drawn}
@@ -79,8 +82,24 @@ pictures shown m = record { shown = shown; drawn = m }
 abbrev pub leaves : Request → Memory → Pictures
 leaves c m = pictures (c .front) (step calling m c)
 
+-- what a call tells: its answer and count, and the rows of blocks that its packet touches (document 02, W2)
+pub record Report : Type 0 where
+  pub outcome : Outcome Reason
+  pub rows : Touched
+
+-- of the whole packet, whatever the place and the count; none where the call is refused
+unfoldable pub rowsOf : Verdict → Packet → Touched
+rowsOf accept p = touched p
+rowsOf (refuse n k) p = None
+
+abbrev pub reporting : Outcome Reason → Touched → Report
+reporting o t = record { outcome = o; rows = t }
+
+abbrev pub report : Memory → Request → Report
+report m c = reporting (reply calling m c) (rowsOf (drawVerdict c m) (packetOf c))
+
 -- document 01's values of each answer: "whole" and "unfinished" with the count of stores made, a refusal with its number and block
-abbrev pub said : Drawn → Outcome Reason
-said (Whole n) = record { answer = whole; count = n }
-said (Unfinished n) = record { answer = unfinished; count = n }
-said (Refused r) = record { answer = refusal (reason (number r) (block r)); count = 0 }
+abbrev pub said : Drawn → Report
+said (Whole n t) = reporting (record { answer = whole; count = n }) t
+said (Unfinished n t) = reporting (record { answer = unfinished; count = n }) t
+said (Refused r) = reporting (record { answer = refusal (reason (number r) (block r)); count = 0 }) None

@@ -9,14 +9,14 @@ use Rattle.packet.specs.Packet.{blocks, start}
 use Rattle.packet.specs.Verdict.{default, strict}
 use Rattle.packet.specs.Forms.{OneOver}
 use Rattle.stores.specs.Stores.{Memory}
-use Rattle.stores.specs.Calls.{cut, happens, reply}
-use Rattle.draw.specs.Call.{Request, within, request, packetOf, drawVerdict, calling, pictures, leaves}
+use Rattle.stores.specs.Calls.{cut, happens}
+use Rattle.draw.specs.Call.{Request, within, request, packetOf, drawVerdict, calling, pictures, leaves, report}
 
--- two calls at one memory come to the same: the verdict, what they leave, cut or not, and what they say
+-- two calls at one memory come to the same: the verdict, what they leave, cut or not, and what they tell
 pub record SameCall (c d : Request) (m : Memory) : Type 0 where
   pub verdict : drawVerdict c m ≡ drawVerdict d m
   pub leaves : leaves c m ≡ leaves d m
-  pub says : reply calling m c ≡ reply calling m d
+  pub tells : report m c ≡ report m d
   pub cuts : (j : ℕ) → happens calling m (cut c j) ≡ happens calling m (cut d j)
 
 -- ---- the two forms

@@ -1,7 +1,8 @@
 // The drawing call: every test again, then the stores still due from the place, as many as are allowed.
 use block::code_at;
 use block::data_length;
-use packet::Checked;
+use packet::Inspected;
+use packet::Touched;
 use packet::check_blocks;
 use packet::data_position;
 use packet::is_legal_size;
@@ -16,18 +17,18 @@ ghost use lib.ListN.{length};
 ghost use Rattle.block.specs.Block.{kindOf};
 ghost use Rattle.paint.specs.Value.{pixelCount};
 ghost use Rattle.packet.specs.Packet.{packet};
-ghost use Rattle.packet.specs.Verdict.{default, strict, told};
+ghost use Rattle.packet.specs.Verdict.{default, strict};
+ghost use Rattle.packet.specs.Rows.{touched, finding, found};
 ghost use Rattle.stores.specs.Stores.{memory};
-ghost use Rattle.stores.specs.Calls.{reply};
 ghost use Rattle.stores.specs.Loop.{Called};
 ghost use Rattle.draw.specs.Drawing.{plan};
-ghost use Rattle.draw.specs.Call.{within, request, callVerdict, calling, pictures, leaves, said};
+ghost use Rattle.draw.specs.Call.{within, request, callVerdict, pictures, leaves, report, said};
 ghost use Rattle.draw.specs.Asked.{Accepted};
 
-// What a drawing call answers: with the stores made, or why it is refused.
+// What a drawing call answers: with the stores made and the rows of blocks that the packet touches, or why it is refused.
 pub enum Drawn {
-    Whole(usize),
-    Unfinished(usize),
+    Whole(usize, Touched),
+    Unfinished(usize, Touched),
     Refused(Refusal),
 }
 
@@ -58,26 +59,26 @@ fn judge(
     front: usize,
     back: usize,
     place: usize,
-) -> Checked
-    ensures { λ r. ⌜ told r ≡ callVerdict spare columns rows (now (map .entry)) (now («data» .entry)) front back place ⌝ }
+) -> Inspected
+    ensures { λ r. ⌜ found r ≡ finding (callVerdict spare columns rows (now (map .entry)) (now («data» .entry)) front back place) (touched (packet columns rows (now (map .entry)) (now («data» .entry)))) ⌝ }
 {
     if is_legal_size(columns, rows) {
         let pixels = 8 * rows * (8 * columns);
         if front < pixels {
-            return Checked::Refused(Refusal::Buffer);
+            return Inspected::Refused(Refusal::Buffer);
         }
         if back < pixels {
-            return Checked::Refused(Refusal::Buffer);
+            return Inspected::Refused(Refusal::Buffer);
         }
         if map.len() == (columns * rows + 1) / 2 {
             if columns * rows < place {
-                return Checked::Refused(Refusal::Place);
+                return Inspected::Refused(Refusal::Place);
             }
             return check_blocks(spare, columns, rows, map, data);
         }
-        return Checked::Refused(Refusal::MapLength);
+        return Inspected::Refused(Refusal::MapLength);
     }
-    Checked::Refused(Refusal::Size)
+    Inspected::Refused(Refusal::Size)
 }
 
 // The first stores due from the place on, at most as many as are allowed; their number is returned.
@@ -136,7 +137,7 @@ pub fn draw_within(
     allowed: Allowed,
 ) -> Drawn
     ensures { λ r. ⌜ pictures (now (front .exit)) (memory (now (back .exit)) (now (place .exit))) ≡ leaves (request columns rows (now (map .entry)) (now («data» .entry)) (now (front .entry)) allowed) (memory (now (back .entry)) (now (place .entry))) ⌝ }
-    ensures { λ r. ⌜ said r ≡ reply calling (memory (now (back .entry)) (now (place .entry))) (request columns rows (now (map .entry)) (now («data» .entry)) (now (front .entry)) allowed) ⌝ }
+    ensures { λ r. ⌜ said r ≡ report (memory (now (back .entry)) (now (place .entry))) (request columns rows (now (map .entry)) (now («data» .entry)) (now (front .entry)) allowed) ⌝ }
 {
     let at = *place;
     match judge(
@@ -149,14 +150,14 @@ pub fn draw_within(
         back.len(),
         at,
     ) {
-        Checked::Refused(r) => Drawn::Refused(r),
-        Checked::Accepted => {
+        Inspected::Refused(r) => Drawn::Refused(r),
+        Inspected::Accepted(t) => {
             let count = draw_blocks(columns, rows, map, data, front, back, place, allowed.stores);
             let next = *place;
             if next == columns * rows {
-                return Drawn::Whole(count);
+                return Drawn::Whole(count, t);
             }
-            Drawn::Unfinished(count)
+            Drawn::Unfinished(count, t)
         }
     }
 }
@@ -173,7 +174,7 @@ pub fn draw(
     allowed: usize,
 ) -> Drawn
     ensures { λ r. ⌜ pictures (now (front .exit)) (memory (now (back .exit)) (now (place .exit))) ≡ leaves (request columns rows (now (map .entry)) (now («data» .entry)) (now (front .entry)) (within allowed default)) (memory (now (back .entry)) (now (place .entry))) ⌝ }
-    ensures { λ r. ⌜ said r ≡ reply calling (memory (now (back .entry)) (now (place .entry))) (request columns rows (now (map .entry)) (now («data» .entry)) (now (front .entry)) (within allowed default)) ⌝ }
+    ensures { λ r. ⌜ said r ≡ report (memory (now (back .entry)) (now (place .entry))) (request columns rows (now (map .entry)) (now («data» .entry)) (now (front .entry)) (within allowed default)) ⌝ }
 {
     draw_within(
         columns,
@@ -202,7 +203,7 @@ pub fn draw_strict(
     allowed: usize,
 ) -> Drawn
     ensures { λ r. ⌜ pictures (now (front .exit)) (memory (now (back .exit)) (now (place .exit))) ≡ leaves (request columns rows (now (map .entry)) (now («data» .entry)) (now (front .entry)) (within allowed strict)) (memory (now (back .entry)) (now (place .entry))) ⌝ }
-    ensures { λ r. ⌜ said r ≡ reply calling (memory (now (back .entry)) (now (place .entry))) (request columns rows (now (map .entry)) (now («data» .entry)) (now (front .entry)) (within allowed strict)) ⌝ }
+    ensures { λ r. ⌜ said r ≡ report (memory (now (back .entry)) (now (place .entry))) (request columns rows (now (map .entry)) (now («data» .entry)) (now (front .entry)) (within allowed strict)) ⌝ }
 {
     draw_within(
         columns,

@@ -10,9 +10,9 @@ use lib.ListN.{length}
 use Rattle.refusal.specs.declared.Refusal.{Refusal}
 use Rattle.refusal.specs.Number.{Verdict, number, block}
 use Rattle.stores.specs.Stores.{Memory, memory}
-use Rattle.stores.specs.Calls.{Outcome as Reply, step, reply}
+use Rattle.stores.specs.Calls.{step}
 use Rattle.draw.specs.declared.Allowed.{Allowed}
-use Rattle.draw.specs.Call.{Request, request, Reason, calling, Pictures, pictures, leaves}
+use Rattle.draw.specs.Call.{Request, request, calling, Pictures, pictures, leaves, Report, report}
 use Rattle.palette.specs.declared.Updated.{Updated}
 use Rattle.palette.specs.declared.Updated.the-variants.{Taken, Refused}
 use Rattle.palette.specs.Update.{Update, told, verdictOn, paletteAfter}
@@ -45,22 +45,22 @@ use Rattle.film.specs.Film.{Lent, lent, withPalette, withPictures, withR
 -- ---- 11
 
 -- a drawing call on the second picture, which left c and k
-called-is : (st : State) (p : ℕ) (q : Request) (l : Lent) (x : Step) (o : Reply Reason) (c : List ℕ) (k : ℕ) → x ≡ drawnStep st p o
-    → o ≡ reply calling (memory (l .second) (l .place)) q → memory c k ≡ step calling (memory (l .second) (l .place)) q
+called-is : (st : State) (p : ℕ) (q : Request) (l : Lent) (x : Step) (o : Report) (c : List ℕ) (k : ℕ) → x ≡ drawnStep st p o
+    → o ≡ report (memory (l .second) (l .place)) q → memory c k ≡ step calling (memory (l .second) (l .place)) q
     → after x (withPictures l (l .first) c k) ≡ called st p q l
 unfolding called
 called-is st p q l x o c k f g h =
     ap (λ (z : Step). after z (withPictures l (l .first) c k)) (f ∙ ap (drawnStep st p) g)
-    ∙ ap (λ (m : Memory). after (drawnStep st p (reply calling (memory (l .second) (l .place)) q)) (withPictures l (l .first) (m .picture) (m .place))) h
+    ∙ ap (λ (m : Memory). after (drawnStep st p (report (memory (l .second) (l .place)) q)) (withPictures l (l .first) (m .picture) (m .place))) h
 
-module _ (st : State) (p : ℕ) (map packet : List ℕ) (allowed : Allowed) (a b : List ℕ) (place : ℕ) (x : Step) (c : List ℕ) (k : ℕ) (o : Reply Reason) (f : x ≡ drawnStep st p o) (l : Lent) where
-  pub drew-second : st .front ≡ 0 → o ≡ reply calling (memory b place) (request (st .columns) (st .rows) map packet a allowed)
+module _ (st : State) (p : ℕ) (map packet : List ℕ) (allowed : Allowed) (a b : List ℕ) (place : ℕ) (x : Step) (c : List ℕ) (k : ℕ) (o : Report) (f : x ≡ drawnStep st p o) (l : Lent) where
+  pub drew-second : st .front ≡ 0 → o ≡ report (memory b place) (request (st .columns) (st .rows) map packet a allowed)
       → pictures a (memory c k) ≡ leaves (request (st .columns) (st .rows) map packet a allowed) (memory b place)
       → after x (withPictures l a c k) ≡ drawOn st p map packet allowed (withPictures l a b place)
   unfolding drawOn
   drew-second e g h = rw (eq-eqb _ _ e) (called-is st p (request (st .columns) (st .rows) map packet a allowed) (withPictures l a b place) x o c k f g (ap (λ (y : Pictures). y .drawn) h))
 
-  pub drew-first : (st .front ≡ 0 → ⊥) → o ≡ reply calling (memory a place) (request (st .columns) (st .rows) map packet b allowed)
+  pub drew-first : (st .front ≡ 0 → ⊥) → o ≡ report (memory a place) (request (st .columns) (st .rows) map packet b allowed)
       → pictures b (memory c k) ≡ leaves (request (st .columns) (st .rows) map packet b allowed) (memory a place)
       → after x (withPictures l c b k) ≡ drawOn st p map packet allowed (withPictures l a b place)
   unfolding drawOn

@@ -6,9 +6,9 @@ use Prim.Native.Nat.{ℕ, _+_, _-_}
 use lib.Dec.{eqb}
 use lib.ListN.{length, take, drop}
 use Rattle.stores.specs.Stores.{Memory, memory}
-use Rattle.stores.specs.Calls.{step, reply}
+use Rattle.stores.specs.Calls.{step}
 use Rattle.draw.specs.declared.Allowed.{Allowed}
-use Rattle.draw.specs.Call.{Request, request, calling}
+use Rattle.draw.specs.Call.{Request, request, calling, report}
 use Rattle.palette.specs.Update.{Update, verdictOn, paletteAfter}
 use Rattle.palette.specs.Gradient.{createGradient}
 use Rattle.palette.specs.Entries.{setPalette}
@@ -67,7 +67,7 @@ after x l = record { step = x; lent = l }
 -- a drawing call on the second picture: its answer, and that picture and the place as it leaves them
 unfoldable pub called : State → ℕ → Request → Lent → Outcome
 called st p q l =
-    after (drawnStep st p (reply calling (memory (l .second) (l .place)) q))
+    after (drawnStep st p (report (memory (l .second) (l .place)) q))
     (withPictures l (l .first) (step calling (memory (l .second) (l .place)) q .picture) (step calling (memory (l .second) (l .place)) q .place))
 
 -- where the first picture is front, which is shown and read, and the second is back, which is drawn on

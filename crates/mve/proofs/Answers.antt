@@ -3,38 +3,52 @@
 use mathlib.Core.Path.{_≡_, refl, sym, ap, _∙_}
 use Prim.Native.Nat.{ℕ}
 use Rattle.refusal.specs.declared.Refusal.{Refusal}
-use Rattle.refusal.specs.Number.{Verdict, number, block, refusal}
-use Rattle.packet.specs.declared.Checked.{Checked}
-use Rattle.packet.specs.declared.Checked.the-variants.{Accepted, Refused}
-use Rattle.packet.specs.Verdict.{told}
-use Rattle.stores.specs.Calls.{Outcome}
+use Rattle.refusal.specs.Number.{number, block}
+use Rattle.packet.specs.declared.Touched.{Touched}
+use Rattle.packet.specs.declared.Touched.the-variants.{None, Rows}
+use Rattle.packet.specs.declared.Inspected.{Inspected}
+use Rattle.packet.specs.declared.Inspected.the-variants.{Accepted, Refused}
+use Rattle.packet.specs.Rows.{found}
 use Rattle.draw.specs.declared.Drawn.{Drawn}
 use Rattle.draw.specs.declared.Drawn.the-variants.{Whole, Unfinished, Refused as Denied}
-use Rattle.draw.specs.Call.{Reason, said}
+use Rattle.draw.specs.Call.{said}
+use Rattle.mve.specs.declared.MveRows.{MveRows}
 use Rattle.mve.specs.declared.MveAnswer.{MveAnswer}
-use Rattle.mve.specs.Answer.{answer, ofVerdict, ofAnswer, ofOutcome}
+use Rattle.mve.specs.Answer.{ofRows, answer, ofFound, ofAnswer, ofReport}
 
-pub refused-is : (r : Refusal) (n m k : ℕ) → n ≡ number r → m ≡ n → k ≡ block r → answer 4 m k 0 ≡ ofVerdict (refusal r)
-unfolding ofVerdict
-refused-is r n m k e f g = rw (f, e, g)
+module _ (t : Touched) where
+  pub no-rows : t ≡ None → record { touched = 0; first = 0; last = 0 } ≡ ofRows t
+  unfolding ofRows
+  no-rows e = rw e
 
-module _ (c : Checked) where
-  pub accepted-as : c ≡ Accepted → answer 0 0 0 0 ≡ ofVerdict (told c)
-  unfolding ofVerdict
-  accepted-as q = rw q
+  pub some-rows : (first last : ℕ) → t ≡ Rows first last → record { touched = 1; first = first; last = last } ≡ ofRows t
+  unfolding ofRows
+  some-rows first last e = rw e
 
-  pub refused-as : (r : Refusal) (a : MveAnswer) → c ≡ Refused r → a ≡ ofVerdict (refusal r) → a ≡ ofVerdict (told c)
-  refused-as r a q f = rw q f
+pub answered-is : (kind stores : ℕ) (t : Touched) (r : MveRows) → r ≡ ofRows t → answer kind 0 0 stores r ≡ answer kind 0 0 stores (ofRows t)
+answered-is kind stores t r e = rw e
 
-module _ (d : Drawn) where
-  pub whole-as : (n : ℕ) → d ≡ Whole n → answer 1 0 0 n ≡ ofOutcome (said d)
+pub refused-is : (r : Refusal) (n m k : ℕ) (rows : MveRows) → n ≡ number r → m ≡ n → k ≡ block r → rows ≡ ofRows None → answer 4 m k 0 rows ≡ answer 4 (number r) (block r) 0 (ofRows None)
+refused-is r n m k rows e f g h = rw (f, e, g, h)
+
+module _ (i : Inspected) (a : MveAnswer) where
+  pub accepted-as : (t : Touched) → i ≡ Accepted t → a ≡ answer 0 0 0 0 (ofRows t) → a ≡ ofFound (found i)
+  unfolding ofFound
+  accepted-as t q f = rw q f
+
+  pub refused-as : (r : Refusal) → i ≡ Refused r → a ≡ answer 4 (number r) (block r) 0 (ofRows None) → a ≡ ofFound (found i)
+  unfolding ofFound
+  refused-as r q f = rw q f
+
+module _ (d : Drawn) (a : MveAnswer) where
+  pub whole-as : (n : ℕ) (t : Touched) → d ≡ Whole n t → a ≡ answer 1 0 0 n (ofRows t) → a ≡ ofReport (said d)
   unfolding ofAnswer
-  whole-as n q = rw q
+  whole-as n t q f = rw q f
 
-  pub unfinished-as : (n : ℕ) → d ≡ Unfinished n → answer 2 0 0 n ≡ ofOutcome (said d)
+  pub unfinished-as : (n : ℕ) (t : Touched) → d ≡ Unfinished n t → a ≡ answer 2 0 0 n (ofRows t) → a ≡ ofReport (said d)
   unfolding ofAnswer
-  unfinished-as n q = rw q
+  unfinished-as n t q f = rw q f
 
-  pub denied-as : (r : Refusal) (a : MveAnswer) → d ≡ Denied r → a ≡ ofVerdict (refusal r) → a ≡ ofOutcome (said d)
-  unfolding ofAnswer ofVerdict
-  denied-as r a q f = rw q f
+  pub denied-as : (r : Refusal) → d ≡ Denied r → a ≡ answer 4 (number r) (block r) 0 (ofRows None) → a ≡ ofReport (said d)
+  unfolding ofAnswer
+  denied-as r q f = rw q f

@@ -13,6 +13,8 @@ use Rattle.sound.specs.declared.Format.{Format}
 use Rattle.sound.specs.declared.Format.the-variants.{Unknown, Known}
 use Rattle.sound.specs.declared.Sound.{Sound}
 use Rattle.sound.specs.Format.{firstSound}
+use Rattle.packet.specs.declared.Touched.{Touched}
+use Rattle.packet.specs.declared.Touched.the-variants.{None}
 use Rattle.state.specs.declared.Map.{Map}
 use Rattle.state.specs.declared.Map.the-variants.{Missing, Part}
 use Rattle.state.specs.declared.State.{State}
@@ -28,6 +30,8 @@ use Rattle.film.specs.Film.{Lent, after, stepOf}
 use Rattle.mve.specs.declared.MveSound.{MveSound}
 use Rattle.mve.specs.declared.MveState.{MveState}
 use Rattle.mve.specs.declared.MveStep.{MveStep}
+use Rattle.mve.specs.declared.MveRows.{MveRows}
+use Rattle.mve.specs.Answer.{ofRows}
 use Rattle.mve.specs.Film.{spareOf, flagOf, numberOf, soundOf, sounds, withFormat, ofSound, mapOf, stateOf, numbers, withMap, ofState, stepped, ofAnswer, ofStep, ofOpening, exported, ofOutcome}
 
 pub no-map : (has start long : ℕ) → has ≡ 0 → Missing ≡ mapOf has start long
@@ -84,43 +88,47 @@ module _ (st : State) (m : Map) (r : MveState) where
   pub with-map : (start long : ℕ) → m ≡ Part start long → r ≡ withMap st (Part start long) → r ≡ withMap st m
   with-map start long e q = rw e q
 
-pub step-is : (kind stores bytes : ℕ) (st : State) (s : MveState) → s ≡ ofState st → stepped kind 0 0 stores bytes s ≡ stepped kind 0 0 stores bytes (ofState st)
-step-is kind stores bytes st s e = ap (stepped kind 0 0 stores bytes) e
+pub step-is : (kind stores bytes : ℕ) (t : Touched) (st : State) (r : MveRows) (s : MveState) → r ≡ ofRows t → s ≡ ofState st → stepped kind 0 0 stores bytes r s ≡ stepped kind 0 0 stores bytes (ofRows t) (ofState st)
+step-is kind stores bytes t st r s e f = rw (e, f)
 
-pub refused-step : (r : Refusal) (n m k : ℕ) (s : MveState) → n ≡ number r → m ≡ n → k ≡ block r → stepped 4 m k 0 0 s ≡ stepped 4 (number r) (block r) 0 0 s
-refused-step r n m k s e f g = rw (f, e, g)
+pub kept-is : (kind stores : ℕ) (t : Touched) (r : MveRows) (s : MveState) → r ≡ ofRows t → stepped kind 0 0 stores 0 r s ≡ stepped kind 0 0 stores 0 (ofRows t) s
+kept-is kind stores t r s e = rw e
+
+pub refused-step : (r : Refusal) (n m k : ℕ) (rows : MveRows) (s : MveState) → n ≡ number r → m ≡ n → k ≡ block r → rows ≡ ofRows None
+    → stepped 4 m k 0 0 rows s ≡ stepped 4 (number r) (block r) 0 0 (ofRows None) s
+refused-step r n m k rows s e f g h = rw (f, e, g, h)
 
 module _ (m : MveState) (x : Stepped) (a : MveStep) where
-  pub taken-as : (st : State) → x ≡ step.Taken st → a ≡ stepped 0 0 0 0 0 (ofState st) → a ≡ ofStep m (steppedAs x)
+  pub taken-as : (st : State) → x ≡ step.Taken st → a ≡ stepped 0 0 0 0 0 (ofRows None) (ofState st) → a ≡ ofStep m (steppedAs x)
   unfolding ofAnswer
   taken-as st e q = rw e q
 
-  pub heard-as : (st : State) (n : ℕ) → x ≡ step.Heard st n → a ≡ stepped 0 0 0 0 n (ofState st) → a ≡ ofStep m (steppedAs x)
+  pub heard-as : (st : State) (n : ℕ) → x ≡ step.Heard st n → a ≡ stepped 0 0 0 0 n (ofRows None) (ofState st) → a ≡ ofStep m (steppedAs x)
   unfolding ofAnswer
   heard-as st n e q = rw e q
 
-  pub whole-as : (st : State) (n : ℕ) → x ≡ step.Whole st n → a ≡ stepped 1 0 0 n 0 (ofState st) → a ≡ ofStep m (steppedAs x)
+  pub whole-as : (st : State) (n : ℕ) (t : Touched) → x ≡ step.Whole st n t → a ≡ stepped 1 0 0 n 0 (ofRows t) (ofState st) → a ≡ ofStep m (steppedAs x)
   unfolding ofAnswer
-  whole-as st n e q = rw e q
+  whole-as st n t e q = rw e q
 
-  pub unfinished-as : (st : State) (n : ℕ) → x ≡ step.Unfinished st n → a ≡ stepped 2 0 0 n 0 m → a ≡ ofStep m (steppedAs x)
+  pub unfinished-as : (st : State) (n : ℕ) (t : Touched) → x ≡ step.Unfinished st n t → a ≡ stepped 2 0 0 n 0 (ofRows t) m → a ≡ ofStep m (steppedAs x)
   unfolding ofAnswer
-  unfinished-as st n e q = rw e q
+  unfinished-as st n t e q = rw e q
 
-  pub ended-as : (st : State) → x ≡ step.Ended st → a ≡ stepped 3 0 0 0 0 m → a ≡ ofStep m (steppedAs x)
+  pub ended-as : (st : State) → x ≡ step.Ended st → a ≡ stepped 3 0 0 0 0 (ofRows None) m → a ≡ ofStep m (steppedAs x)
   unfolding ofAnswer
   ended-as st e q = rw e q
 
-  pub step-refused-as : (r : Refusal) → x ≡ step.Refused r → a ≡ stepped 4 (number r) (block r) 0 0 m → a ≡ ofStep m (steppedAs x)
+  pub step-refused-as : (r : Refusal) → x ≡ step.Refused r → a ≡ stepped 4 (number r) (block r) 0 0 (ofRows None) m → a ≡ ofStep m (steppedAs x)
   unfolding ofAnswer
   step-refused-as r e q = rw e q
 
 module _ (o : Opening) (x : Opened) (e : openedAs x ≡ o) (a : MveStep) where
-  pub opened-as : (st : State) → x ≡ opened.First st → a ≡ stepped 0 0 0 0 0 (ofState st) → a ≡ ofOpening o
+  pub opened-as : (st : State) → x ≡ opened.First st → a ≡ stepped 0 0 0 0 0 (ofRows None) (ofState st) → a ≡ ofOpening o
   unfolding ofOpening
   opened-as st k q = rw (← e, k) q
 
-  pub not-opened-as : (r : Refusal) → x ≡ opened.Refused r → a ≡ stepped 4 (number r) (block r) 0 0 (numbers 0 0 0 0 0 0 0 0 0 (sounds 0 0 0 0 0 0 0 0)) → a ≡ ofOpening o
+  pub not-opened-as : (r : Refusal) → x ≡ opened.Refused r → a ≡ stepped 4 (number r) (block r) 0 0 (ofRows None) (numbers 0 0 0 0 0 0 0 0 0 (sounds 0 0 0 0 0 0 0 0)) → a ≡ ofOpening o
   unfolding ofOpening
   not-opened-as r k q = rw (← e, k) q
 

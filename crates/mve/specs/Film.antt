@@ -8,6 +8,8 @@ use Rattle.sound.specs.declared.Format.{Format}
 use Rattle.sound.specs.declared.Format.the-variants.{Unknown, Known}
 use Rattle.sound.specs.declared.Sound.{Sound}
 use Rattle.sound.specs.Format.{firstSound}
+use Rattle.packet.specs.declared.Touched.{Touched}
+use Rattle.packet.specs.declared.Touched.the-variants.{None}
 use Rattle.state.specs.declared.Map.{Map}
 use Rattle.state.specs.declared.Map.the-variants.{Missing, Part}
 use Rattle.state.specs.declared.State.{State}
@@ -16,7 +18,9 @@ use Rattle.opcodes.specs.Opcodes.{Answer, Step, taken, whole, unfinished, ended
 use Rattle.film.specs.Film.{Lent, Outcome}
 use Rattle.mve.specs.declared.MveSound.{MveSound}
 use Rattle.mve.specs.declared.MveState.{MveState}
+use Rattle.mve.specs.declared.MveRows.{MveRows}
 use Rattle.mve.specs.declared.MveStep.{MveStep}
+use Rattle.mve.specs.Answer.{ofRows}
 use Rattle.packet.specs.Verdict.{default, strict}
 
 -- ---- states
@@ -82,24 +86,25 @@ ofState st = withMap st (st .map)
 
 -- ---- answers
 
-abbrev pub stepped : ℕ → ℕ → ℕ → ℕ → ℕ → MveState → MveStep
-stepped kind number block stores bytes state = record { kind = kind; number = number; block = block; stores = stores; bytes = bytes; state = state }
+abbrev pub stepped : ℕ → ℕ → ℕ → ℕ → ℕ → MveRows → MveState → MveStep
+stepped kind number block stores bytes rows state =
+    record { kind = kind; number = number; block = block; stores = stores; bytes = bytes; rows = rows; state = state }
 
 -- kinds: 0 taken, 1 whole, 2 unfinished, 3 ended, 4 refused. Where the state stays, m comes back number by number
-unfoldable pub ofAnswer : MveState → Answer → ℕ → ℕ → MveStep
-ofAnswer m (taken st) stores bytes = stepped 0 0 0 stores bytes (ofState st)
-ofAnswer m (whole st) stores bytes = stepped 1 0 0 stores bytes (ofState st)
-ofAnswer m (unfinished st) stores bytes = stepped 2 0 0 stores bytes m
-ofAnswer m (ended st) stores bytes = stepped 3 0 0 stores bytes m
-ofAnswer m (refused number block) stores bytes = stepped 4 number block stores bytes m
+unfoldable pub ofAnswer : MveState → Answer → ℕ → ℕ → Touched → MveStep
+ofAnswer m (taken st) stores bytes t = stepped 0 0 0 stores bytes (ofRows t) (ofState st)
+ofAnswer m (whole st) stores bytes t = stepped 1 0 0 stores bytes (ofRows t) (ofState st)
+ofAnswer m (unfinished st) stores bytes t = stepped 2 0 0 stores bytes (ofRows t) m
+ofAnswer m (ended st) stores bytes t = stepped 3 0 0 stores bytes (ofRows t) m
+ofAnswer m (refused number block) stores bytes t = stepped 4 number block stores bytes (ofRows t) m
 
 abbrev pub ofStep : MveState → Step → MveStep
-ofStep m x = ofAnswer m (x .answer) (x .stores) (x .bytes)
+ofStep m x = ofAnswer m (x .answer) (x .stores) (x .bytes) (x .rows)
 
 -- kinds: 0 opened, 4 refused, with a state of zeros
 unfoldable pub ofOpening : Opening → MveStep
-ofOpening (started st) = stepped 0 0 0 0 0 (ofState st)
-ofOpening (refuses number block) = stepped 4 number block 0 0 (numbers 0 0 0 0 0 0 0 0 0 (sounds 0 0 0 0 0 0 0 0))
+ofOpening (started st) = stepped 0 0 0 0 0 (ofRows None) (ofState st)
+ofOpening (refuses number block) = stepped 4 number block 0 0 (ofRows None) (numbers 0 0 0 0 0 0 0 0 0 (sounds 0 0 0 0 0 0 0 0))
 
 -- the bytes of a packet that may be left over, by a number that chooses the form: 0 the default, any other the strict one
 unfoldable pub spareOf : ℕ → ℕ

@@ -3,7 +3,8 @@ use draw::Allowed;
 use draw::Drawn;
 use opcodes::Stepped;
 use opening::Opened;
-use packet::Checked;
+use packet::Inspected;
+use packet::Touched;
 use refusal::Refusal;
 use refusal::block_of;
 use refusal::number_of;
@@ -15,68 +16,96 @@ use state::State;
 use words::wide;
 ghost use mathlib.Core.Path.{_≡_};
 ghost use lib.ListN.{length};
-ghost use Rattle.refusal.specs.Number.{refusal, block, number as refusalNumber};
+ghost use Rattle.refusal.specs.Number.{block, number as refusalNumber};
 ghost use Rattle.state.specs.State.{shownOf};
 ghost use Rattle.opening.specs.Opening.{openingOf};
 ghost use Rattle.opcodes.specs.Opcodes.{steppedAs};
 ghost use Rattle.film.specs.Film.{lent, stepOf};
-ghost use Rattle.packet.specs.Verdict.{default, strict, told, verdict};
+ghost use Rattle.packet.specs.declared.Touched.the-variants.{None};
+ghost use Rattle.packet.specs.Packet.{packet};
+ghost use Rattle.packet.specs.Verdict.{default, strict, verdict};
+ghost use Rattle.packet.specs.Rows.{touched, finding, found};
 ghost use Rattle.stores.specs.Stores.{memory};
-ghost use Rattle.stores.specs.Calls.{reply};
-ghost use Rattle.draw.specs.Call.{within, request, calling, pictures, leaves, said};
-ghost use Rattle.mve.specs.Answer.{ofVerdict, ofOutcome};
+ghost use Rattle.draw.specs.Call.{within, request, pictures, leaves, report, said};
+ghost use Rattle.mve.specs.Answer.{answer, ofRows, ofFound, ofReport};
 ghost use Rattle.mve.specs.Film.{spareOf, flagOf, numberOf, soundOf, sounds, ofSound, mapOf, stateOf, numbers, ofState, stepped, ofStep, ofOpening, exported, ofOutcome as ofFilm};
 
-// kind: 0 accepted, 1 whole, 2 unfinished, 4 refused. number and block: of a refusal, else 0. stores: how many were made.
+// The rows of blocks that a packet touches, counted from 0: touched 1 and the first and the last, or three times 0 where there is none.
+#[repr(C)]
+pub struct MveRows {
+    pub touched: usize,
+    pub first: usize,
+    pub last: usize,
+}
+
+// kind: 0 accepted, 1 whole, 2 unfinished, 4 refused. number and block: of a refusal, else 0. stores: how many were made. rows: of the packet, none where it is refused.
 #[repr(C)]
 pub struct MveAnswer {
     pub kind: usize,
     pub number: usize,
     pub block: usize,
     pub stores: usize,
+    pub rows: MveRows,
+}
+
+fn of_rows(t: Touched) -> MveRows
+    ensures { λ r. ⌜ r ≡ ofRows t ⌝ }
+{
+    match t {
+        Touched::None => MveRows {
+            touched: 0,
+            first: 0,
+            last: 0,
+        },
+        Touched::Rows(first, last) => MveRows {
+            touched: 1,
+            first,
+            last,
+        },
+    }
 }
 
 fn refused(r: Refusal) -> MveAnswer
-    ensures { λ a. ⌜ a ≡ ofVerdict (refusal r) ⌝ }
+    ensures { λ a. ⌜ a ≡ answer 4 (refusalNumber r) (block r) 0 (ofRows None) ⌝ }
 {
+    let rows = of_rows(Touched::None);
     MveAnswer {
         kind: 4,
         number: wide(number_of(r)),
         block: block_of(r),
         stores: 0,
+        rows,
     }
 }
 
-fn of_check(c: Checked) -> MveAnswer
-    ensures { λ r. ⌜ r ≡ ofVerdict (told c) ⌝ }
+fn answered(kind: usize, stores: usize, t: Touched) -> MveAnswer
+    ensures { λ a. ⌜ a ≡ answer kind 0 0 stores (ofRows t) ⌝ }
 {
-    match c {
-        Checked::Accepted => MveAnswer {
-            kind: 0,
-            number: 0,
-            block: 0,
-            stores: 0,
-        },
-        Checked::Refused(r) => refused(r),
+    let rows = of_rows(t);
+    MveAnswer {
+        kind,
+        number: 0,
+        block: 0,
+        stores,
+        rows,
+    }
+}
+
+fn of_check(i: Inspected) -> MveAnswer
+    ensures { λ r. ⌜ r ≡ ofFound (found i) ⌝ }
+{
+    match i {
+        Inspected::Accepted(t) => answered(0, 0, t),
+        Inspected::Refused(r) => refused(r),
     }
 }
 
 fn of_draw(d: Drawn) -> MveAnswer
-    ensures { λ r. ⌜ r ≡ ofOutcome (said d) ⌝ }
+    ensures { λ r. ⌜ r ≡ ofReport (said d) ⌝ }
 {
     match d {
-        Drawn::Whole(n) => MveAnswer {
-            kind: 1,
-            number: 0,
-            block: 0,
-            stores: n,
-        },
-        Drawn::Unfinished(n) => MveAnswer {
-            kind: 2,
-            number: 0,
-            block: 0,
-            stores: n,
-        },
+        Drawn::Whole(n, t) => answered(1, n, t),
+        Drawn::Unfinished(n, t) => answered(2, n, t),
         Drawn::Refused(r) => refused(r),
     }
 }
@@ -84,7 +113,7 @@ fn of_draw(d: Drawn) -> MveAnswer
 // Whether a packet is accepted for a picture of columns by rows blocks.
 #[no_mangle]
 pub extern "C" fn mve_check(columns: usize, rows: usize, map: &[u8], data: &[u8]) -> MveAnswer
-    ensures { λ r. ⌜ r ≡ ofVerdict (verdict default columns rows (now (map .entry)) (now («data» .entry))) ⌝ }
+    ensures { λ r. ⌜ r ≡ ofFound (finding (verdict default columns rows (now (map .entry)) (now («data» .entry))) (touched (packet columns rows (now (map .entry)) (now («data» .entry))))) ⌝ }
 {
     of_check(packet::check(columns, rows, map, data))
 }
@@ -97,7 +126,7 @@ pub extern "C" fn mve_check_strict(
     map: &[u8],
     data: &[u8],
 ) -> MveAnswer
-    ensures { λ r. ⌜ r ≡ ofVerdict (verdict strict columns rows (now (map .entry)) (now («data» .entry))) ⌝ }
+    ensures { λ r. ⌜ r ≡ ofFound (finding (verdict strict columns rows (now (map .entry)) (now («data» .entry))) (touched (packet columns rows (now (map .entry)) (now («data» .entry))))) ⌝ }
 {
     of_check(packet::check_strict(columns, rows, map, data))
 }
@@ -115,7 +144,7 @@ pub extern "C" fn mve_draw(
     allowed: usize,
 ) -> MveAnswer
     ensures { λ r. ⌜ pictures (now (front .exit)) (memory (now (back .exit)) (now (place .exit))) ≡ leaves (request columns rows (now (map .entry)) (now («data» .entry)) (now (front .entry)) (within allowed default)) (memory (now (back .entry)) (now (place .entry))) ⌝ }
-    ensures { λ r. ⌜ r ≡ ofOutcome (reply calling (memory (now (back .entry)) (now (place .entry))) (request columns rows (now (map .entry)) (now («data» .entry)) (now (front .entry)) (within allowed default))) ⌝ }
+    ensures { λ r. ⌜ r ≡ ofReport (report (memory (now (back .entry)) (now (place .entry))) (request columns rows (now (map .entry)) (now («data» .entry)) (now (front .entry)) (within allowed default))) ⌝ }
 {
     let d = draw::draw(columns, rows, map, data, front, back, place, allowed);
     of_draw(d)
@@ -134,7 +163,7 @@ pub extern "C" fn mve_draw_strict(
     allowed: usize,
 ) -> MveAnswer
     ensures { λ r. ⌜ pictures (now (front .exit)) (memory (now (back .exit)) (now (place .exit))) ≡ leaves (request columns rows (now (map .entry)) (now («data» .entry)) (now (front .entry)) (within allowed strict)) (memory (now (back .entry)) (now (place .entry))) ⌝ }
-    ensures { λ r. ⌜ r ≡ ofOutcome (reply calling (memory (now (back .entry)) (now (place .entry))) (request columns rows (now (map .entry)) (now («data» .entry)) (now (front .entry)) (within allowed strict))) ⌝ }
+    ensures { λ r. ⌜ r ≡ ofReport (report (memory (now (back .entry)) (now (place .entry))) (request columns rows (now (map .entry)) (now («data» .entry)) (now (front .entry)) (within allowed strict))) ⌝ }
 {
     let d = draw::draw_strict(columns, rows, map, data, front, back, place, allowed);
     of_draw(d)
@@ -170,7 +199,7 @@ pub struct MveState {
 }
 
 // kind: 0 taken, 1 whole, 2 unfinished, 3 ended, 4 refused. number and block: of a refusal, else 0. stores: how many drawing made. bytes: how many of sound
-// were written at the room's front.
+// were written at the room's front. rows: of a packet that was drawn.
 #[repr(C)]
 pub struct MveStep {
     pub kind: usize,
@@ -178,6 +207,7 @@ pub struct MveStep {
     pub block: usize,
     pub stores: usize,
     pub bytes: usize,
+    pub rows: MveRows,
     pub state: MveState,
 }
 
@@ -321,9 +351,10 @@ fn of_state(st: State) -> MveState
     }
 }
 
-fn stepped_with(kind: usize, stores: usize, bytes: usize, st: State) -> MveStep
-    ensures { λ r. ⌜ r ≡ stepped kind 0 0 stores bytes (ofState st) ⌝ }
+fn stepped_with(kind: usize, stores: usize, bytes: usize, t: Touched, st: State) -> MveStep
+    ensures { λ r. ⌜ r ≡ stepped kind 0 0 stores bytes (ofRows t) (ofState st) ⌝ }
 {
+    let rows = of_rows(t);
     let state = of_state(st);
     MveStep {
         kind,
@@ -331,33 +362,38 @@ fn stepped_with(kind: usize, stores: usize, bytes: usize, st: State) -> MveStep
         block: 0,
         stores,
         bytes,
+        rows,
         state,
     }
 }
 
 // The answer of a step that leaves the state as it came.
-fn kept_with(kind: usize, stores: usize, state: MveState) -> MveStep
-    ensures { λ r. ⌜ r ≡ stepped kind 0 0 stores 0 state ⌝ }
+fn kept_with(kind: usize, stores: usize, t: Touched, state: MveState) -> MveStep
+    ensures { λ r. ⌜ r ≡ stepped kind 0 0 stores 0 (ofRows t) state ⌝ }
 {
+    let rows = of_rows(t);
     MveStep {
         kind,
         number: 0,
         block: 0,
         stores,
         bytes: 0,
+        rows,
         state,
     }
 }
 
 fn refused_with(r: Refusal, state: MveState) -> MveStep
-    ensures { λ a. ⌜ a ≡ stepped 4 (refusalNumber r) (block r) 0 0 state ⌝ }
+    ensures { λ a. ⌜ a ≡ stepped 4 (refusalNumber r) (block r) 0 0 (ofRows None) state ⌝ }
 {
+    let rows = of_rows(Touched::None);
     MveStep {
         kind: 4,
         number: wide(number_of(r)),
         block: block_of(r),
         stores: 0,
         bytes: 0,
+        rows,
         state,
     }
 }
@@ -366,11 +402,11 @@ fn of_step(m: MveState, x: Stepped) -> MveStep
     ensures { λ r. ⌜ r ≡ ofStep m (steppedAs x) ⌝ }
 {
     match x {
-        Stepped::Taken(st) => stepped_with(0, 0, 0, st),
-        Stepped::Heard(st, n) => stepped_with(0, 0, n, st),
-        Stepped::Whole(st, n) => stepped_with(1, n, 0, st),
-        Stepped::Unfinished(_, n) => kept_with(2, n, m),
-        Stepped::Ended(_) => kept_with(3, 0, m),
+        Stepped::Taken(st) => stepped_with(0, 0, 0, Touched::None, st),
+        Stepped::Heard(st, n) => stepped_with(0, 0, n, Touched::None, st),
+        Stepped::Whole(st, n, t) => stepped_with(1, n, 0, t, st),
+        Stepped::Unfinished(_, n, t) => kept_with(2, n, t, m),
+        Stepped::Ended(_) => kept_with(3, 0, Touched::None, m),
         Stepped::Refused(r) => refused_with(r, m),
     }
 }
@@ -381,7 +417,7 @@ pub extern "C" fn mve_open(film: &[u8], stream: usize) -> MveStep
     ensures { λ r. ⌜ r ≡ ofOpening (openingOf (now (film .entry)) stream) ⌝ }
 {
     match opening::open(film, stream) {
-        Opened::First(st) => stepped_with(0, 0, 0, st),
+        Opened::First(st) => stepped_with(0, 0, 0, Touched::None, st),
         Opened::Refused(r) => refused_with(
             r,
             MveState {

@@ -85,11 +85,11 @@ fn walk(film: &[u8], first: State) {
             Stepped::Heard(next, _) => {
                 st = next;
             }
-            Stepped::Whole(next, _) => {
+            Stepped::Whole(next, _, _) => {
                 line(film, p);
                 st = next;
             }
-            Stepped::Unfinished(next, _) => {
+            Stepped::Unfinished(next, _, _) => {
                 st = next;
             }
             Stepped::Ended(_) => {

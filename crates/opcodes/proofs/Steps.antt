@@ -8,6 +8,7 @@ use borrow.Author.Tests.{eq-eqb, ne-eqb}
 use Rattle.words.specs.Word.{wordAt}
 use Rattle.refusal.specs.declared.Refusal.{Refusal}
 use Rattle.refusal.specs.Number.{number, block}
+use Rattle.packet.specs.declared.Touched.{Touched}
 use Rattle.packet.specs.Verdict.{legalSize}
 use Rattle.draw.specs.declared.Drawn.{Drawn}
 use Rattle.draw.specs.declared.Drawn.the-variants.{Whole, Unfinished, Refused}
@@ -72,13 +73,13 @@ module _ (film : ℕ) (st : State) (kind version : ℕ) (body : List ℕ) (p : �
 -- ---- 11
 
 module _ (st : State) (p : ℕ) (d : Drawn) where
-  pub step-whole : (n : ℕ) (x : State) → d ≡ Whole n → x ≡ finished st p → drew (whole x) n ≡ drawnStep st p (said d)
+  pub step-whole : (n : ℕ) (t : Touched) (x : State) → d ≡ Whole n t → x ≡ finished st p → drew (whole x) n t ≡ drawnStep st p (said d)
   unfolding drawnAs
-  step-whole n x e f = rw (e, f)
+  step-whole n t x e f = rw (e, f)
 
-  pub step-part : (n : ℕ) → d ≡ Unfinished n → drew (unfinished st) n ≡ drawnStep st p (said d)
+  pub step-part : (n : ℕ) (t : Touched) → d ≡ Unfinished n t → drew (unfinished st) n t ≡ drawnStep st p (said d)
   unfolding drawnAs
-  step-part n e = rw e
+  step-part n t e = rw e
 
   pub step-refused : (r : Refusal) → d ≡ Refused r → quiet (refused (number r) (block r)) ≡ drawnStep st p (said d)
   unfolding drawnAs

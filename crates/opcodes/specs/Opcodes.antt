@@ -6,9 +6,11 @@ use Prim.Native.Nat.{ℕ}
 use lib.Dec.{eqb}
 use Rattle.words.specs.Word.{wordAt}
 use Rattle.refusal.specs.Number.{Verdict, accept, refuse, number, block}
+use Rattle.packet.specs.declared.Touched.{Touched}
+use Rattle.packet.specs.declared.Touched.the-variants.{None}
 use Rattle.packet.specs.Verdict.{legalSize}
 use Rattle.stores.specs.Calls as drawing
-use Rattle.draw.specs.Call.{Reason}
+use Rattle.draw.specs.Call.{Reason, Report}
 use Rattle.sound.specs.Sound as sound
 use Rattle.state.specs.declared.State.{State}
 use Rattle.state.specs.Moves.{behind, atEnd, sized, sent, heard, finished}
@@ -23,28 +25,29 @@ pub data Answer : Type 0 where
   taken whole unfinished ended : State → Answer
   refused : ℕ → ℕ → Answer
 
--- an answer, how many stores the drawing made, and how many bytes of sound were written
+-- an answer, how many stores the drawing made, how many bytes of sound were written, and the rows of blocks that the drawn packet touches
 pub record Step : Type 0 where
   pub answer : Answer
   pub stores : ℕ
   pub bytes : ℕ
+  pub rows : Touched
 
-abbrev pub drew : Answer → ℕ → Step
-drew x n = record { answer = x; stores = n; bytes = 0 }
+abbrev pub drew : Answer → ℕ → Touched → Step
+drew x n t = record { answer = x; stores = n; bytes = 0; rows = t }
 
--- a step that does not draw reports 0 stores, and one that is no sound 0 bytes
+-- a step that does not draw reports 0 stores and no rows, and one that is no sound 0 bytes
 abbrev pub quiet : Answer → Step
-quiet x = drew x 0
+quiet x = drew x 0 None
 
 abbrev pub wrote : Answer → ℕ → Step
-wrote x n = record { answer = x; stores = 0; bytes = n }
+wrote x n = record { answer = x; stores = 0; bytes = n; rows = None }
 
 -- document 01's values of each answer
 abbrev pub steppedAs : Stepped → Step
 steppedAs (Taken st) = quiet (taken st)
 steppedAs (Heard st n) = wrote (taken st) n
-steppedAs (Whole st n) = drew (whole st) n
-steppedAs (Unfinished st n) = drew (unfinished st) n
+steppedAs (Whole st n t) = drew (whole st) n t
+steppedAs (Unfinished st n t) = drew (unfinished st) n t
 steppedAs (Ended st) = quiet (ended st)
 steppedAs (Refused r) = quiet (refused (number r) (block r))
 
@@ -77,10 +80,10 @@ paletteAnswer st p accept = taken (behind st p)
 paletteAnswer st p (refuse n k) = refused n k
 
 -- 11: "whole" uses the map up and marks the frame finished; "unfinished" keeps the state; a refused drawing makes no store
-unfoldable pub drawnAs : State → ℕ → drawing.Answer Reason → ℕ → Step
-drawnAs st p drawing.whole n = drew (whole (finished st p)) n
-drawnAs st p drawing.unfinished n = drew (unfinished st) n
-drawnAs st p (drawing.refusal r) n = quiet (refused (r .number) (r .block))
+unfoldable pub drawnAs : State → ℕ → drawing.Answer Reason → ℕ → Touched → Step
+drawnAs st p drawing.whole n t = drew (whole (finished st p)) n t
+drawnAs st p drawing.unfinished n t = drew (unfinished st) n t
+drawnAs st p (drawing.refusal r) n t = quiet (refused (r .number) (r .block))
 
-abbrev pub drawnStep : State → ℕ → drawing.Outcome Reason → Step
-drawnStep st p o = drawnAs st p (o .answer) (o .count)
+abbrev pub drawnStep : State → ℕ → Report → Step
+drawnStep st p o = drawnAs st p (o .outcome .answer) (o .outcome .count) (o .rows)

@@ -1,5 +1,6 @@
 // What each opcode that is taken does to the state.
 use draw::Drawn;
+use packet::Touched;
 use packet::is_legal_size;
 use refusal::Refusal;
 use sound::Heard;
@@ -10,12 +11,12 @@ ghost use Rattle.draw.specs.Call.{said};
 ghost use Rattle.sound.specs.Sound.{heardAs};
 ghost use Rattle.opcodes.specs.Opcodes.{quiet, steppedAs, sizeAnswer, colourOf, quietAnswer, heardStep, drawnStep};
 
-// What a step answers, with the state that it gives back, the bytes of sound that it wrote or the stores that drawing made.
+// What a step answers, with the state that it gives back, the bytes of sound that it wrote, or the stores that drawing made and the rows of blocks that its packet touches.
 pub enum Stepped {
     Taken(State),
     Heard(State, usize),
-    Whole(State, usize),
-    Unfinished(State, usize),
+    Whole(State, usize, Touched),
+    Unfinished(State, usize, Touched),
     Ended(State),
     Refused(Refusal),
 }
@@ -74,8 +75,8 @@ pub fn drawn_step(st: State, p: usize, d: Drawn) -> Stepped
     ensures { λ r. ⌜ steppedAs r ≡ drawnStep st p (said d) ⌝ }
 {
     match d {
-        Drawn::Whole(n) => Stepped::Whole(st.finished(p), n),
-        Drawn::Unfinished(n) => Stepped::Unfinished(st, n),
+        Drawn::Whole(n, t) => Stepped::Whole(st.finished(p), n, t),
+        Drawn::Unfinished(n, t) => Stepped::Unfinished(st, n, t),
         Drawn::Refused(r) => Stepped::Refused(r),
     }
 }

@@ -5,3 +5,4 @@ pub mod Exactly
 pub mod Apart
 pub mod Agree
 pub mod Forms
+pub mod Strip

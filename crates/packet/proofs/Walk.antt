@@ -6,14 +6,14 @@ use mathlib.Core.List.{List}
 use Prim.Native.Nat.{ℕ, zero, suc, _+_, _-_, _*_, _/_, _%_, _≤_, _<_, zero-le}
 use native.Mathlib.Omega.{arith}
 use native.Mathlib.Numerals.{add-one}
-use native.Mathlib.Nat.{zero-mod, zero-div, mul-le-mul}
+use native.Mathlib.Nat.{mul-le-mul}
 use borrow.Author.Tests.{lt-ltb, le-ltb, lt-leb, le-leb}
 use lib.Dec.{eqb}
 use lib.ListN.{length, take, drop, getD, length-drop}
 use lib.Seq.{take-all}
 use Rattle.refusal.specs.Number.{Verdict, accept, refuse}
 use Rattle.block.specs.Block.{Kind, codeAt, kindOf, dataLength, isRefused, copyInside}
-use Rattle.block.proofs.Codes.{length-few, code-known, code-refused}
+use Rattle.block.proofs.Codes.{length-few, code-known, code-refused, kind-1}
 use Rattle.packet.specs.Packet.{Packet, blocks, width, height, left, top, code, startOf, start, dataOf, kind}
 use Rattle.packet.specs.Verdict.{andThen, blockVerdict, endVerdict, verdictFrom, blocksVerdict}
 use Rattle.packet.specs.Asked.{Sized}
@@ -46,35 +46,75 @@ pub record Seen (p : Packet) (k at c l : ℕ) (s : List ℕ) : Type 0 where
   pub part : s ≡ take (length (p .bytes) - at) (drop at (p .bytes))
   pub long : l ≡ dataLength (kindOf c s)
 
-pub walked-start : (spare : ℕ) (p : Packet) → Walked spare p 0 0 0 0
+-- x may be written otherwise: code keeps the distance from the right edge
+pub moved : (spare : ℕ) (p : Packet) (k at x x′ y : ℕ) → x ≡ x′ → Walked spare p k at x y → Walked spare p k at x′ y
+moved spare p k at x x′ y e w = subst (λ (z : ℕ). Walked spare p k at z y) e w
+
+-- ---- blocks of code 1: they are taken, and have no data
+
+kept-taken : (p : Packet) (k : ℕ) → code p k ≡ 1 → blockVerdict p k ≡ accept
+unfolding blockVerdict isRefused dataLength copyInside
+kept-taken p k e = rw (kind-1 (dataOf p k) (code p k) e, le-ltb (length (dataOf p k)) 0 zero-le)
+
+kept-start : (p : Packet) (k : ℕ) → code p k ≡ 1 → start p (suc k) ≡ start p k
+unfolding startOf dataLength
+kept-start p k e = rw (kind-1 (drop (start p k) (p .bytes)) (code p k) e) (omega arith)
+
+kept-passed : (spare : ℕ) (p : Packet) (n k : ℕ) → code p k ≡ 1 → verdictFrom spare p (suc n) k ≡ verdictFrom spare p n (suc k)
+unfolding verdictFrom andThen
+kept-passed spare p n k e = rw (kept-taken p k e)
+
+kept-end : (spare : ℕ) (p : Packet) (k : ℕ) → code p k ≡ 1 → endVerdict spare p (suc k) ≡ endVerdict spare p k
+unfolding endVerdict
+kept-end spare p k e = rw (kept-start p k e)
+
+-- behind k of them
+pub walked-ones : (spare : ℕ) (p : Packet) (k : ℕ) → k ≤ blocks p → ((i : ℕ) → i < k → code p i ≡ 1) → Walked spare p k 0 (left p k) (top p k)
 unfolding startOf blocksVerdict
-walked-start spare p =
+walked-ones spare p zero h ones =
     let e : blocks p - 0 ≡ blocks p = omega arith in
     record {
       below = zero-le;
       found = refl;
       within = zero-le;
-      across = rw zero-mod;
-      down = rw zero-div;
+      across = refl;
+      down = refl;
       verdict = rw e;
     }
+walked-ones spare p (suc k) h ones =
+    let w = walked-ones spare p k (omega arith) (λ i l. ones i (omega arith)) in
+    let e = ones k (omega arith) in
+    let q : suc (blocks p - suc k) ≡ blocks p - k = omega arith in
+    record {
+      below = h;
+      found = w .found ∙ sym (kept-start p k e);
+      within = zero-le;
+      across = refl;
+      down = refl;
+      verdict = sym (kept-passed spare p (blocks p - suc k) k e) ∙ ap (λ (m : ℕ). verdictFrom spare p m k) q ∙ w .verdict;
+    }
 
--- the last of them: what is left over
-pub walked-end : (spare : ℕ) (p : Packet) (k at x y : ℕ) → Walked spare p k at x y → blocks p ≤ k → blocksVerdict spare p ≡ endVerdict spare p k
+-- n of them, from block k on, and then what is left over
+ones-end : (spare : ℕ) (p : Packet) (n k : ℕ) → ((i : ℕ) → k ≤ i → i < k + n → code p i ≡ 1) → verdictFrom spare p n k ≡ endVerdict spare p k
 unfolding verdictFrom
-walked-end spare p k at x y w h = let e : blocks p - k ≡ 0 = omega (arith, w .below) in sym (w .verdict) ∙ rw e
+ones-end spare p zero k ones = refl
+ones-end spare p (suc n) k ones =
+    let e = ones k (omega arith) (omega arith) in
+    kept-passed spare p n k e ∙ ones-end spare p n (suc k) (λ i l h. ones i (omega arith) (omega arith)) ∙ kept-end spare p k e
 
-pub used-up : (spare : ℕ) (p : Packet) (k at x y : ℕ) → Walked spare p k at x y → blocks p ≤ k → length (p .bytes) - at ≤ spare → accept ≡ blocksVerdict spare p
-unfolding endVerdict
-used-up spare p k at x y w h e =
-    let q : length (p .bytes) ≤ start p k + spare = omega (arith, w .found, w .within) in
-    rw (walked-end spare p k at x y w h, le-leb _ _ q)
+-- ---- the last block that is not code 1 is passed: what is left over
 
-pub left-over : (spare : ℕ) (p : Packet) (k at x y : ℕ) → Walked spare p k at x y → blocks p ≤ k → spare < length (p .bytes) - at → refuse 15 0 ≡ blocksVerdict spare p
-unfolding endVerdict
-left-over spare p k at x y w h n =
-    let q : start p k + spare < length (p .bytes) = omega (arith, w .found) in
-    rw (walked-end spare p k at x y w h, lt-leb _ _ q)
+module _ (spare : ℕ) (p : Packet) (k at x y : ℕ) (w : Walked spare p k at x y) (ones : (i : ℕ) → k ≤ i → i < blocks p → code p i ≡ 1) where
+  walked-end : blocksVerdict spare p ≡ endVerdict spare p k
+  walked-end = sym (w .verdict) ∙ ones-end spare p (blocks p - k) k (λ i l h. ones i l (omega (arith, w .below)))
+
+  pub used-up : length (p .bytes) - at ≤ spare → accept ≡ blocksVerdict spare p
+  unfolding endVerdict
+  used-up e = let q : length (p .bytes) ≤ start p k + spare = omega (arith, w .found, w .within) in rw (walked-end, le-leb _ _ q)
+
+  pub left-over : spare < length (p .bytes) - at → refuse 15 0 ≡ blocksVerdict spare p
+  unfolding endVerdict
+  left-over n = let q : start p k + spare < length (p .bytes) = omega (arith, w .found) in rw (walked-end, lt-leb _ _ q)
 
 -- what the map and the corner ask where they are read
 pub mapped : (p : Packet) (k : ℕ) → Sized p → k < blocks p → k / 2 < length (p .map)

@@ -3,3 +3,4 @@ pub mod Verdict
 pub mod Accepted
 pub mod Asked
 pub mod Forms
+pub mod Rows

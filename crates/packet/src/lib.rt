@@ -8,12 +8,25 @@ ghost use mathlib.Core.Path.{_≡_};
 ghost use Prim.Native.Nat.{_*_, _≤_};
 ghost use lib.ListN.{length};
 ghost use Rattle.packet.specs.Packet.{packet, startOf};
-ghost use Rattle.packet.specs.Verdict.{told, legal, legalSize, default, strict, blocksVerdict, verdict};
+ghost use Rattle.packet.specs.Verdict.{legal, legalSize, default, strict, blocksVerdict, verdict};
+ghost use Rattle.packet.specs.Rows.{firstFrom, pastTouched, rowsFrom, touched, finding, found};
 ghost use Rattle.packet.specs.Asked.{Sized};
 
-// What the check of a packet finds.
+// What a test finds.
 pub enum Checked {
     Accepted,
+    Refused(Refusal),
+}
+
+// The rows of blocks that a packet touches, counted from 0: the first and the last that hold a block other than code 1.
+pub enum Touched {
+    None,
+    Rows(usize, usize),
+}
+
+// What the check of a packet finds.
+pub enum Inspected {
+    Accepted(Touched),
     Refused(Refusal),
 }
 
@@ -51,70 +64,113 @@ pub fn data_position(map: &[u8], data: &[u8], k: usize) -> usize
     at
 }
 
-// The blocks of a packet in order, and then what they leave over: at most spare bytes.
-pub fn check_blocks(spare: usize, columns: usize, rows: usize, map: &[u8], data: &[u8]) -> Checked
-    requires { ⌜ Sized (packet columns rows (now map) (now «data»)) ⌝ }
-    ensures { λ r. ⌜ told r ≡ blocksVerdict spare (packet columns rows (now (map .entry)) (now («data» .entry))) ⌝ }
+// The first of n blocks that is touched; n where none is.
+fn first_touched(map: &[u8], n: usize) -> usize
+    requires { ⌜ n ≤ 2 * length (now map) ⌝ }
+    ensures { λ r. ⌜ r ≡ firstFrom (now (map .entry)) n 0 ⌝ }
 {
-    let n = columns * rows;
+    let mut k = 0;
+    while k < n {
+        if code_at(map, k) != 1 {
+            return k;
+        }
+        k += 1;
+    }
+    k
+}
+
+// The end of the last of n blocks that is touched; 0 where none is.
+fn past_touched(map: &[u8], n: usize) -> usize
+    requires { ⌜ n ≤ 2 * length (now map) ⌝ }
+    ensures { λ r. ⌜ r ≡ pastTouched (now (map .entry)) n ⌝ }
+{
+    let mut k = n;
+    while 0 < k {
+        if code_at(map, k - 1) != 1 {
+            return k;
+        }
+        k -= 1;
+    }
+    k
+}
+
+// The rows of the first touched block and of the last, which ends at past.
+fn rows_from(columns: usize, first: usize, past: usize) -> Touched
+    requires { ⌜ 1 ≤ columns ⌝ }
+    ensures { λ r. ⌜ r ≡ rowsFrom columns first past ⌝ }
+{
+    if past == 0 {
+        return Touched::None;
+    }
+    Touched::Rows(first / columns, (past - 1) / columns)
+}
+
+// The blocks of a packet in order, and then what they leave over: at most spare bytes. Those before the first touched block and behind the last are code 1: they have no data and are never refused.
+pub fn check_blocks(spare: usize, columns: usize, rows: usize, map: &[u8], data: &[u8]) -> Inspected
+    requires { ⌜ Sized (packet columns rows (now map) (now «data»)) ⌝ }
+    ensures { λ r. ⌜ found r ≡ finding (blocksVerdict spare (packet columns rows (now (map .entry)) (now («data» .entry)))) (touched (packet columns rows (now (map .entry)) (now («data» .entry)))) ⌝ }
+{
     let w = 8 * columns;
     let h = 8 * rows;
-    let mut k = 0;
+    let first = first_touched(map, columns * rows);
+    let past = past_touched(map, columns * rows);
+    let mut k = first;
     let mut at = 0;
-    let mut x = 0;
-    let mut y = 0;
-    while k < n {
+    // From the block's left edge to the picture's right edge: fewer instructions a block than its distance from the left.
+    let mut right = w - 8 * (first % columns);
+    let mut y = 8 * (first / columns);
+    while k < past {
         let code = code_at(map, k);
         if code == 6 {
-            return Checked::Refused(Refusal::Code(k));
+            return Inspected::Refused(Refusal::Code(k));
         }
         let s = &data[at..];
         let length = data_length(code, s);
         if s.len() < length {
-            return Checked::Refused(Refusal::DataShort(k));
+            return Inspected::Refused(Refusal::DataShort(k));
         }
-        if copy_inside(code, s, w, h, x, y) {
+        if copy_inside(code, s, w, h, w - right, y) {
             k += 1;
             at += length;
-            x += 8;
-            if x == w {
-                x = 0;
+            right -= 8;
+            if right == 0 {
+                right = w;
                 y += 8;
             }
         } else {
-            return Checked::Refused(Refusal::CopyOutside(k));
+            return Inspected::Refused(Refusal::CopyOutside(k));
         }
     }
     let over = data.len() - at;
     if over <= spare {
-        return Checked::Accepted;
+        return Inspected::Accepted(rows_from(columns, first, past));
     }
-    Checked::Refused(Refusal::LeftOver)
+    Inspected::Refused(Refusal::LeftOver)
 }
 
 // Whether the rules accept a packet for a picture of columns by rows blocks, where so many bytes may be left over, and if not, why.
-fn check_leaving(spare: usize, columns: usize, rows: usize, map: &[u8], data: &[u8]) -> Checked
-    ensures { λ r. ⌜ told r ≡ verdict spare columns rows (now (map .entry)) (now («data» .entry)) ⌝ }
+fn check_leaving(spare: usize, columns: usize, rows: usize, map: &[u8], data: &[u8]) -> Inspected
+    ensures { λ r. ⌜ found r ≡ finding (verdict spare columns rows (now (map .entry)) (now («data» .entry))) (touched (packet columns rows (now (map .entry)) (now («data» .entry)))) ⌝ }
 {
     if is_legal_size(columns, rows) {
         if map.len() == (columns * rows + 1) / 2 {
             return check_blocks(spare, columns, rows, map, data);
         }
-        return Checked::Refused(Refusal::MapLength);
+        return Inspected::Refused(Refusal::MapLength);
     }
-    Checked::Refused(Refusal::Size)
+    Inspected::Refused(Refusal::Size)
 }
 
 // The check: one byte may be left over.
-pub fn check(columns: usize, rows: usize, map: &[u8], data: &[u8]) -> Checked
-    ensures { λ r. ⌜ told r ≡ verdict default columns rows (now (map .entry)) (now («data» .entry)) ⌝ }
+pub fn check(columns: usize, rows: usize, map: &[u8], data: &[u8]) -> Inspected
+    ensures { λ r. ⌜ found r ≡ finding (verdict default columns rows (now (map .entry)) (now («data» .entry))) (touched (packet columns rows (now (map .entry)) (now («data» .entry)))) ⌝ }
 {
     check_leaving(1, columns, rows, map, data)
 }
 
 // The strict check: no byte may be left over.
-pub fn check_strict(columns: usize, rows: usize, map: &[u8], data: &[u8]) -> Checked
-    ensures { λ r. ⌜ told r ≡ verdict strict columns rows (now (map .entry)) (now («data» .entry)) ⌝ }
+pub fn check_strict(columns: usize, rows: usize, map: &[u8], data: &[u8]) -> Inspected
+    ensures { λ r. ⌜ found r ≡ finding (verdict strict columns rows (now (map .entry)) (now («data» .entry))) (touched (packet columns rows (now (map .entry)) (now («data» .entry)))) ⌝ }
 {
     check_leaving(0, columns, rows, map, data)
 }

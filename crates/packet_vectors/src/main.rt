@@ -1,18 +1,18 @@
 // Checks the packets on standard input and writes a line for each: `accepted`, or `refused`, the number and the block.
 ghost use Prim.Native.Nat.{_<_};
 // A case is four words, columns, rows, map length and data length, and then the map and the data.
-use packet::Checked;
+use packet::Inspected;
 
 fn number(n: usize) {
     io::print_decimal(1, n as u64);
 }
 
-fn answer(c: Checked) {
+fn answer(c: Inspected) {
     match c {
-        Checked::Accepted => {
+        Inspected::Accepted(_) => {
             io::write_all(1, b"accepted\n");
         }
-        Checked::Refused(r) => {
+        Inspected::Refused(r) => {
             io::write_all(1, b"refused ");
             number(words::wide(refusal::number_of(r)));
             io::write_all(1, b" ");

@@ -9,10 +9,11 @@ use lib.Dec.{eqb}
 use lib.ListN.{length, drop}
 use lib.Seq.{drop-at}
 use Rattle.room.specs.Room.{written}
+use Rattle.packet.specs.declared.Touched.{Touched}
 use Rattle.stores.specs.Stores.{memory}
 use Rattle.stores.specs.Calls as drawing
 use Rattle.draw.specs.declared.Allowed.{Allowed}
-use Rattle.draw.specs.Call.{Reason, request, calling}
+use Rattle.draw.specs.Call.{Reason, request, report}
 use Rattle.words.specs.Word.{wordAt}
 use Rattle.sound.specs.declared.Sound.{Sound}
 use Rattle.sound.specs.Format.{chosen, formatOf, possibleFormat, afresh}
@@ -40,18 +41,18 @@ silent l e f = record { room = e; bytes = f }
 
 -- ---- drawing
 
-drawn-silent : (st : State) (p : ℕ) (x : drawing.Answer Reason) (n : ℕ) → drawnAs st p x n .bytes ≡ 0
+drawn-silent : (st : State) (p : ℕ) (x : drawing.Answer Reason) (n : ℕ) (t : Touched) → drawnAs st p x n t .bytes ≡ 0
 unfolding drawnAs
-drawn-silent st p drawing.whole n = refl
-drawn-silent st p drawing.unfinished n = refl
-drawn-silent st p (drawing.refusal r) n = refl
+drawn-silent st p drawing.whole n t = refl
+drawn-silent st p drawing.unfinished n t = refl
+drawn-silent st p (drawing.refusal r) n t = refl
 
 module _ (film : List ℕ) (st : State) (allowed : Allowed) (l : Lent) where
   second-silent : (p : ℕ) (map packet : List ℕ) (m : Lent) → m .room ≡ l .room → RoomKept l (drawSecond st p map packet allowed m)
   unfolding called
   second-silent p map packet m e =
-      let r = drawing.reply calling (memory (m .second) (m .place)) (request (st .columns) (st .rows) map packet (m .first) allowed) in
-      silent l e (drawn-silent st p (r .answer) (r .count))
+      let r = report (memory (m .second) (m .place)) (request (st .columns) (st .rows) map packet (m .first) allowed) in
+      silent l e (drawn-silent st p (r .outcome .answer) (r .outcome .count) (r .rows))
 
   on-silent : (p : ℕ) (map packet : List ℕ) → RoomKept l (drawOn st p map packet allowed l)
   unfolding drawOn

@@ -8,13 +8,14 @@ use Prim.Native.Nat.{ℕ, _+_}
 use lib.Dec.{eqb}
 use lib.ListN.{length, take, drop}
 use Rattle.refusal.specs.Number.{Verdict, refuse}
+use Rattle.packet.specs.declared.Touched.the-variants.{None}
 use Rattle.packet.specs.Packet.{pixels}
 use Rattle.packet.specs.Verdict.{legalSize}
 use Rattle.stores.specs.Stores.{Memory, memory}
-use Rattle.stores.specs.Calls.{refusal, returns, cut, callOf, leave, leaveCut, outcome, happens, step, reply}
+use Rattle.stores.specs.Calls.{refusal, returns, cut, callOf, leave, leaveCut, outcome, happens, step}
 use Rattle.stores.proofs.Within.{take-short}
 use Rattle.draw.specs.declared.Allowed.{Allowed}
-use Rattle.draw.specs.Call.{Request, request, reason, comes, calling}
+use Rattle.draw.specs.Call.{Request, request, reason, comes, calling, reporting, rowsOf, report}
 use Rattle.draw.proofs.Judged.{judged-6}
 use Rattle.book.specs.Beyond.{showing, SameCalls}
 use Rattle.book.specs.Beyond.{SameTo as SameMemory}
@@ -50,9 +51,9 @@ module _ (q : Request) (m : Memory) (e : legalSize (q .columns) (q .rows) ≡ fa
   unfolding happens leaveCut comes
   refused-cuts j = rw (← judged-6 (q .allowed .spare) (q .columns) (q .rows) (q .map) (q .bytes) (length (q .front)) (length (m .picture)) (m .place) e) refl
 
-  refused-says : reply calling m q ≡ record { answer = refusal (reason 6 0); count = 0 }
-  unfolding outcome comes
-  refused-says = rw (← judged-6 (q .allowed .spare) (q .columns) (q .rows) (q .map) (q .bytes) (length (q .front)) (length (m .picture)) (m .place) e) refl
+  refused-tells : report m q ≡ reporting (record { answer = refusal (reason 6 0); count = 0 }) None
+  unfolding outcome comes rowsOf
+  refused-tells = rw (← judged-6 (q .allowed .spare) (q .columns) (q .rows) (q .map) (q .bytes) (length (q .front)) (length (m .picture)) (m .place) e) refl
 
 draw-kept : (q : Request) (m : Memory) → drop (area (q .columns) (q .rows)) (step calling m q .picture) ≡ drop (area (q .columns) (q .rows)) (m .picture)
 unfolding area callOf happens
@@ -73,7 +74,7 @@ draw-same q front m m′ f s = by (legalSize (q .columns) (q .rows)) refl f s
     by true e f s = beyond-unread q front m m′ f s
     by false e f s =
         record {
-          answers = refused-says q m e ∙ sym (refused-says (showing q front) m′ e);
+          tells = refused-tells q m e ∙ sym (refused-tells (showing q front) m′ e);
           leaves = rw (refused-leaves q m e, refused-leaves (showing q front) m′ e) s;
           cuts = λ j. rw (refused-cuts q m e j, refused-cuts (showing q front) m′ e j) s;
         }
@@ -151,7 +152,7 @@ module _ (film : List ℕ) (st : State) (allowed : Allowed) where
       draw-same (request (st .columns) (st .rows) map packet (l .first) allowed) (m .first) (memory (l .second) (l .place)) (memory (m .second) (m .place))
       (s .first) (record { picture = s .second; place = s .place }) in
       record {
-        step = ap (drawnStep st p) (c .answers);
+        step = ap (drawnStep st p) (c .tells);
         lent = record { palette = s .palette; first = s .first; second = c .leaves .picture; place = c .leaves .place; room = s .room };
       }
 

@@ -11,13 +11,14 @@ use lib.ListN.{length}
 use Rattle.words.specs.Word.{wordAt}
 use Rattle.words.proofs.Tests.{not-first, first}
 use Rattle.refusal.specs.Number.{Verdict, accept, refuse}
+use Rattle.packet.specs.declared.Touched.{Touched}
 use Rattle.packet.specs.Verdict.{legalSize}
 use Rattle.packet.specs.Accepted.{Accepts}
 use Rattle.packet.proofs.Sizes.{is-size}
 use Rattle.stores.specs.Stores.{Memory, memory}
-use Rattle.stores.specs.Calls.{answered, outcome, reply}
+use Rattle.stores.specs.Calls.{answered, outcome}
 use Rattle.draw.specs.declared.Allowed.{Allowed}
-use Rattle.draw.specs.Call.{Request, request, drawVerdict, comes, calling}
+use Rattle.draw.specs.Call.{Request, request, packetOf as packetIn, drawVerdict, comes, calling, reporting, rowsOf, report}
 use Rattle.draw.specs.Taken.{DrawAccepts}
 use Rattle.draw.proofs.Exactly.{drawn-exactly}
 use Rattle.state.specs.declared.Map.{Map}
@@ -42,21 +43,21 @@ use Rattle.walk.specs.Draws.{bodyOf, packetOf, Draws, Drew}
 
 -- ---- a drawing call that is not refused
 
-drew-answered : (st : State) (p n : ℕ) (b : Bool) → Drew (drawnAs st p (answered b) n .answer)
+drew-answered : (st : State) (p n : ℕ) (t : Touched) (b : Bool) → Drew (drawnAs st p (answered b) n t .answer)
 unfolding Drew drawnAs answered
-drew-answered st p n true = tt
-drew-answered st p n false = tt
+drew-answered st p n t true = tt
+drew-answered st p n t false = tt
 
 module _ (st : State) (p : ℕ) (q : Request) (m : Memory) where
-  pub drew-accepted : drawVerdict q m ≡ accept → Drew (drawnStep st p (reply calling m q) .answer)
+  pub drew-accepted : drawVerdict q m ≡ accept → Drew (drawnStep st p (report m q) .answer)
   unfolding outcome comes
-  drew-accepted e = rw e (drew-answered st p _ _)
+  drew-accepted e = rw e (drew-answered st p _ _ _)
 
-  accepted-drew : Drew (drawnStep st p (reply calling m q) .answer) → drawVerdict q m ≡ accept
+  accepted-drew : Drew (drawnStep st p (report m q) .answer) → drawVerdict q m ≡ accept
   unfolding outcome comes drawnAs Drew
   accepted-drew = by (drawVerdict q m)
     where
-      by : (v : Verdict) → Drew (drawnStep st p (outcome (calling .plan q) m (comes v (q .allowed .stores))) .answer) → v ≡ accept
+      by : (v : Verdict) → Drew (drawnStep st p (reporting (outcome (calling .plan q) m (comes v (q .allowed .stores))) (rowsOf v (packetIn q))) .answer) → v ≡ accept
       by accept d = refl
       by (refuse n k) d = absurd d
 

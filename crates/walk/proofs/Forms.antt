@@ -17,7 +17,7 @@ use Rattle.packet.specs.Forms.{OneOver}
 use Rattle.stores.specs.Stores.{Memory, memory}
 use Rattle.stores.specs.Calls.{leave, outcome}
 use Rattle.draw.specs.Forms.{inForm}
-use Rattle.draw.specs.Call.{Request, within, request, packetOf as packetIn, drawVerdict, comes}
+use Rattle.draw.specs.Call.{Request, within, request, packetOf as packetIn, drawVerdict, comes, reporting, rowsOf}
 use Rattle.draw.specs.Drawing.{plan}
 use Rattle.packet.proofs.Forms.{Differ as DifferAs}
 use Rattle.draw.proofs.Forms.{verdicts-differ}
@@ -46,7 +46,7 @@ differ-by l false x x′ y y′ p q = q
 module _ (film : List ℕ) (st : State) (n : ℕ) where
   second-differ : (p : ℕ) (map packet : List ℕ) (l : Lent)
       → Differ l (drawSecond st p map packet (within n default) l) (drawSecond st p map packet (within n strict) l)
-  unfolding called outcome leave comes drawnAs
+  unfolding called outcome leave comes drawnAs rowsOf
   second-differ p map packet l = by (verdicts-differ q m)
     where
       q : Request
@@ -57,7 +57,7 @@ module _ (film : List ℕ) (st : State) (n : ℕ) where
 
       outcomeBy : Verdict → Outcome
       outcomeBy v =
-          after (drawnStep st p (outcome (plan (packetIn q) (l .first)) m (comes v n)))
+          after (drawnStep st p (reporting (outcome (plan (packetIn q) (l .first)) m (comes v n)) (rowsOf v (packetIn q))))
           (withPictures l (l .first) (leave (plan (packetIn q) (l .first)) m (comes v n) .picture) (leave (plan (packetIn q) (l .first)) m (comes v n) .place))
 
       by : DifferAs (OneOver (packetIn q)) (drawVerdict q m) (drawVerdict (inForm strict q) m)

@@ -9,12 +9,13 @@ use lib.Dec.{eqb}
 use lib.ListN.{length}
 use Rattle.words.specs.Word.{wordAt}
 use Rattle.refusal.specs.Number.{Verdict, accept, refuse}
+use Rattle.packet.specs.declared.Touched.{Touched}
 use Rattle.packet.specs.Verdict.{legalSize}
 use Rattle.stores.specs.Stores.{Plan, Memory, memory, count, after as afterStores}
 use Rattle.stores.specs.Calls.{Call, allowed as allows, refused as denied, answered, leave, outcome, step, reply}
 use Rattle.draw.specs.Drawing.{plan}
 use Rattle.draw.specs.declared.Allowed.{Allowed}
-use Rattle.draw.specs.Call.{Request, request, packetOf, drawVerdict, Reason, comes, calling}
+use Rattle.draw.specs.Call.{Request, request, packetOf, drawVerdict, Reason, comes, calling, rowsOf}
 use Rattle.palette.specs.Store.{applied}
 use Rattle.palette.specs.Update.{Update, verdictOn, onAccept, paletteAfter}
 use Rattle.palette.specs.Gradient.{createGradient}
@@ -109,24 +110,24 @@ module _ (film : List ℕ) (st : State) (p : ℕ) (rises : st .cursor .position 
       by (refuse n k) e = quiet-good l (refused n k) tt
 
   -- 11, on the second picture
-  plan-good : (d : Plan) (l : Lent) (v : Call Reason)
+  plan-good : (d : Plan) (l : Lent) (v : Call Reason) (t : Touched)
       → Good (length film) st l
-      (after (drawnAs st p (outcome d (memory (l .second) (l .place)) v .answer) (outcome d (memory (l .second) (l .place)) v .count))
+      (after (drawnAs st p (outcome d (memory (l .second) (l .place)) v .answer) (outcome d (memory (l .second) (l .place)) v .count) t)
       (withPictures l (l .first) (leave d (memory (l .second) (l .place)) v .picture) (leave d (memory (l .second) (l .place)) v .place)))
   unfolding drawnAs Moves Still outcome answered leave
-  plan-good d l (denied r) = quiet-good l (refused (r .number) (r .block)) tt
-  plan-good d l (allows n) = by (eqb (afterStores d (memory (l .second) (l .place)) n .place) (d .blocks))
+  plan-good d l (denied r) t = quiet-good l (refused (r .number) (r .block)) tt
+  plan-good d l (allows n) t = by (eqb (afterStores d (memory (l .second) (l .place)) n .place) (d .blocks))
     where
-      by : (t : Bool)
+      by : (b : Bool)
           → Good (length film) st l
-          (after (drawnAs st p (answered t) (count d (memory (l .second) (l .place)) n))
+          (after (drawnAs st p (answered b) (count d (memory (l .second) (l .place)) n) t)
           (withPictures l (l .first) (afterStores d (memory (l .second) (l .place)) n .picture) (afterStores d (memory (l .second) (l .place)) n .place)))
       by true = record { moves = on-finished; keeps = λ s. absurd s }
       by false = record { moves = refl; keeps = λ s. absurd s }
 
   called-good : (q : Request) (l : Lent) → Good (length film) st l (called st p q l)
   unfolding called
-  called-good q l = plan-good (plan (packetOf q) (q .front)) l (comes (drawVerdict q (memory (l .second) (l .place))) (q .allowed .stores))
+  called-good q l = plan-good (plan (packetOf q) (q .front)) l (comes (drawVerdict q (memory (l .second) (l .place))) (q .allowed .stores)) (rowsOf (drawVerdict q (memory (l .second) (l .place))) (packetOf q))
 
   on-good : (map packet : List ℕ) (n : Allowed) (l : Lent) → Good (length film) st l (drawOn st p map packet n l)
   unfolding drawOn

@@ -3,3 +3,4 @@ pub mod Draws
 pub mod Beyond
 pub mod Apart
 pub mod Forms
+pub mod Rows

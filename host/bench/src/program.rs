@@ -126,7 +126,7 @@ impl Program for Check {
 
     fn run(&mut self, number: usize) -> Result<(), String> {
         let Packet { columns, rows, map, data } = &self.0[number];
-        mve::check(*columns, *rows, map, data).map_err(|refusal| refusal.to_string())
+        mve::check(*columns, *rows, map, data).map(|_| ()).map_err(|refusal| refusal.to_string())
     }
 }
 

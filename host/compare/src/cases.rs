@@ -222,11 +222,11 @@ fn profile(rng: &mut Seeded) -> Profile {
     }
 }
 
-/// A valid packet, padded or not. One in eight has a last block of any form, so that each leaves bytes
-/// over.
+/// A valid packet, of all rows or a strip, padded or not. One in eight has a last block of any form, so
+/// that each leaves bytes over.
 fn draft(rng: &mut Seeded) -> Draft {
     let (size, profile) = (frame_size(rng), profile(rng));
-    let draft = Draft::make(rng, size, profile);
+    let draft = Draft::make(rng, size, profile).or_strip(rng);
     let last = rng.pick(&Form::ALL);
     let ending = if rng.one_in(8) { Draft::ending_in(rng, size, profile, last) } else { None };
     ending.unwrap_or(draft).or_padded(rng)

@@ -2,12 +2,11 @@
 
 use crate::cases;
 use crate::decoder::{Answer, Decoder};
-use crate::difference::{first_difference, Difference, Part};
+use crate::difference::{difference_outside, first_difference, Difference, Part};
 use crate::tally::Tally;
 use maker::calls::{Call, CallList};
 use maker::Packet;
 use reference::book::{self, Book};
-use reference::frame::FrameSize;
 use reference::CallForm;
 use std::fmt;
 use std::ops::Range;
@@ -224,19 +223,13 @@ impl Seen<'_> {
         Ok(())
     }
 
-    /// A refused call leaves the picture as it was found, any other the bytes beyond the frame.
+    /// A refused call leaves the picture as it was found, any other all that lies outside the rows that
+    /// it tells.
     fn keeps(&self, found: &[u8], call: &Call) -> Result<(), Difference> {
-        let frame = FrameSize::new(call.packet.columns, call.packet.rows);
-        let from = match (self.answer, frame) {
-            (Ok(_), Ok(frame)) => frame.pixels().min(found.len()),
-            _ => 0,
-        };
-        match first_difference(&self.back[from..], &found[from..]) {
+        let rows = self.answer.ok().and_then(|drawn| drawn.rows);
+        match difference_outside(rows, call.packet.columns, self.back, found) {
             None => Ok(()),
-            Some(index) => {
-                let at = from + index;
-                self.differs(Part::Kept(at), self.back[at], "as found", found[at])
-            }
+            Some(at) => self.differs(Part::Kept(at), self.back[at], "as found", found[at]),
         }
     }
 

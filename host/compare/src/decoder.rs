@@ -4,10 +4,10 @@ use maker::states::Start;
 use maker::Packet;
 use reference::film::{self, Span, State, Stepped};
 use reference::sound::Sound;
-use reference::{CallForm, Drawn, Refusal};
+use reference::{CallForm, Drawn, Refusal, Rows};
 
-/// What a check answers.
-pub type Checked = Result<(), Refusal>;
+/// What a check answers: the rows that the packet touches, if any.
+pub type Checked = Result<Option<Rows>, Refusal>;
 
 /// What a drawing call answers.
 pub type Answer = Result<Drawn, Refusal>;
@@ -23,10 +23,11 @@ pub type Walked = Result<Step, Refusal>;
 pub enum Step {
     /// A chunk head, or an opcode other than 11, is taken. With the bytes written to the room.
     Taken(usize),
-    /// Opcode 11 is taken and its frame drawn, with so many stores.
-    Whole(usize),
-    /// Opcode 11's frame is not drawn yet. With the stores made.
-    Unfinished(usize),
+    /// Opcode 11 is taken and its frame drawn, with so many stores. With the rows that its packet
+    /// touches.
+    Whole(usize, Option<Rows>),
+    /// Opcode 11's frame is not drawn yet. With the stores made and the rows that its packet touches.
+    Unfinished(usize, Option<Rows>),
     /// The film is at its end.
     Ended,
 }
@@ -77,7 +78,7 @@ impl Decoder for Proved {
             CallForm::Default => mve::check,
             CallForm::Strict => mve::check_strict,
         };
-        check(*columns, *rows, map, data).map_err(common_refusal)
+        check(*columns, *rows, map, data).map(common_rows).map_err(common_refusal)
     }
 
     fn draw(
@@ -115,8 +116,8 @@ impl Decoder for Proved {
         *state = common_state(stepped.state());
         Ok(match stepped {
             mve::Step::Taken(_, bytes) => Step::Taken(bytes),
-            mve::Step::Whole(_, stores) => Step::Whole(stores),
-            mve::Step::Unfinished(_, stores) => Step::Unfinished(stores),
+            mve::Step::Whole(_, stores, rows) => Step::Whole(stores, common_rows(rows)),
+            mve::Step::Unfinished(_, stores, rows) => Step::Unfinished(stores, common_rows(rows)),
             mve::Step::Ended(_) => Step::Ended,
         })
     }
@@ -131,7 +132,12 @@ fn common_refusal(refusal: mve::Refusal) -> Refusal {
 }
 
 fn common_drawn(drawn: mve::Drawn) -> Drawn {
-    Drawn { whole: matches!(drawn, mve::Drawn::Whole { .. }), stores: drawn.stores() }
+    let whole = matches!(drawn, mve::Drawn::Whole { .. });
+    Drawn { whole, stores: drawn.stores(), rows: common_rows(drawn.rows()) }
+}
+
+fn common_rows(rows: Option<mve::Rows>) -> Option<Rows> {
+    rows.map(|mve::Rows { first, last }| Rows { first, last })
 }
 
 fn common_state(state: mve::State) -> State {
@@ -184,8 +190,8 @@ impl Decoder for Second {
     fn step(&self, form: CallForm, film: &[u8], walk: &mut Start) -> Walked {
         let (step, state) = match walk.step_as(form, film) {
             Stepped::Taken(state, bytes) => (Step::Taken(bytes), state),
-            Stepped::Whole(state, stores) => (Step::Whole(stores), state),
-            Stepped::Unfinished(state, stores) => (Step::Unfinished(stores), state),
+            Stepped::Whole(state, stores, rows) => (Step::Whole(stores, rows), state),
+            Stepped::Unfinished(state, stores, rows) => (Step::Unfinished(stores, rows), state),
             Stepped::Ended(state) => (Step::Ended, state),
             Stepped::Refused(refusal) => return Err(refusal),
         };

@@ -1,12 +1,12 @@
 //! Reports of a difference.
 
-use reference::CallForm;
+use reference::{CallForm, Rows};
 use std::fmt;
 
 /// What two accounts of one call differ in.
 #[derive(Clone, Copy, Debug, PartialEq, Eq)]
 pub enum Part {
-    /// The answer: taken or refused, with its number and block or its count.
+    /// The answer: taken or refused, with its number and block, or its count and rows.
     Answer,
     /// The place after the call.
     Place,
@@ -14,8 +14,8 @@ pub enum Part {
     Front(usize),
     /// A byte of the picture drawn on.
     Back(usize),
-    /// A byte of the picture drawn on that the call must leave: beyond the frame, or any byte if
-    /// the call is refused.
+    /// A byte of the picture drawn on that the call must leave: outside the rows that it tells, or any
+    /// byte if the call is refused.
     Kept(usize),
     /// The state of a film after a step.
     State,
@@ -25,6 +25,11 @@ pub enum Part {
     PictureA(usize),
     /// A byte of the second lent picture.
     PictureB(usize),
+    /// A byte of the first lent picture that the step must leave: outside the rows that it tells, or
+    /// any byte if it draws on the other picture, or not at all.
+    KeptA(usize),
+    /// The same of the second lent picture.
+    KeptB(usize),
     /// A byte of the room.
     Room(usize),
     /// The part of a lent picture that is shown.
@@ -43,6 +48,12 @@ impl fmt::Display for Part {
             Part::Palette(index) => write!(f, "byte {index} of the palette"),
             Part::PictureA(index) => write!(f, "byte {index} of the first picture"),
             Part::PictureB(index) => write!(f, "byte {index} of the second picture"),
+            Part::KeptA(index) => {
+                write!(f, "byte {index} of the first picture, which the step must leave")
+            }
+            Part::KeptB(index) => {
+                write!(f, "byte {index} of the second picture, which the step must leave")
+            }
             Part::Room(index) => write!(f, "byte {index} of the room"),
             Part::Shown => write!(f, "shown picture"),
         }
@@ -83,4 +94,18 @@ pub(crate) fn first_difference(one: &[u8], other: &[u8]) -> Option<usize> {
         return None;
     }
     one.iter().zip(other).position(|(a, b)| a != b)
+}
+
+/// The first index outside the rows at which two pictures of so many columns differ; anywhere where
+/// there is no row.
+pub(crate) fn difference_outside(
+    rows: Option<Rows>,
+    columns: usize,
+    one: &[u8],
+    other: &[u8],
+) -> Option<usize> {
+    let bytes = |row: usize| (64 * columns * row).min(one.len());
+    let (start, end) = rows.map_or((0, 0), |rows| (bytes(rows.first), bytes(rows.last + 1)));
+    let behind = || first_difference(&one[end..], &other[end..]).map(|at| end + at);
+    first_difference(&one[..start], &other[..start]).or_else(behind)
 }

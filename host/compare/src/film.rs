@@ -3,11 +3,11 @@
 use crate::cases::Walk;
 use crate::comparison::Comparison;
 use crate::decoder::{Decoder, Step, Walked};
-use crate::difference::{first_difference, Difference, Part};
+use crate::difference::{difference_outside, first_difference, Difference, Part};
 use maker::states::Start;
 use reference::film::State;
 use reference::refusal;
-use reference::CallForm;
+use reference::{CallForm, Rows};
 use std::fmt;
 
 impl<A: Decoder, B: Decoder> Comparison<A, B> {
@@ -116,13 +116,14 @@ impl<'a> Seen<'a> {
     }
 
     /// A step that is refused, or that finds the film at its end, leaves everything as found; any
-    /// other the room behind what it writes.
+    /// other the room behind what it writes, and the pictures but for the rows that it tells of back.
     fn keeps(&self, found: &Start) -> Result<(), Difference> {
-        let written = match self.answer {
+        let (written, rows) = match self.answer {
             Ok(Step::Ended) | Err(_) => return self.leaves("as found", found),
-            Ok(Step::Taken(bytes)) => bytes.min(found.room.len()),
-            Ok(_) => 0,
+            Ok(Step::Taken(bytes)) => (bytes.min(found.room.len()), None),
+            Ok(Step::Whole(_, rows) | Step::Unfinished(_, rows)) => (0, rows),
         };
+        self.keeps_pictures(found, rows)?;
         let (left, kept) = (&self.left.room, &found.room);
         match first_difference(&left[written..], &kept[written..]) {
             None => Ok(()),
@@ -130,6 +131,20 @@ impl<'a> Seen<'a> {
                 let at = written + index;
                 self.differs(Part::Room(at), left[at], "as found", kept[at])
             }
+        }
+    }
+
+    /// Both pictures are left as found, but for these rows of back.
+    fn keeps_pictures(&self, found: &Start, rows: Option<Rows>) -> Result<(), Difference> {
+        let State { front, columns, .. } = found.state;
+        let (of_a, of_b) = if front == 0 { (None, rows) } else { (rows, None) };
+        let (a, b) = (&self.left.picture_a, &self.left.picture_b);
+        if let Some(at) = difference_outside(of_a, columns, a, &found.picture_a) {
+            return self.differs(Part::KeptA(at), a[at], "as found", found.picture_a[at]);
+        }
+        match difference_outside(of_b, columns, b, &found.picture_b) {
+            None => Ok(()),
+            Some(at) => self.differs(Part::KeptB(at), b[at], "as found", found.picture_b[at]),
         }
     }
 

@@ -68,7 +68,7 @@ impl<D: Decoder> Decoder for FromDefault<D> {
     fn step(&self, form: CallForm, film: &[u8], walk: &mut Start) -> Walked {
         let found = walk.clone();
         let answer = self.0.step(CallForm::Default, film, walk);
-        let draws = matches!(answer, Ok(Step::Whole(_) | Step::Unfinished(_)));
+        let draws = matches!(answer, Ok(Step::Whole(..) | Step::Unfinished(..)));
         if draws && is_odd(form, packet_at(film, &found.state).as_ref()) {
             *walk = found;
             return Err(Refusal::new(refusal::DATA_LEFT));

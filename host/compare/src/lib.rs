@@ -1,11 +1,12 @@
 //! Holds the proved player core against the second decoder, call by call.
 //!
 //! Both are [`Decoder`]s. A [`Comparison`] gives them the same seeded cases and compares whatever
-//! can be seen of each call: the answer with its number, block and count, the place, and every byte
-//! of both pictures. Lists of drawing calls are held against the book of demand 3, too. Films, with
-//! sound or without, are compared step by step, with their state, palette, room and shown picture.
-//! Packets are checked in both forms, and calls and steps are of either. The first thing that differs
-//! ends it, with the seed and the number of the case; a [`Tally`] counts what the cases reached.
+//! can be seen of each call: the answer with its number, block, count and rows, the place, and every
+//! byte of both pictures; outside the rows told these must be as the call found them. Lists of drawing
+//! calls are held against the book of demand 3, too. Films, with sound or without, are compared step by
+//! step, with their state, palette, room and shown picture. Packets are checked in both forms, and
+//! calls and steps are of either. The first thing that differs ends it, with the seed and the number of
+//! the case; a [`Tally`] counts what the cases reached.
 //!
 //! [`FromDefault`] stands for what the two forms have to do with each other: against it the strict form
 //! of a decoder is held to the default one.
@@ -24,4 +25,4 @@ pub use comparison::{Comparison, Found, Kind};
 pub use decoder::{Answer, Checked, Decoder, Opened, Proved, Second, Step, Walked};
 pub use difference::{Difference, Part};
 pub use forms::FromDefault;
-pub use tally::{Event, Tally};
+pub use tally::{Event, Tally, Touched};

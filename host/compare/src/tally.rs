@@ -8,7 +8,7 @@ use maker::states::Start;
 use maker::{Form, Packet};
 use reference::film::{opcode_head, State};
 use reference::sound::Sound;
-use reference::{CallForm, Drawn, Refusal};
+use reference::{CallForm, Drawn, Refusal, Rows};
 use std::collections::BTreeMap;
 use std::fmt;
 use std::ops::Range;
@@ -55,6 +55,10 @@ pub enum Event {
     TakenOver(CallForm, usize),
     /// In this form, one is refused by 15 that leaves so many bytes over, 3 standing for more.
     RefusedOver(CallForm, usize),
+    /// Of a packet that is accepted, or that a drawing call or a step draws, these rows are touched.
+    Touched(Touched),
+    /// A drawing call or a step finds rows finished that its packet touches, and tells them.
+    TouchedBefore,
     /// A step makes the picture drawn on the shown one.
     Turned,
     /// A step changes the palette.
@@ -64,6 +68,56 @@ pub enum Event {
     /// A step writes samples of this format: of compressed sound, goes on from the last samples or
     /// not.
     Written(Format, bool),
+}
+
+/// Which rows of a frame a packet touches.
+#[derive(Clone, Copy, Debug, PartialEq, Eq, PartialOrd, Ord)]
+pub enum Touched {
+    /// None: every block is code 1.
+    None,
+    /// All rows of several.
+    All,
+    /// The first row alone of several.
+    First,
+    /// The last row alone of several.
+    Last,
+    /// Rows between the first and the last one, which are not touched.
+    Between,
+    /// A single block of several.
+    OneBlock,
+    /// Blocks of code 0 and of code 1 alone.
+    SameBlocks,
+}
+
+impl Touched {
+    /// Every kind.
+    pub const ALL: [Touched; 7] = [
+        Touched::None,
+        Touched::All,
+        Touched::First,
+        Touched::Last,
+        Touched::Between,
+        Touched::OneBlock,
+        Touched::SameBlocks,
+    ];
+
+    /// The kinds that an accepted packet with these rows is of.
+    fn kinds(packet: &Packet, rows: Option<Rows>) -> Vec<Touched> {
+        let Some(Rows { first, last }) = rows else { return vec![Touched::None] };
+        let end = packet.rows - 1;
+        let codes: Vec<u8> = packet.map.iter().flat_map(|byte| [byte & 0x0F, byte >> 4]).collect();
+        let codes = &codes[..packet.columns * packet.rows];
+        let touched = || codes.iter().filter(|&&code| code != 1);
+        let is = [
+            (Touched::All, end > 0 && (first, last) == (0, end)),
+            (Touched::First, end > 0 && (first, last) == (0, 0)),
+            (Touched::Last, end > 0 && (first, last) == (end, end)),
+            (Touched::Between, first > 0 && last < end),
+            (Touched::OneBlock, codes.len() > 1 && touched().count() == 1),
+            (Touched::SameBlocks, touched().all(|&code| code == 0)),
+        ];
+        is.into_iter().filter(|(_, is)| *is).map(|(kind, _)| kind).collect()
+    }
 }
 
 /// How many cases were compared, and what they reached.
@@ -99,8 +153,9 @@ impl Tally {
         self.over(form, Some(packet), answer.err());
         match answer {
             Err(refusal) => self.refused(refusal),
-            Ok(()) => {
+            Ok(rows) => {
                 self.note(Event::Accepted);
+                self.touched(packet, 0, rows);
                 self.frame(packet);
                 self.forms(packet, 0..usize::MAX);
             }
@@ -125,6 +180,7 @@ impl Tally {
                 }
             }
             Ok(drawn) => {
+                self.touched(&call.packet, places.start, drawn.rows);
                 self.drawn(call, places, drawn);
                 if back > call.packet.pixels() {
                     self.note(Event::Longer);
@@ -161,16 +217,16 @@ impl Tally {
                 self.opcode(film, &found.state);
                 self.heard(&found.state.sound, bytes);
             }
-            Ok(Step::Whole(stores)) => {
+            Ok(Step::Whole(stores, rows)) => {
                 self.stores += stores;
                 self.note(if stores > 0 { Event::Whole } else { Event::WholeBefore });
                 self.opcode(film, &found.state);
-                self.video(film, found, left.place);
+                self.video(film, found, left.place, rows);
             }
-            Ok(Step::Unfinished(stores)) => {
+            Ok(Step::Unfinished(stores, rows)) => {
                 self.stores += stores;
                 self.note(Event::Unfinished);
-                self.video(film, found, left.place);
+                self.video(film, found, left.place, rows);
             }
             Ok(Step::Ended) => self.note(Event::Ended),
         }
@@ -201,10 +257,21 @@ impl Tally {
         }
     }
 
-    /// The blocks that a step over opcode 11 finished.
-    fn video(&mut self, film: &[u8], found: &Start, place: usize) {
+    /// The blocks that a step over opcode 11 finished, and the rows that it told.
+    fn video(&mut self, film: &[u8], found: &Start, place: usize, rows: Option<Rows>) {
         if let Some(packet) = packet_at(film, &found.state) {
+            self.touched(&packet, found.place, rows);
             self.forms(&packet, found.place..place);
+        }
+    }
+
+    /// The rows told of a packet, by a call that found this place.
+    fn touched(&mut self, packet: &Packet, place: usize, rows: Option<Rows>) {
+        for kind in Touched::kinds(packet, rows) {
+            self.note(Event::Touched(kind));
+        }
+        if rows.is_some_and(|rows| rows.first < place / packet.columns) {
+            self.note(Event::TouchedBefore);
         }
     }
 
@@ -230,7 +297,7 @@ impl Tally {
     fn drawn(&mut self, call: &Call, places: Range<usize>, drawn: Drawn) {
         self.stores += drawn.stores;
         match drawn {
-            Drawn { whole: true, stores: 0 } => self.note(Event::WholeBefore),
+            Drawn { whole: true, stores: 0, .. } => self.note(Event::WholeBefore),
             Drawn { whole: true, .. } => {
                 self.note(Event::Whole);
                 self.frame(&call.packet);

@@ -112,6 +112,8 @@ fn drawing() {
 fn steps() {
     for decoder in [&Proved as &dyn Decoder, &Second] {
         let answers: Vec<_> = (0..CASES).flat_map(|number| walk(decoder, number)).collect();
-        assert_reached(&answers, |step| matches!(step, Step::Whole(1..) | Step::Unfinished(1..)));
+        assert_reached(&answers, |step| {
+            matches!(step, Step::Whole(1.., _) | Step::Unfinished(1.., _))
+        });
     }
 }

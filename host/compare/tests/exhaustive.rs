@@ -15,7 +15,7 @@ use maker::states::Start;
 use maker::{Form, Packet, Profile, Seeded, Size};
 use reference::film::{open, Span, State};
 use reference::sound::{Sound, NO_STREAM};
-use reference::Refusal;
+use reference::{Refusal, Rows};
 use std::collections::BTreeSet;
 
 /// Numbers that no film gives, but that a caller can: products of some of them would wrap around.
@@ -60,7 +60,7 @@ fn every_size() {
             let map = vec![0x11; blocks.div_ceil(2)];
             let packet = Packet { columns, rows, map, data: Vec::new() };
             let legal = (1..=80).contains(&columns) && (1..=60).contains(&rows);
-            let expected = if legal { Ok(()) } else { Err(Refusal::new(6)) };
+            let expected = if legal { Ok(None) } else { Err(Refusal::new(6)) };
             assert_eq!(check(&packet), expected, "{columns}x{rows}");
             accepted += usize::from(legal);
             let drawn = same((columns, rows), |decoder, form| {
@@ -119,10 +119,11 @@ fn every_length() {
             let data = [block.data, rng.bytes(3)].concat();
             for length in 0..=data.len() {
                 let packet = with_block(number, block.code, &data[..length]);
+                let row = (form != Form::Untouched).then_some(Rows { first: 2, last: 2 });
                 let expected = |most: usize| match length.checked_sub(whole) {
                     None => Err(Refusal::in_block(13, number)),
                     Some(over) if over > most => Err(Refusal::new(15)),
-                    Some(_) => Ok(()),
+                    Some(_) => Ok(row),
                 };
                 assert_eq!(checks(&packet), [1, 0].map(expected), "{form:?} of {length} bytes");
             }
@@ -280,7 +281,7 @@ fn opcodes(stream: usize, kinds: impl IntoIterator<Item = u8>) -> (BTreeSet<u8>,
         for version in [0, 1, 2, 3, 4, 255] {
             for length in (0..=40).chain([50, 56, 78, 79, 80, 772, 800]) {
                 for answer in answers(rng, stream, kind, version, length) {
-                    whole.extend((answer == Ok(Step::Whole(65))).then_some(length));
+                    whole.extend(matches!(answer, Ok(Step::Whole(65, _))).then_some(length));
                     numbers.extend(answer.err().map(|refusal| refusal.number));
                 }
             }

@@ -2,6 +2,9 @@
 //! each fault is reported, as what it is, within the first cases that the other tests go through.
 //! Several are those that 01 names ("Slips that look right", "These must not get through").
 
+mod common;
+
+use common::WRONG_ROWS;
 use compare::forms::left_over;
 use compare::{
     cases, Answer, Checked, Comparison, Decoder, Found, FromDefault, Kind, Opened, Part, Second,
@@ -11,7 +14,7 @@ use maker::states::Start;
 use maker::{Form, Packet};
 use reference::film::State;
 use reference::frame::MAX_PIXELS;
-use reference::{CallForm, Drawn, Refusal};
+use reference::{CallForm, Drawn, Refusal, Rows};
 
 const SEED: u64 = 1;
 const CASES: u64 = 2000;
@@ -126,7 +129,7 @@ fn no_fault() {
 
 #[test]
 fn checks() {
-    assert_check_found(|_| Ok(()));
+    assert_check_found(|_| Ok(None));
     assert_check_found(|_| Err(Refusal::new(6)));
     for number in [6, 10, 12, 13, 14, 15] {
         // This refusal alone is passed over, has another number, or names another block.
@@ -136,7 +139,7 @@ fn checks() {
                 _ => answer,
             }
         };
-        assert_check_found(if_met(|_| Ok(())));
+        assert_check_found(if_met(|_| Ok(None)));
         assert_check_found(if_met(|met| Err(Refusal { number: met.number + 1, ..met })));
         assert_check_found(if_met(|met| Err(Refusal { block: met.block + 1, ..met })));
     }
@@ -223,7 +226,8 @@ fn pictures() {
             made.back[MAX_PIXELS - 1] ^= 1;
         }
     };
-    assert_eq!(part(last_pixel), Part::Back(MAX_PIXELS - 1));
+    let found = part(last_pixel);
+    assert!(matches!(found, Part::Back(at) | Part::Kept(at) if at == MAX_PIXELS - 1), "{found:?}");
 }
 
 /// A wrong last pixel in the blocks of one form alone.
@@ -242,7 +246,7 @@ fn forms() {
                 }
             }
         };
-        assert!(matches!(part(fault), Part::Back(_)), "{form:?}");
+        assert!(matches!(part(fault), Part::Back(_) | Part::Kept(_)), "{form:?}");
     }
 }
 
@@ -251,8 +255,8 @@ fn forms() {
 fn check_turned(form: CallForm, over: usize) -> impl Fn(MadeCheck<'_>) -> Checked + Copy {
     move |made| match made.answer {
         answer if made.form != form || left_over(made.packet) != Some(over) => answer,
-        Ok(()) => Err(Refusal::new(15)),
-        Err(_) => Ok(()),
+        Ok(_) => Err(Refusal::new(15)),
+        Err(_) => Ok(None),
     }
 }
 
@@ -298,7 +302,7 @@ fn the_odd_byte_drawn() {
             made.back[made.packet.pixels() - 1] = made.packet.data[made.packet.data.len() - 1];
         }
     };
-    assert!(matches!(part(drawn), Part::Back(_)));
+    assert!(matches!(part(drawn), Part::Back(_) | Part::Kept(_)));
 }
 
 /// A program whose strict form takes one byte, or refuses none, does not agree with its default form:
@@ -322,7 +326,9 @@ fn shared_faults() {
     let faulty = || Faulty {
         check: unchanged,
         draw: |made: &mut Made<'_>| {
-            if made.answer.is_ok_and(|drawn| drawn.stores > 0) {
+            // Inside the rows that are told: outside the picture found tells it.
+            let in_row = |drawn: Drawn| drawn.rows.is_some_and(|rows| rows.first == 0);
+            if made.answer.is_ok_and(|drawn| drawn.stores > 0 && in_row(drawn)) {
                 made.back[0] ^= 1;
             }
         },
@@ -331,6 +337,49 @@ fn shared_faults() {
     let difference = compared.expect_err("a difference").difference;
     assert_eq!(difference.part, Part::Back(0));
     assert_eq!(difference.accounts.map(|(by, _)| by), ["faulty decoder", "book"]);
+}
+
+/// Programs that tell other rows than the packet's, in a check or in a drawing call.
+#[test]
+fn wrong_rows() {
+    for (name, wrong) in WRONG_ROWS {
+        let drawing = |made: &mut Made<'_>| {
+            let Made { packet, found: (_, place), answer, .. } = made;
+            if let Ok(drawn) = answer {
+                drawn.rows = wrong(packet, *place, drawn.rows);
+            }
+        };
+        assert!(matches!(part(drawing), Part::Answer | Part::Kept(_)), "{name}");
+        if !name.contains("still due") {
+            check_form(|made| made.answer.map(|rows| wrong(made.packet, 0, rows)));
+        }
+    }
+}
+
+/// A fault that both decoders share: a call changes a byte outside the rows that it tells. Of these the
+/// last one is missing, or the byte is the first of a picture whose first row is not touched.
+#[test]
+fn rows_outside() {
+    let last_row_missing = |made: &mut Made<'_>| {
+        let row = 64 * made.packet.columns;
+        let Ok(Drawn { rows: Some(rows), .. }) = &mut made.answer else { return };
+        let bytes = row * rows.last..row * (rows.last + 1);
+        if rows.last > rows.first && made.back[bytes.clone()] != made.found.0[bytes] {
+            rows.last -= 1;
+        }
+    };
+    let first_byte = |made: &mut Made<'_>| {
+        if let Ok(Drawn { rows: Some(Rows { first: 1.., .. }), .. }) = made.answer {
+            made.back[0] ^= 1;
+        }
+    };
+    for draw in [&last_row_missing as &dyn Fn(&mut Made<'_>), &first_byte] {
+        let faulty = Faulty { check: unchanged, draw };
+        let compared = Comparison::new(faulty, faulty).run(Kind::Lists, SEED, 0..CASES);
+        let difference = compared.expect_err("a difference").difference;
+        assert!(matches!(difference.part, Part::Kept(_)), "{difference}");
+        assert_eq!(difference.accounts.map(|(by, _)| by), ["faulty decoder", "as found"]);
+    }
 }
 
 /// A report names the seed and the case, and that case alone shows the difference again.

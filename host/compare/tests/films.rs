@@ -3,7 +3,7 @@
 
 mod common;
 
-use compare::{Comparison, Event, Kind, Proved, Second};
+use compare::{Comparison, Event, Kind, Proved, Second, Touched};
 use maker::film::{ACTED_ON, PASSED_OVER};
 
 const SEED: u64 = 1;
@@ -28,6 +28,7 @@ fn films() {
     ];
     let numbers: Vec<Event> = (1..=16).map(Event::Refused).collect();
     let opcodes: Vec<Event> = ACTED_ON.into_iter().chain(PASSED_OVER).map(Event::Opcode).collect();
-    let wanted = [&answers[..], &numbers, &opcodes, &common::LEFT_OVER].concat();
+    let rows = [&Touched::ALL.map(Event::Touched)[..], &[Event::TouchedBefore]].concat();
+    let wanted = [&answers[..], &numbers, &opcodes, &common::LEFT_OVER, &rows].concat();
     common::assert_reached(comparison.tally(), &wanted);
 }

@@ -3,7 +3,7 @@
 
 mod common;
 
-use compare::{Comparison, Event, Kind, Proved, Second};
+use compare::{Comparison, Event, Kind, Proved, Second, Touched};
 
 const SEED: u64 = 1;
 const LISTS: u64 = 6000;
@@ -26,6 +26,7 @@ fn lists() {
         Event::Largest,
     ];
     let numbers = [6, 8, 10, 11, 12, 13, 14, 15].map(Event::Refused);
-    let wanted = [&answers[..], &numbers, &common::LEFT_OVER].concat();
+    let rows = [&Touched::ALL.map(Event::Touched)[..], &[Event::TouchedBefore]].concat();
+    let wanted = [&answers[..], &numbers, &common::LEFT_OVER, &rows].concat();
     common::assert_reached(comparison.tally(), &wanted);
 }

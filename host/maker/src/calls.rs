@@ -47,7 +47,7 @@ pub struct CallList {
 /// A list of up to 40 calls for a valid packet, padded or not; if it is padded, strict calls are
 /// refused. Most lists end with the frame whole; calls then go on now and then.
 pub fn list(rng: &mut Seeded, size: Size, profile: Profile) -> CallList {
-    let draft = Draft::make(rng, size, profile).or_padded(rng);
+    let draft = Draft::make(rng, size, profile).or_strip(rng).or_padded(rng);
     let packet = draft.packet();
     let spare = rng.pick(&[0, 0, 3]);
     let front = rng.bytes(size.pixels() + spare);

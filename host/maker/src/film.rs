@@ -172,7 +172,7 @@ fn frame(rng: &mut Seeded, opcodes: &mut Vec<Opcode>, size: Size, profile: Profi
         let length = rng.below(9);
         opcodes.push(Opcode::new(0x0F, 0, rng.bytes(length)));
     }
-    let packet = Draft::make(rng, size, profile).or_padded(rng).packet();
+    let packet = Draft::make(rng, size, profile).or_strip(rng).or_padded(rng).packet();
     let [map, video] = packet_opcodes(rng, packet);
     opcodes.push(map);
     others(rng, opcodes);

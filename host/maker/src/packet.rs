@@ -3,6 +3,7 @@
 use crate::form::{Block, Form};
 use crate::seeded::Seeded;
 use crate::size::Size;
+use std::ops::Range;
 
 /// A packet as it is given to checking and drawing.
 #[derive(Clone, Debug, PartialEq, Eq)]
@@ -88,6 +89,46 @@ impl Profile {
     }
 }
 
+/// The part of a frame outside which no block is touched (02, W2).
+#[derive(Clone, Copy, Debug, PartialEq, Eq)]
+pub enum Strip {
+    /// No block: every one is code 1.
+    Nothing,
+    /// The first row of blocks.
+    FirstRow,
+    /// The last row.
+    LastRow,
+    /// Some rows.
+    Rows,
+    /// One block.
+    OneBlock,
+}
+
+impl Strip {
+    /// Every kind.
+    pub const ALL: [Strip; 5] =
+        [Strip::Nothing, Strip::FirstRow, Strip::LastRow, Strip::Rows, Strip::OneBlock];
+
+    /// The numbers of its blocks.
+    fn numbers(self, rng: &mut Seeded, size: Size) -> Range<usize> {
+        let Size { columns, rows } = size;
+        match self {
+            Strip::Nothing => 0..0,
+            Strip::FirstRow => 0..columns,
+            Strip::LastRow => size.blocks() - columns..size.blocks(),
+            Strip::Rows => {
+                let first = rng.below(rows);
+                let last = rng.between(first, rows - 1);
+                columns * first..columns * (last + 1)
+            }
+            Strip::OneBlock => {
+                let number = rng.below(size.blocks());
+                number..number + 1
+            }
+        }
+    }
+}
+
 /// A packet as its maker keeps it, block by block.
 #[derive(Clone, Debug)]
 pub struct Draft {
@@ -119,6 +160,29 @@ impl Draft {
         let mut draft = Draft::make(rng, size, profile);
         *draft.blocks.last_mut()? = last.block(rng, size, size.blocks() - 1)?;
         Some(draft)
+    }
+
+    /// The same, one time in three with few rows touched: the blocks elsewhere are left as they are.
+    pub fn or_strip(self, rng: &mut Seeded) -> Draft {
+        if !rng.one_in(3) {
+            return self;
+        }
+        let strip = rng.pick(&Strip::ALL);
+        self.strip(rng, strip)
+    }
+
+    /// The same with this strip touched alone; now and then by blocks of code 0 alone.
+    pub fn strip(mut self, rng: &mut Seeded, strip: Strip) -> Draft {
+        let numbers = strip.numbers(rng, self.size);
+        let same = rng.one_in(4);
+        for (number, block) in self.blocks.iter_mut().enumerate() {
+            if !numbers.contains(&number) {
+                *block = Block { code: Form::Untouched.code(), data: Vec::new() };
+            } else if same {
+                *block = Block { code: Form::SameBlock.code(), data: Vec::new() };
+            }
+        }
+        self
     }
 
     /// The same with so many bytes left over.
@@ -175,11 +239,11 @@ fn stores_of(block: &Block) -> usize {
     }
 }
 
-/// A valid packet of a few blocks, of any profile, padded or not.
+/// A valid packet of a few blocks, of any profile, of all rows or a strip, padded or not.
 pub fn small(rng: &mut Seeded) -> Draft {
     let size = Size::small(rng);
     let profile = rng.pick(&Profile::MANY);
-    Draft::make(rng, size, profile).or_padded(rng)
+    Draft::make(rng, size, profile).or_strip(rng).or_padded(rng)
 }
 
 /// Bytes without meaning in the shape of a packet: mostly of a legal size with the right map

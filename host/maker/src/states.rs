@@ -55,9 +55,9 @@ pub fn middle(rng: &mut Seeded, film: &Film) -> Start {
     for _ in 0..rng.below(heads + 4) {
         start.allowed = calls::allowance(rng, film.size.blocks());
         match start.step(&bytes) {
-            Stepped::Taken(state, _) | Stepped::Whole(state, _) | Stepped::Unfinished(state, _) => {
-                start.state = state
-            }
+            Stepped::Taken(state, _)
+            | Stepped::Whole(state, ..)
+            | Stepped::Unfinished(state, ..) => start.state = state,
             Stepped::Ended(_) | Stepped::Refused(_) => break,
         }
     }

@@ -63,7 +63,7 @@ fn note_answer(reached: &mut Reached, answer: Result<Drawn, Refusal>, cut: bool)
     match answer {
         Err(refusal) => note(reached, refusal.number.to_string()),
         Ok(_) if cut => note(reached, "cut"),
-        Ok(Drawn { whole: true, stores: 0 }) => note(reached, "whole at once"),
+        Ok(Drawn { whole: true, stores: 0, .. }) => note(reached, "whole at once"),
         Ok(Drawn { whole: true, .. }) => note(reached, "whole"),
         Ok(Drawn { stores: 0, .. }) => note(reached, "nothing allowed"),
         Ok(_) => note(reached, "unfinished"),

@@ -37,7 +37,7 @@ fn pictures_and_samples() {
                 }
                 state = next;
             }
-            Stepped::Whole(next, _) => state = next,
+            Stepped::Whole(next, ..) => state = next,
             Stepped::Ended(_) => break,
             other => panic!("{other:?}"),
         }

@@ -64,7 +64,7 @@ fn run(film: &[u8], mut each: impl FnMut(&State, &Stepped)) -> Result<State, Ref
         let stepped = start.step(film);
         each(&before, &stepped);
         match stepped {
-            Stepped::Taken(state, _) | Stepped::Whole(state, _) => start.state = state,
+            Stepped::Taken(state, _) | Stepped::Whole(state, ..) => start.state = state,
             Stepped::Ended(state) => return Ok(state),
             Stepped::Refused(refusal) => return Err(refusal),
             Stepped::Unfinished(..) => panic!("312,000 stores draw any frame"),
@@ -243,11 +243,11 @@ fn assert_only_due_changes(before: &Start, after: &Start, stepped: &Stepped) {
             assert!(before == after, "{stepped:?}: something changed");
             assert_eq!(*state, before.state);
         }
-        Stepped::Unfinished(state, stores) => {
+        Stepped::Unfinished(state, stores, _) => {
             assert_eq!(*state, before.state);
             assert_eq!(*stores, before.allowed);
         }
-        Stepped::Whole(_, stores) => assert!(*stores <= before.allowed),
+        Stepped::Whole(_, stores, _) => assert!(*stores <= before.allowed),
         Stepped::Taken(..) => {
             assert!(before.picture_a == after.picture_a && before.picture_b == after.picture_b);
         }
@@ -290,7 +290,7 @@ fn shown_pictures(
     loop {
         start.allowed = allowed(&mut rng);
         match start.step(film) {
-            Stepped::Taken(state, _) | Stepped::Whole(state, _) => start.state = state,
+            Stepped::Taken(state, _) | Stepped::Whole(state, ..) => start.state = state,
             Stepped::Unfinished(..) => continue,
             Stepped::Ended(_) => return pictures,
             Stepped::Refused(refusal) => panic!("{refusal}"),

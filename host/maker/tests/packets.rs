@@ -1,18 +1,18 @@
 //! What the packet makers reach: every code and form, every number of refusal of checking, odd
 //! block counts; and that valid packets are valid.
 
-use maker::packet::{self, Draft};
+use maker::packet::{self, Draft, Strip};
 use maker::packet_damage::{damaged, Damage};
 use maker::{Form, Packet, Profile, Seeded, Size};
 use reference::packet::Block;
-use reference::{block, check, check_as, source, CallForm, Refusal, Source};
+use reference::{block, check, check_as, source, CallForm, Refusal, Rows, Source};
 use std::collections::BTreeMap;
 
 /// How often each thing must be reached at least.
 const OFTEN: usize = 20;
 
 fn checked(packet: &Packet) -> Result<(), Refusal> {
-    check(packet.columns, packet.rows, &packet.map, &packet.data)
+    check(packet.columns, packet.rows, &packet.map, &packet.data).map(|_| ())
 }
 
 fn blocks(packet: &Packet) -> Vec<Block<'_>> {
@@ -243,4 +243,36 @@ fn seeds() {
         assert_eq!(made(seed), made(seed));
         assert_ne!(made(seed), made(seed + 1));
     }
+}
+
+/// A strip is valid, and its rows are the only ones touched; also by blocks of code 0 alone.
+#[test]
+fn strips() {
+    let mut reached = Vec::new();
+    for seed in 0..1000 {
+        let rng = &mut Seeded::new(seed);
+        let (size, strip) = (Size::small(rng), rng.pick(&Strip::ALL));
+        let draft = Draft::make(rng, size, Profile::Raw).strip(rng, strip);
+        let packet = draft.packet();
+        let touched = check(packet.columns, packet.rows, &packet.map, &packet.data);
+        let rows = touched.unwrap_or_else(|refusal| panic!("{refusal}: {packet:?}"));
+        let last = size.rows - 1;
+        match strip {
+            Strip::Nothing => assert_eq!(rows, None),
+            Strip::FirstRow => assert_eq!(rows, Some(Rows { first: 0, last: 0 })),
+            Strip::LastRow => assert_eq!(rows, Some(Rows { first: last, last })),
+            Strip::Rows => assert!(rows.is_some()),
+            Strip::OneBlock => assert!(rows.is_some_and(|rows| rows.first == rows.last)),
+        }
+        let codes = || draft.blocks.iter().map(|block| block.code);
+        let same = rows.is_some() && codes().all(|code| code <= 1);
+        let part = rows.is_some_and(|rows| rows.first > 0 && rows.last < last);
+        let one = codes().filter(|&code| code != 1).count() == 1;
+        reached.extend([(format!("{strip:?}"), true), ("same".into(), same), ("one".into(), one)]);
+        reached.push(("between".into(), part));
+    }
+    let reached = count(reached.into_iter().filter(|(_, is)| *is).map(|(name, _)| name));
+    let kinds = Strip::ALL.map(|strip| format!("{strip:?}"));
+    let others = ["same", "one", "between"].map(String::from);
+    assert_often(&reached, &[&kinds[..], &others].concat());
 }

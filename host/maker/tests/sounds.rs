@@ -86,7 +86,7 @@ fn run(
             }
         }
         match stepped {
-            Stepped::Taken(state, _) | Stepped::Whole(state, _) => start.state = state,
+            Stepped::Taken(state, _) | Stepped::Whole(state, ..) => start.state = state,
             Stepped::Ended(state) => return Ok(state),
             Stepped::Refused(refusal) => return Err(refusal),
             Stepped::Unfinished(..) => panic!("312,000 stores draw any frame"),
@@ -339,7 +339,7 @@ fn assert_only_due_changes(before: &Start, after: &Start, stepped: &Stepped) {
             assert!(before == after, "{stepped:?}: something changed");
             0
         }
-        Stepped::Ended(state) | Stepped::Unfinished(state, _) => {
+        Stepped::Ended(state) | Stepped::Unfinished(state, ..) => {
             assert_eq!(*state, before.state);
             0
         }
@@ -347,7 +347,7 @@ fn assert_only_due_changes(before: &Start, after: &Start, stepped: &Stepped) {
         Stepped::Whole(..) => 0,
     };
     assert!(before.room[written..] == after.room[written..], "{stepped:?}: the room's rest");
-    if let Stepped::Taken(state, _) | Stepped::Whole(state, _) = stepped {
+    if let Stepped::Taken(state, _) | Stepped::Whole(state, ..) = stepped {
         let sound = state.sound;
         assert_eq!(sound.stream, before.state.sound.stream);
         assert!(sound.has_format || sound == Sound::new(sound.stream), "{sound:?}");

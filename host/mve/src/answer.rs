@@ -1,11 +1,11 @@
 //! The library's answers, which are numbers.
 
-use crate::{Refusal, Sound, State};
+use crate::{Refusal, Rows, Sound, State};
 
-/// What a call answers. The order of the fields is the library's, here and below.
+/// The first numbers of every answer. The order of the fields is the library's, here and below.
 #[repr(C)]
 #[derive(Clone, Copy, Debug)]
-pub(crate) struct Answer {
+pub(crate) struct Outcome {
     /// One of [`kind`].
     pub kind: usize,
     /// The number of a refusal, else 0.
@@ -14,6 +14,33 @@ pub(crate) struct Answer {
     pub block: usize,
     /// Stores made.
     pub stores: usize,
+}
+
+/// The rows of blocks that a packet touches.
+#[repr(C)]
+#[derive(Clone, Copy, Debug)]
+pub(crate) struct Touched {
+    /// 0 where there is none, and then the rows are 0.
+    pub touched: usize,
+    pub first_row: usize,
+    pub last_row: usize,
+}
+
+/// What a check or a drawing call answers.
+#[repr(C)]
+#[derive(Clone, Copy, Debug)]
+pub(crate) struct Answer {
+    pub outcome: Outcome,
+    pub rows: Touched,
+}
+
+/// An answer that is not a refusal.
+#[derive(Clone, Copy, Debug)]
+pub(crate) struct Taken {
+    /// One of [`kind`].
+    pub kind: usize,
+    pub stores: usize,
+    pub rows: Option<Rows>,
 }
 
 /// The kinds of answer.
@@ -31,9 +58,10 @@ pub(crate) mod kind {
 #[repr(C)]
 #[derive(Clone, Copy, Debug)]
 pub(crate) struct Moved {
-    pub answer: Answer,
+    pub outcome: Outcome,
     /// Bytes of samples written to the room's front.
     pub bytes: usize,
+    pub rows: Touched,
     /// The state that comes back: of a refused step the one that went in, of a refused opening
     /// zeros.
     pub state: Numbers,
@@ -65,16 +93,39 @@ pub(crate) struct Numbers {
     pub right: u16,
 }
 
+impl Touched {
+    /// The rows, if any; an outer none where the library does not give such numbers.
+    fn read(self) -> Option<Option<Rows>> {
+        match (self.touched, self.first_row, self.last_row) {
+            (0, 0, 0) => Some(None),
+            (1, first, last) if first <= last => Some(Some(Rows { first, last })),
+            _ => None,
+        }
+    }
+}
+
+impl Outcome {
+    /// What the numbers say; none where the library does not give such numbers. Only a check and a
+    /// drawing have rows.
+    fn read(self, rows: Touched) -> Option<Result<Taken, Refusal>> {
+        let Outcome { kind, number, block, stores } = self;
+        let rows = rows.read()?;
+        match (kind, number, block, stores, rows) {
+            (kind::REFUSED, 1..=19, _, 0, None) => {
+                Some(Err(Refusal { number: number as u8, block }))
+            }
+            (kind::ACCEPTED, 0, 0, 0, _)
+            | (kind::WHOLE | kind::UNFINISHED, 0, 0, _, _)
+            | (kind::ENDED, 0, 0, 0, None) => Some(Ok(Taken { kind, stores, rows })),
+            _ => None,
+        }
+    }
+}
+
 impl Answer {
     /// The answer, if it is not a refusal.
-    pub(crate) fn taken(self) -> Result<Answer, Refusal> {
-        match self {
-            Answer { kind: kind::REFUSED, number: number @ 1..=19, block, stores: 0 } => {
-                Err(Refusal { number: number as u8, block })
-            }
-            Answer { kind: kind::REFUSED, .. } => self.unknown(),
-            _ => Ok(self),
-        }
+    pub(crate) fn taken(self) -> Result<Taken, Refusal> {
+        self.outcome.read(self.rows).unwrap_or_else(|| self.unknown())
     }
 
     /// The library is proved not to give such an answer: another version of it is linked.
@@ -84,12 +135,13 @@ impl Answer {
 }
 
 impl Moved {
-    /// The state, if it is not a refusal; `found` is the state that a refused call gives back.
-    pub(crate) fn taken(self, found: Numbers) -> Result<State, Refusal> {
-        match self.answer.taken() {
-            Err(_) if self.state != found || self.bytes != 0 => self.unknown(),
-            Err(refusal) => Err(refusal),
-            Ok(_) => Ok(self.state.state().unwrap_or_else(|| self.unknown())),
+    /// The state and the answer, if it is not a refusal; `found` is the state that a refused call
+    /// gives back.
+    pub(crate) fn taken(self, found: Numbers) -> Result<(State, Taken), Refusal> {
+        match self.outcome.read(self.rows) {
+            Some(Err(refusal)) if self.state == found && self.bytes == 0 => Err(refusal),
+            Some(Ok(taken)) => Ok((self.state.state().unwrap_or_else(|| self.unknown()), taken)),
+            _ => self.unknown(),
         }
     }
 
@@ -162,16 +214,46 @@ impl From<State> for Numbers {
 mod tests {
     use super::*;
 
+    const NONE: Touched = Touched { touched: 0, first_row: 0, last_row: 0 };
+
+    /// An answer is read, or it panics: the library that is linked is another one.
+    fn read(outcome: Outcome, rows: Touched) -> Option<Result<Option<Rows>, Refusal>> {
+        let answer = Answer { outcome, rows };
+        std::panic::catch_unwind(|| answer.taken().map(|taken| taken.rows)).ok()
+    }
+
     /// A number that is not in the table must not pass as one that is.
     #[test]
     fn refusals() {
-        let refused = |number, stores| Answer { kind: kind::REFUSED, number, block: 2, stores };
-        let known = refused(13, 0).taken();
-        assert_eq!(known.unwrap_err(), Refusal { number: 13, block: 2 });
+        let refused = |number, stores| Outcome { kind: kind::REFUSED, number, block: 2, stores };
+        assert_eq!(read(refused(13, 0), NONE), Some(Err(Refusal { number: 13, block: 2 })));
         for (number, stores) in [(0, 0), (20, 0), (256 + 13, 0), (13, 1)] {
-            let unknown = std::panic::catch_unwind(|| refused(number, stores).taken().map(|_| ()));
-            assert!(unknown.is_err(), "{number} after {stores} stores");
+            assert_eq!(read(refused(number, stores), NONE), None, "{number} after {stores} stores");
         }
+    }
+
+    /// Rows that no packet touches must not pass, and neither must those of a refusal or of an end.
+    #[test]
+    fn rows() {
+        let of = |kind, number| Outcome { kind, number, block: 0, stores: 0 };
+        let rows = |touched, first_row, last_row| Touched { touched, first_row, last_row };
+        for kind in [kind::ACCEPTED, kind::WHOLE, kind::UNFINISHED] {
+            assert_eq!(read(of(kind, 0), NONE), Some(Ok(None)));
+            assert_eq!(
+                read(of(kind, 0), rows(1, 0, 0)),
+                Some(Ok(Some(Rows { first: 0, last: 0 })))
+            );
+            assert_eq!(
+                read(of(kind, 0), rows(1, 3, 5)),
+                Some(Ok(Some(Rows { first: 3, last: 5 })))
+            );
+            for wrong in [rows(1, 5, 3), rows(2, 3, 5), rows(0, 3, 5), rows(0, 0, 5)] {
+                assert_eq!(read(of(kind, 0), wrong), None, "{wrong:?}");
+            }
+        }
+        assert_eq!(read(of(kind::ENDED, 0), NONE), Some(Ok(None)));
+        assert_eq!(read(of(kind::ENDED, 0), rows(1, 3, 5)), None);
+        assert_eq!(read(of(kind::REFUSED, 15), rows(1, 3, 5)), None);
     }
 
     const STATE: State = State {
@@ -218,9 +300,9 @@ mod tests {
     /// A refused step that gives another state back, or has written, must not pass.
     #[test]
     fn refused_states() {
-        let answer = Answer { kind: kind::REFUSED, number: 16, block: 0, stores: 0 };
+        let outcome = Outcome { kind: kind::REFUSED, number: 16, block: 0, stores: 0 };
         let refused = |found, bytes| {
-            let moved = Moved { answer, bytes, state: STATE.into() };
+            let moved = Moved { outcome, bytes, rows: NONE, state: STATE.into() };
             std::panic::catch_unwind(move || moved.taken(found).map(|_| ()))
         };
         assert_eq!(refused(STATE.into(), 0).ok(), Some(Err(Refusal { number: 16, block: 0 })));

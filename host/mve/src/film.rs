@@ -1,8 +1,8 @@
 //! A film: opening it, stepping over it, its sound, and the picture that it shows.
 
-use crate::answer::{kind, Answer, Moved, Numbers};
+use crate::answer::{kind, Numbers, Taken};
 use crate::form::Form;
-use crate::{ffi, Refusal};
+use crate::{ffi, Refusal, Rows};
 
 /// A stream number that no film has: opcodes 03, 08 and 09 are passed over, as by every number from
 /// here on.
@@ -66,11 +66,13 @@ pub enum Step {
     /// A chunk head, or an opcode other than 11, is taken. With the bytes of samples that the step
     /// wrote to the room's front; none but opcodes 08 and 09 of the stream write any.
     Taken(State, usize),
-    /// Opcode 11 is taken and its frame drawn. With the stores that the step made.
-    Whole(State, usize),
+    /// Opcode 11 is taken and its frame drawn. With the stores that the step made, and the rows of
+    /// blocks that the whole packet touches.
+    Whole(State, usize, Option<Rows>),
     /// The stores allowed were used up before opcode 11's frame was drawn; the next step goes on
-    /// with it. With the stores that the step made.
-    Unfinished(State, usize),
+    /// with it. With the stores that the step made, and the rows of blocks that the whole packet
+    /// touches.
+    Unfinished(State, usize, Option<Rows>),
     /// The film is at its end. Nothing has changed.
     Ended(State),
 }
@@ -90,9 +92,18 @@ impl Step {
     pub const fn state(self) -> State {
         match self {
             Step::Taken(state, _)
-            | Step::Whole(state, _)
-            | Step::Unfinished(state, _)
+            | Step::Whole(state, ..)
+            | Step::Unfinished(state, ..)
             | Step::Ended(state) => state,
+        }
+    }
+
+    /// The rows of blocks that the step's packet touches, in the picture that is drawn on. A step that
+    /// does not draw has none.
+    pub const fn rows(self) -> Option<Rows> {
+        match self {
+            Step::Whole(_, _, rows) | Step::Unfinished(_, _, rows) => rows,
+            Step::Taken(..) | Step::Ended(_) => None,
         }
     }
 }
@@ -125,12 +136,9 @@ impl Step {
 /// ```
 pub fn open(film: &[u8], stream: usize) -> Result<State, Refusal> {
     let moved = ffi::open(film, stream);
-    let state = moved.taken(Numbers::default())?;
-    match moved {
-        Moved {
-            answer: Answer { kind: kind::ACCEPTED, number: 0, block: 0, stores: 0 }, ..
-        } if moved.bytes == 0 => Ok(state),
-        other => other.unknown(),
+    match moved.taken(Numbers::default())? {
+        (state, Taken { kind: kind::ACCEPTED, rows: None, .. }) if moved.bytes == 0 => Ok(state),
+        _ => moved.unknown(),
     }
 }
 
@@ -148,7 +156,8 @@ pub fn open(film: &[u8], stream: usize) -> Result<State, Refusal> {
 /// with more, since nothing has changed.
 ///
 /// `allowed` limits the stores of opcode 11; every other step ignores it. No frame has more than
-/// 312,000 stores.
+/// 312,000 stores. The step over opcode 11 tells the rows of blocks that its packet touches in the
+/// picture that is drawn on; both pictures stay as they are outside them.
 ///
 /// # Errors
 ///
@@ -163,7 +172,7 @@ pub fn open(film: &[u8], stream: usize) -> Result<State, Refusal> {
 /// a map of code E; 11, that block's colour; 07, which sends the frame to the display; 01.
 ///
 /// ```
-/// use mve::{open, shown, step, Refusal, State, Step, NO_STREAM};
+/// use mve::{open, shown, step, Refusal, Rows, State, Step, NO_STREAM};
 ///
 /// let film = [
 ///     &b"Interplay MVE File\x1A\0\x1A\0\0\x01\x33\x11"[..],
@@ -184,8 +193,8 @@ pub fn open(film: &[u8], stream: usize) -> Result<State, Refusal> {
 ///     }
 ///     match step(&film, state, &mut palette, &mut a, &mut b, &mut place, &mut [], 312_000)? {
 ///         Step::Ended(_) => break,
-///         Step::Whole(next, stores) => {
-///             assert_eq!(stores, 65);
+///         Step::Whole(next, stores, rows) => {
+///             assert_eq!((stores, rows), (65, Some(Rows { first: 0, last: 0 })));
 ///             assert_eq!(shown(&next, &a, &b), [0; 64]); // drawn, but not sent yet
 ///             state = next;
 ///         }
@@ -288,7 +297,7 @@ pub fn step(
 /// let refused = step_strict(&film, state, &mut palette, &mut a, &mut b, &mut place, &mut [], 65);
 /// assert_eq!(refused, Err(Refusal { number: 15, block: 0 }));
 /// let taken = step(&film, state, &mut palette, &mut a, &mut b, &mut place, &mut [], 65)?;
-/// assert!(matches!(taken, Step::Whole(_, 65)));
+/// assert!(matches!(taken, Step::Whole(_, 65, _)));
 /// assert_eq!(b, [0x2a; 64]);
 /// # Ok::<(), Refusal>(())
 /// ```
@@ -320,18 +329,12 @@ fn stepped(
 ) -> Result<Step, Refusal> {
     let found = Numbers::from(state);
     let moved = ffi::step(form, film, found, palette, a, b, place, room, allowed);
-    let state = moved.taken(found)?;
-    match (moved.answer, moved.bytes) {
-        (Answer { kind: kind::ACCEPTED, number: 0, block: 0, stores: 0 }, bytes) => {
-            Ok(Step::Taken(state, bytes))
-        }
-        (Answer { kind: kind::WHOLE, number: 0, block: 0, stores }, 0) => {
-            Ok(Step::Whole(state, stores))
-        }
-        (Answer { kind: kind::UNFINISHED, number: 0, block: 0, stores }, 0) => {
-            Ok(Step::Unfinished(state, stores))
-        }
-        (Answer { kind: kind::ENDED, number: 0, block: 0, stores: 0 }, 0) => Ok(Step::Ended(state)),
+    let (state, Taken { kind, stores, rows }) = moved.taken(found)?;
+    match (kind, moved.bytes, rows) {
+        (kind::ACCEPTED, bytes, None) => Ok(Step::Taken(state, bytes)),
+        (kind::WHOLE, 0, rows) => Ok(Step::Whole(state, stores, rows)),
+        (kind::UNFINISHED, 0, rows) => Ok(Step::Unfinished(state, stores, rows)),
+        (kind::ENDED, 0, None) => Ok(Step::Ended(state)),
         _ => moved.unknown(),
     }
 }
@@ -394,11 +397,11 @@ mod tests {
             };
             let taken = step(&[HEADER, &[0; 4]].concat(), &mut [0; 768]);
             let moved = State { position: 30, chunk_end: 30, sound, ..state };
-            assert_eq!((taken.answer.kind, taken.state), (kind::ACCEPTED, Numbers::from(moved)));
+            assert_eq!((taken.outcome.kind, taken.state), (kind::ACCEPTED, Numbers::from(moved)));
             let ended = step(HEADER, &mut [0; 768]);
-            assert_eq!((ended.answer.kind, ended.state), (kind::ENDED, numbers));
+            assert_eq!((ended.outcome.kind, ended.state), (kind::ENDED, numbers));
             let refused = step(HEADER, &mut []);
-            assert_eq!((refused.answer.number, refused.state), (8, numbers));
+            assert_eq!((refused.outcome.number, refused.state), (8, numbers));
         }
     }
 }

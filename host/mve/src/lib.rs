@@ -10,7 +10,9 @@
 //! to show.
 //!
 //! A frame comes as a packet: a map with a code for each 8x8 block, and the blocks' data. [`check`]
-//! tells whether a packet is valid, [`draw`] draws it, at once or in pieces.
+//! tells whether a packet is valid, [`draw`] draws it, at once or in pieces. Both, and [`step`], tell
+//! the [`Rows`] of blocks that the packet touches, so that a display with a slow link need not be sent
+//! the others.
 //!
 //! Many films pad a packet to an even length, so these calls accept one byte left over behind the
 //! blocks' data. [`check_strict`], [`draw_strict`] and [`step_strict`] accept none: they are for the
@@ -22,7 +24,8 @@
 //! let front = [0; 64];
 //! let (mut back, mut place) = ([0; 64], 0);
 //! let drawn = mve::draw(1, 1, &map, &data, &front, &mut back, &mut place, 312_000)?;
-//! assert_eq!(drawn, mve::Drawn::Whole { stores: 65 });
+//! let rows = Some(mve::Rows { first: 0, last: 0 });
+//! assert_eq!(drawn, mve::Drawn::Whole { stores: 65, rows });
 //! assert_eq!(back[..32], [0x11; 32]);
 //! for row in back[32..48].chunks(8) {
 //!     assert_eq!(row, [0x11, 0x11, 0x22, 0x22, 0x22, 0x22, 0x22, 0x22]);
@@ -39,7 +42,9 @@ mod film;
 mod form;
 mod packet;
 mod refusal;
+mod rows;
 
 pub use film::{open, shown, step, step_strict, Sound, State, Step, NO_STREAM, ROOM_BYTES};
 pub use packet::{check, check_strict, draw, draw_strict, Drawn};
 pub use refusal::Refusal;
+pub use rows::Rows;

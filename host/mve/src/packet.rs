@@ -1,14 +1,17 @@
 //! A packet, the map and the data of one frame: checking and drawing it.
 
-use crate::answer::{kind, Answer};
+use crate::answer::{kind, Taken};
 use crate::form::Form;
-use crate::{ffi, Refusal};
+use crate::{ffi, Refusal, Rows};
 
 /// Checks a packet for a frame of `columns` by `rows` blocks, each 8x8 pixels.
 ///
 /// The map has one nibble for each block, low nibble first; the data has the blocks' bytes in the
 /// same order. One byte may be left over behind them, since many films pad a packet to an even length;
 /// it is not read. [`check_strict`] accepts none.
+///
+/// Of an accepted packet it tells the rows of blocks that drawing touches: from the first to the last
+/// one, counted from 0, that holds a block other than code 1; `None` where every block is code 1.
 ///
 /// # Errors
 ///
@@ -22,8 +25,8 @@ use crate::{ffi, Refusal};
 /// ```
 /// use mve::{check, Refusal};
 ///
-/// assert_eq!(check(80, 1, &[0x11; 40], &[]), Ok(()));
-/// assert_eq!(check(1, 60, &[0x11; 30], &[]), Ok(()));
+/// assert_eq!(check(80, 1, &[0x11; 40], &[]), Ok(None));
+/// assert_eq!(check(1, 60, &[0x11; 30], &[]), Ok(None));
 /// for (columns, rows) in [(0, 1), (81, 1), (1, 0), (1, 61)] {
 ///     let map = [0x11; 41];
 ///     assert_eq!(check(columns, rows, &map, &[]), Err(Refusal { number: 6, block: 0 }));
@@ -34,8 +37,8 @@ use crate::{ffi, Refusal};
 /// block itself.
 ///
 /// ```
-/// # use mve::{check, Refusal};
-/// assert_eq!(check(1, 1, &[0x05], &[0x00, 0x00]), Ok(()));
+/// # use mve::{check, Refusal, Rows};
+/// assert_eq!(check(1, 1, &[0x05], &[0x00, 0x00]), Ok(Some(Rows { first: 0, last: 0 })));
 /// assert_eq!(check(1, 1, &[0x05], &[0x01, 0x00]), Err(Refusal { number: 14, block: 0 }));
 /// ```
 ///
@@ -43,10 +46,23 @@ use crate::{ffi, Refusal};
 ///
 /// ```
 /// # use mve::{check, Refusal};
-/// assert_eq!(check(1, 1, &[0x0E], &[7, 0]), Ok(()));
+/// assert!(check(1, 1, &[0x0E], &[7, 0]).is_ok());
 /// assert_eq!(check(1, 1, &[0x0E], &[7, 0, 0]), Err(Refusal { number: 15, block: 0 }));
 /// ```
-pub fn check(columns: usize, rows: usize, map: &[u8], data: &[u8]) -> Result<(), Refusal> {
+///
+/// Two columns and four rows. The second row has a block of code 0, the third one of code E; the
+/// others stay as they are.
+///
+/// ```
+/// # use mve::{check, Rows};
+/// assert_eq!(check(2, 4, &[0x11, 0x01, 0x1E, 0x11], &[7]), Ok(Some(Rows { first: 1, last: 2 })));
+/// ```
+pub fn check(
+    columns: usize,
+    rows: usize,
+    map: &[u8],
+    data: &[u8],
+) -> Result<Option<Rows>, Refusal> {
     checked(Form::Default, columns, rows, map, data)
 }
 
@@ -64,11 +80,16 @@ pub fn check(columns: usize, rows: usize, map: &[u8], data: &[u8]) -> Result<(),
 /// ```
 /// use mve::{check, check_strict, Refusal};
 ///
-/// assert_eq!(check_strict(1, 1, &[0x0E], &[7]), Ok(()));
+/// assert!(check_strict(1, 1, &[0x0E], &[7]).is_ok());
 /// assert_eq!(check_strict(1, 1, &[0x0E], &[7, 0]), Err(Refusal { number: 15, block: 0 }));
-/// assert_eq!(check(1, 1, &[0x0E], &[7, 0]), Ok(()));
+/// assert!(check(1, 1, &[0x0E], &[7, 0]).is_ok());
 /// ```
-pub fn check_strict(columns: usize, rows: usize, map: &[u8], data: &[u8]) -> Result<(), Refusal> {
+pub fn check_strict(
+    columns: usize,
+    rows: usize,
+    map: &[u8],
+    data: &[u8],
+) -> Result<Option<Rows>, Refusal> {
     checked(Form::Strict, columns, rows, map, data)
 }
 
@@ -78,25 +99,33 @@ fn checked(
     rows: usize,
     map: &[u8],
     data: &[u8],
-) -> Result<(), Refusal> {
-    match ffi::check(form, columns, rows, map, data).taken()? {
-        Answer { kind: kind::ACCEPTED, number: 0, block: 0, stores: 0 } => Ok(()),
-        other => other.unknown(),
+) -> Result<Option<Rows>, Refusal> {
+    let answer = ffi::check(form, columns, rows, map, data);
+    match answer.taken()? {
+        Taken { kind: kind::ACCEPTED, rows, .. } => Ok(rows),
+        _ => answer.unknown(),
     }
 }
 
 /// How far a drawing call came.
+///
+/// The rows are those that [`check`] tells of the packet, wherever the call began and ended: `None`
+/// where it touches none.
 #[derive(Clone, Copy, Debug, PartialEq, Eq, Hash)]
 pub enum Drawn {
     /// The frame is drawn: the place is the block count.
     Whole {
         /// Stores that the call made.
         stores: usize,
+        /// Rows of blocks that the packet touches.
+        rows: Option<Rows>,
     },
     /// The stores allowed were used up before.
     Unfinished {
         /// Stores that the call made.
         stores: usize,
+        /// Rows of blocks that the packet touches.
+        rows: Option<Rows>,
     },
 }
 
@@ -112,7 +141,22 @@ impl Drawn {
     /// ```
     pub const fn stores(self) -> usize {
         match self {
-            Drawn::Whole { stores } | Drawn::Unfinished { stores } => stores,
+            Drawn::Whole { stores, .. } | Drawn::Unfinished { stores, .. } => stores,
+        }
+    }
+
+    /// Rows of blocks that the packet touches; the call has changed no other.
+    ///
+    /// ```
+    /// // One column of three rows: code 1, code E, code 1. No store is allowed.
+    /// let mut back = [5; 192];
+    /// let drawn = mve::draw(1, 3, &[0xE1, 0x01], &[7], &[0; 192], &mut back, &mut 0, 0)?;
+    /// assert_eq!(drawn.rows(), Some(mve::Rows { first: 1, last: 1 }));
+    /// # Ok::<(), mve::Refusal>(())
+    /// ```
+    pub const fn rows(self) -> Option<Rows> {
+        match self {
+            Drawn::Whole { rows, .. } | Drawn::Unfinished { rows, .. } => rows,
         }
     }
 }
@@ -143,12 +187,13 @@ impl Drawn {
 /// stores the left block is finished and the right one has its first 10 pixels.
 ///
 /// ```
-/// use mve::{draw, Drawn};
+/// use mve::{draw, Drawn, Rows};
 ///
+/// let rows = Some(Rows { first: 0, last: 0 });
 /// let (map, data, front) = ([0xE2], [0x00, 0x07], [0; 128]);
 /// let (mut back, mut place) = ([5; 128], 0);
 /// let drawn = draw(2, 1, &map, &data, &front, &mut back, &mut place, 75)?;
-/// assert_eq!(drawn, Drawn::Unfinished { stores: 75 });
+/// assert_eq!(drawn, Drawn::Unfinished { stores: 75, rows });
 /// assert_eq!(place, 1);
 /// assert_eq!(back[..16], [5, 5, 5, 5, 5, 5, 5, 5, 7, 7, 7, 7, 7, 7, 7, 7]);
 /// assert_eq!(back[16..32], [5, 5, 5, 5, 5, 5, 5, 5, 7, 7, 5, 5, 5, 5, 5, 5]);
@@ -156,7 +201,7 @@ impl Drawn {
 ///
 /// // The left block is not drawn again: it would now be 7.
 /// let drawn = draw(2, 1, &map, &data, &front, &mut back, &mut place, 75)?;
-/// assert_eq!(drawn, Drawn::Whole { stores: 65 });
+/// assert_eq!(drawn, Drawn::Whole { stores: 65, rows });
 /// assert_eq!(place, 2);
 /// for row in back.chunks(16) {
 ///     assert_eq!(row, [[5; 8], [7; 8]].concat());
@@ -167,10 +212,10 @@ impl Drawn {
 /// The same in one call.
 ///
 /// ```
-/// # use mve::{draw, Drawn};
+/// # use mve::draw;
 /// let (mut back, mut place) = ([5; 128], 0);
 /// let drawn = draw(2, 1, &[0xE2], &[0, 7], &[0; 128], &mut back, &mut place, 312_000)?;
-/// assert_eq!(drawn, Drawn::Whole { stores: 130 });
+/// assert_eq!(drawn.stores(), 130);
 /// # Ok::<(), mve::Refusal>(())
 /// ```
 #[allow(clippy::too_many_arguments)] // a packet, what is lent, and how far to go
@@ -199,7 +244,7 @@ pub fn draw(
 /// # Examples
 ///
 /// ```
-/// use mve::{draw, draw_strict, Drawn, Refusal};
+/// use mve::{draw, draw_strict, Refusal};
 ///
 /// // A solid block, and a byte that pads the packet.
 /// let (map, padded, front) = ([0x0E], [7, 99], [0; 64]);
@@ -209,7 +254,7 @@ pub fn draw(
 /// assert_eq!((back, place), ([5; 64], 0));
 ///
 /// let drawn = draw(1, 1, &map, &padded, &front, &mut back, &mut place, 65)?;
-/// assert_eq!(drawn, Drawn::Whole { stores: 65 });
+/// assert_eq!(drawn.stores(), 65);
 /// assert_eq!((back, place), ([7; 64], 1));
 /// # Ok::<(), mve::Refusal>(())
 /// ```
@@ -239,11 +284,10 @@ fn drawn(
     place: &mut usize,
     allowed: usize,
 ) -> Result<Drawn, Refusal> {
-    match ffi::draw(form, columns, rows, map, data, front, back, place, allowed).taken()? {
-        Answer { kind: kind::WHOLE, number: 0, block: 0, stores } => Ok(Drawn::Whole { stores }),
-        Answer { kind: kind::UNFINISHED, number: 0, block: 0, stores } => {
-            Ok(Drawn::Unfinished { stores })
-        }
-        other => other.unknown(),
+    let answer = ffi::draw(form, columns, rows, map, data, front, back, place, allowed);
+    match answer.taken()? {
+        Taken { kind: kind::WHOLE, stores, rows } => Ok(Drawn::Whole { stores, rows }),
+        Taken { kind: kind::UNFINISHED, stores, rows } => Ok(Drawn::Unfinished { stores, rows }),
+        _ => answer.unknown(),
     }
 }

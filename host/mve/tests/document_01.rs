@@ -3,13 +3,13 @@
 //! hand from its bytes, with fields from the low end of each byte (document 02, W3). (Those that
 //! stand as examples in the documentation are run there.)
 
-use mve::{check, draw, open, step, Drawn, Refusal, Step, NO_STREAM};
+use mve::{check, draw, open, step, Refusal, Step, NO_STREAM};
 
 /// The picture that a single block of this code and data gives.
 fn block(code: u8, data: &[u8]) -> [u8; 64] {
     let (mut back, mut place) = ([0; 64], 0);
     let drawn = draw(1, 1, &[code], data, &[0; 64], &mut back, &mut place, 65);
-    assert_eq!(drawn, Ok(Drawn::Whole { stores: 65 }));
+    assert_eq!(drawn.map(|drawn| drawn.stores()), Ok(65));
     assert_eq!(place, 1);
     back
 }
@@ -113,7 +113,7 @@ fn gradient() {
 fn map_low_nibble_first() {
     let (mut back, mut place) = ([5; 128], 0);
     let drawn = draw(2, 1, &[0xE1], &[7], &[0; 128], &mut back, &mut place, 312_000);
-    assert_eq!(drawn, Ok(Drawn::Whole { stores: 66 }));
+    assert_eq!((drawn.map(|drawn| drawn.stores()), place), (Ok(66), 2));
     for row in back.chunks(16) {
         assert_eq!(row, [[5; 8], [7; 8]].concat());
     }
@@ -159,7 +159,7 @@ fn empty_slices() {
     let refused = |number| Err(Refusal { number, block: 0 });
     assert_eq!(check(0, 0, &[], &[]), refused(6));
     assert_eq!(check(1, 1, &[], &[]), refused(10));
-    assert_eq!(check(1, 1, &[0x01], &[]), Ok(()));
+    assert_eq!(check(1, 1, &[0x01], &[]), Ok(None));
     assert_eq!(check(1, 1, &[0x0E], &[]), refused(13));
     let mut place = 0;
     assert_eq!(

@@ -2,7 +2,7 @@
 //! from the low end of each byte, bytes in the same order." Every form of these codes is drawn from
 //! bytes that read differently from either end. The rows are worked out by hand from the documents.
 
-use mve::{draw, Drawn};
+use mve::draw;
 
 /// Bytes from hex digits and blanks.
 fn hex(text: &str) -> Vec<u8> {
@@ -15,13 +15,14 @@ fn hex(text: &str) -> Vec<u8> {
 fn assert_rows(code: u8, data: &str, rows: &[&str]) {
     let (mut back, mut place) = ([0; 64], 0);
     let drawn = draw(1, 1, &[code], &hex(data), &[0; 64], &mut back, &mut place, 65);
-    assert_eq!(drawn, Ok(Drawn::Whole { stores: 65 }));
+    assert_eq!(drawn.map(|drawn| drawn.stores()), Ok(65));
+    assert_eq!(place, 1);
     for (y, row) in back.chunks(8).enumerate() {
         assert_eq!(row, hex(rows[y.min(rows.len() - 1)]), "row {y}");
     }
 }
 
-/// 7. A byte is a row, or a nibble is a row of 2x2 fields, the low one above: 2 is 0010, from the low
+/// Code 7. A byte is a row, or a nibble is a row of 2x2 fields, the low one above: 2 is 0010, from the low
 /// end 0 1 0 0; b is 1011, from the low end 1 1 0 1.
 #[test]
 fn two_colours() {

@@ -2,8 +2,8 @@
 //! worked out by hand from the documents.
 
 use mve::{
-    check, check_strict, draw, draw_strict, open, step, step_strict, Drawn, Refusal, State, Step,
-    NO_STREAM,
+    check, check_strict, draw, draw_strict, open, step, step_strict, Drawn, Refusal, Rows, State,
+    Step, NO_STREAM,
 };
 
 fn refused<T>(number: u8, block: usize) -> Result<T, Refusal> {
@@ -18,7 +18,7 @@ struct Packet<'a> {
     data: &'a [u8],
 }
 
-type CheckCall = fn(usize, usize, &[u8], &[u8]) -> Result<(), Refusal>;
+type CheckCall = fn(usize, usize, &[u8], &[u8]) -> Result<Option<Rows>, Refusal>;
 type DrawCall =
     fn(usize, usize, &[u8], &[u8], &[u8], &mut [u8], &mut usize, usize) -> Result<Drawn, Refusal>;
 type StepCall = fn(
@@ -41,6 +41,9 @@ struct Form {
 
 const DEFAULT: Form = Form { check, draw, step };
 const STRICT: Form = Form { check: check_strict, draw: draw_strict, step: step_strict };
+
+/// The rows of a packet for a row of blocks that touches any.
+const ROW: Option<Rows> = Some(Rows { first: 0, last: 0 });
 
 /// What a drawing answers, and the picture and the place that it leaves.
 type Left = (Result<Drawn, Refusal>, Vec<u8>, usize);
@@ -68,21 +71,22 @@ impl Form {
             state = take(state).expect("nothing is drawn yet").state();
         }
         let answer = take(state).map(|step| match step {
-            Step::Whole(next, stores) => {
+            Step::Whole(next, stores, rows) => {
                 assert_eq!(next, State { position: film.len(), map: None, unsent: true, ..state });
-                Drawn::Whole { stores }
+                Drawn::Whole { stores, rows }
             }
             other => panic!("{other:?}"),
         });
         (answer, b, place)
     }
 
-    /// All three calls accept a packet, and draw this.
+    /// All three calls accept a packet, and draw this: the only row, if any block is not code 1.
     #[track_caller]
     fn accepts(&self, packet: Packet<'_>, picture: &[u8], stores: usize) {
         let Packet { columns, map, data } = packet;
-        assert_eq!((self.check)(columns, 1, map, data), Ok(()), "{data:x?}");
-        let whole = (Ok(Drawn::Whole { stores }), picture.to_vec(), columns);
+        let rows = if stores > columns { ROW } else { None };
+        assert_eq!((self.check)(columns, 1, map, data), Ok(rows), "{data:x?}");
+        let whole = (Ok(Drawn::Whole { stores, rows }), picture.to_vec(), columns);
         assert_eq!(self.drawn(packet), whole, "{data:x?}");
         assert_eq!(self.stepped(packet), whole, "{data:x?}");
     }
@@ -131,7 +135,7 @@ fn one_byte_is_accepted() {
     DEFAULT.accepts(Packet { columns: 1, map: &[0x01], data: &[0] }, &[5; 64], 1);
     DEFAULT.accepts(Packet { columns: 1, map: &[0x00], data: &[0] }, &[1; 64], 65);
     // The largest frame.
-    assert_eq!(check(80, 60, &[0x11; 2400], &[0]), Ok(()));
+    assert_eq!(check(80, 60, &[0x11; 2400], &[0]), Ok(None));
 }
 
 /// A block that lacks a byte is not helped, and a byte that a block has is not one left over.
@@ -155,7 +159,7 @@ fn strict_form() {
     }
     STRICT.accepts(Packet { columns: 1, map: &[0x01], data: &[] }, &[5; 64], 1);
     STRICT.refuses(Packet { columns: 1, map: &[0x01], data: &[0] }, 15, 0);
-    assert_eq!(check_strict(80, 60, &[0x11; 2400], &[]), Ok(()));
+    assert_eq!(check_strict(80, 60, &[0x11; 2400], &[]), Ok(None));
     assert_eq!(check_strict(80, 60, &[0x11; 2400], &[0]), refused(15, 0));
 }
 
@@ -208,7 +212,7 @@ fn every_last_block() {
                 let expected = if over <= most { Ok(()) } else { refused(15, 0) };
                 let packet = Packet { columns, map, data: &data };
                 let answers = [
-                    (form.check)(columns, 1, map, &data),
+                    (form.check)(columns, 1, map, &data).map(|_| ()),
                     form.drawn(packet).0.map(|_| ()),
                     form.stepped(packet).0.map(|_| ()),
                 ];
@@ -227,8 +231,8 @@ fn last_blocks_copied_from_back() {
         let map = [0xE | code << 4];
         (check(2, 1, &map, &data), check_strict(2, 1, &map, &data))
     };
-    assert_eq!(copied(0x3, 0), (Ok(()), Ok(())));
-    assert_eq!(copied(0x3, 1), (Ok(()), refused(15, 0)));
+    assert_eq!(copied(0x3, 0), (Ok(ROW), Ok(ROW)));
+    assert_eq!(copied(0x3, 1), (Ok(ROW), refused(15, 0)));
     assert_eq!(copied(0x3, 2), (refused(15, 0), refused(15, 0)));
     DEFAULT.accepts(Packet { columns: 2, map: &[0x3E], data: &[9, 0, 3] }, &[9; 128], 130);
     for over in 0..4 {
@@ -269,7 +273,7 @@ fn stops() {
     let (map, padded, front) = ([0xE2], [0x00, 0x07, 0xAA], [1; 128]);
     let (mut back, mut place) = ([5; 128], 0);
     let answer = draw(2, 1, &map, &padded, &front, &mut back, &mut place, 75);
-    assert_eq!((answer, place), (Ok(Drawn::Unfinished { stores: 75 }), 1));
+    assert_eq!((answer, place), (Ok(Drawn::Unfinished { stores: 75, rows: ROW }), 1));
     assert_eq!(back[..16], two_blocks()[..16]);
     assert_eq!(back[16..32], [5, 5, 5, 5, 5, 5, 5, 5, 7, 7, 5, 5, 5, 5, 5, 5]);
     assert_eq!(back[32..], [5; 96]);
@@ -279,7 +283,7 @@ fn stops() {
     assert_eq!((strict, back, place), (refused(15, 0), left, 1));
 
     let answer = draw(2, 1, &map, &padded, &front, &mut back, &mut place, 75);
-    assert_eq!((answer, place), (Ok(Drawn::Whole { stores: 65 }), 2));
+    assert_eq!((answer, place), (Ok(Drawn::Whole { stores: 65, rows: ROW }), 2));
     assert_eq!(back[..], two_blocks());
     // The frame is finished, and the packet is still judged.
     let strict = draw_strict(2, 1, &map, &padded, &front, &mut back, &mut place, 0);

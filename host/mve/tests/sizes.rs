@@ -57,7 +57,7 @@ fn limits() {
         let (u, v) = (columns as usize, rows as usize);
         let map = vec![0x11; (u * v).div_ceil(2)];
         assert!(sized(&film(columns, rows)).is_ok(), "{columns}x{rows}");
-        assert_eq!(check(u, v, &map, &[]), Ok(()), "{columns}x{rows}");
+        assert_eq!(check(u, v, &map, &[]), Ok(None), "{columns}x{rows}");
         let (front, mut back, mut place) = (vec![0; 64 * u * v], vec![0; 64 * u * v], 0);
         let drawn = draw(u, v, &map, &[], &front, &mut back, &mut place, 312_000);
         assert_eq!(drawn.map(|drawn| drawn.stores()), Ok(u * v), "{columns}x{rows}");

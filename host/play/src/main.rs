@@ -3,6 +3,9 @@
 //! `play FILM FOLDER ALLOWANCE [STREAM [EVERY]]` writes each picture that the film sends to FOLDER,
 //! as 000000.ppm, 000001.ppm and so on, and the sound of stream STREAM (0 to 15, 0 if it is not
 //! given; above 15 none) as 000000.wav; where format or rate changes 000001.wav begins, and so on.
+//! The heading of each picture says, in a line like "# rows 3 to 5" or "# rows none", which rows of
+//! blocks were touched since this one of the two pictures was last sent: all that a display with a
+//! copy of each needs to be sent.
 //! FOLDER must be there and hold no name that ends in .ppm or .wav. Every step is allowed ALLOWANCE
 //! stores; when they do not suffice, the player is stopped as a watchdog would stop it, and goes on.
 //! If EVERY is given, it is also stopped at every so many opcodes of sound, when what they give is
@@ -11,8 +14,9 @@
 //! in C.
 
 mod sound;
+mod unsent;
 
-use mve::{Refusal, State, Step};
+use mve::{Refusal, Rows, State, Step};
 use sound::{Failed, Format, Sound};
 use std::env;
 use std::ffi::{OsStr, OsString};
@@ -22,6 +26,7 @@ use std::io;
 use std::path::{Path, PathBuf};
 use std::process::ExitCode;
 use std::sync::atomic::{AtomicUsize, Ordering};
+use unsent::Unsent;
 
 /// The bytes of the largest picture: 80 by 60 blocks of 8x8 pixels.
 const LARGEST_PICTURE: usize = 80 * 60 * 64;
@@ -35,6 +40,8 @@ const LEAST_EVERY: usize = 2;
 struct Saved {
     state: State,
     sound: Sound,
+    /// A stop may fall between drawing and sending.
+    unsent: Unsent,
 }
 
 /// All that a stop leaves, beside the files. In a real player it lies in memory that outlives the
@@ -99,7 +106,7 @@ impl From<Failed> for Failure {
 impl Kept {
     fn new(first: State) -> Kept {
         Kept {
-            slots: [Saved { state: first, sound: Sound::NONE }; 2],
+            slots: [Saved { state: first, sound: Sound::NONE, unsent: Unsent::NONE }; 2],
             saved: AtomicUsize::new(0),
             palette: [0; 768],
             a: vec![0; LARGEST_PICTURE],
@@ -147,7 +154,7 @@ fn watch(arguments: &Arguments) -> Result<(), Failure> {
     while let Run::Stopped = run(&mut kept, arguments, &mut watchdog)? {
         watchdog.stops += 1;
     }
-    let Saved { state: State { position, .. }, sound: Sound { files, .. } } = kept.load();
+    let Saved { state: State { position, .. }, sound: Sound { files, .. }, .. } = kept.load();
     let (pictures, stops) = (count_pictures(&arguments.folder), watchdog.stops);
     tell(
         arguments,
@@ -182,7 +189,7 @@ fn run(kept: &mut Kept, arguments: &Arguments, watchdog: &mut Watchdog) -> Resul
     let film = fs::read(&arguments.film).map_err(Failure::Film)?;
     let mut room = vec![0; mve::ROOM_BYTES]; // need not outlive a stop
     loop {
-        let Saved { state, sound } = kept.load();
+        let Saved { state, sound, mut unsent } = kept.load();
         let Kept { palette, a, b, place, .. } = kept;
         let step = mve::step(&film, state, palette, a, b, place, &mut room, arguments.allowance);
         let step = match step {
@@ -193,24 +200,29 @@ fn run(kept: &mut Kept, arguments: &Arguments, watchdog: &mut Watchdog) -> Resul
             }
         };
         let (next, bytes) = match step {
+            // The next run goes on with the packet, and is told the same rows at its end.
             Step::Unfinished(..) => return Ok(Run::Stopped),
             Step::Ended(_) => {
                 sound.finish(&arguments.folder)?;
                 return Ok(Run::Ended);
             }
             Step::Taken(next, bytes) => (next, bytes),
-            Step::Whole(next, _) => (next, 0),
+            Step::Whole(next, _, rows) => {
+                unsent.touch(state.front, rows);
+                (next, 0)
+            }
         };
         let format = format_of(&film, &state, &next);
         let sound = write_sound(sound, format, &room[..bytes], &arguments.folder)?;
         // A picture is sent by the step that leaves no frame unsent where one was (opcode 07).
         if state.unsent && !next.unsent {
-            write_picture(kept, &next, arguments, film.len())?;
+            let rows = unsent.send(next.front);
+            write_picture(kept, &next, rows, arguments, film.len())?;
         }
         if (format.is_some() || bytes > 0) && watchdog.stops_at_sound(arguments.every) {
             return Ok(Run::Stopped);
         }
-        kept.save(Saved { state: next, sound });
+        kept.save(Saved { state: next, sound, unsent });
     }
 }
 
@@ -240,18 +252,19 @@ fn write_sound(
     }
 }
 
-/// Writes the shown picture under the first free number. It gets its number when it is written in
-/// full, so that a stop leaves no half picture that counts.
+/// Writes the shown picture under the first free number, with the rows touched since it was last sent.
+/// It gets its number when it is written in full, so that a stop leaves no half picture that counts.
 fn write_picture(
     kept: &Kept,
     state: &State,
+    rows: Option<Rows>,
     arguments: &Arguments,
     film_length: usize,
 ) -> Result<(), Failure> {
     let number = count_pictures(&arguments.folder);
     let path = picture_path(&arguments.folder, number);
     let part = arguments.folder.join("picture.part");
-    let written = fs::write(&part, ppm(kept, state)).and_then(|()| fs::rename(&part, &path));
+    let written = fs::write(&part, ppm(kept, state, rows)).and_then(|()| fs::rename(&part, &path));
     if let Err(error) = written {
         let _ = fs::remove_file(&part); // it is the first error that is told
         return Err(Failure::Output(path, error));
@@ -261,9 +274,14 @@ fn write_picture(
     Ok(())
 }
 
-/// The shown picture as a PPM file, whose heading has the size in pixels.
-fn ppm(kept: &Kept, state: &State) -> Vec<u8> {
-    let mut bytes = format!("P6\n{} {}\n255\n", 8 * state.columns, 8 * state.rows).into_bytes();
+/// The shown picture as a PPM file, whose heading has the rows, as a comment, and the size in pixels.
+fn ppm(kept: &Kept, state: &State, rows: Option<Rows>) -> Vec<u8> {
+    let rows = match rows {
+        Some(Rows { first, last }) => format!("{first} to {last}"),
+        None => "none".to_string(),
+    };
+    let (width, height) = (8 * state.columns, 8 * state.rows);
+    let mut bytes = format!("P6\n# rows {rows}\n{width} {height}\n255\n").into_bytes();
     for &pixel in mve::shown(state, &kept.a, &kept.b) {
         let colour = &kept.palette[3 * usize::from(pixel)..][..3];
         bytes.extend(colour.iter().copied().map(scaled));

@@ -48,8 +48,13 @@ fn long_and_large_films() {
         [(long, &ALLOWANCES[..], "128 96"), (large, &ALLOWANCES[2..], "640 480")]
     {
         let played = pictures::play(&film, NO_STREAM);
-        let heading = format!("P6\n{sides}\n255\n");
-        assert!(played.pictures.iter().all(|picture| picture.starts_with(heading.as_bytes())));
+        let size = format!("\n{sides}\n255\n");
+        let has_size = |picture: &Vec<u8>| {
+            let rows = picture.strip_prefix(b"P6\n# rows ").expect("a heading");
+            let end = rows.iter().position(|&byte| byte == b'\n').expect("a line");
+            rows[end..].starts_with(size.as_bytes())
+        };
+        assert!(played.pictures.iter().all(has_size));
         for &allowance in allowances {
             assert_played("long_and_large_films", &film, &played, &silent(allowance));
         }

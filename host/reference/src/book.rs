@@ -86,8 +86,7 @@ impl Book {
             self.make(store);
             stores += 1;
         }
-        let whole = self.place == size.blocks();
-        Ok(Drawn { whole, stores })
+        Ok(Drawn::new(&blocks, self.place, stores))
     }
 
     fn make(&mut self, store: Store) {

@@ -1,8 +1,8 @@
 //! The film: header, chunks, opcodes, one step, the shown picture
-//! (01, "Film, chunks, opcodes" and "Numbers of refusal"; 02, W1, W5 and W6).
+//! (01, "Film, chunks, opcodes" and "Numbers of refusal"; 02, W1, W2, W5 and W6).
 
 use crate::frame::FrameSize;
-use crate::packet::{self, CallForm};
+use crate::packet::{self, CallForm, Rows};
 use crate::palette;
 use crate::refusal::{self, Refusal};
 use crate::sound::{self, Sound};
@@ -138,10 +138,12 @@ pub enum Stepped {
     /// A chunk head or an opcode other than 11 was taken. With the bytes written to the room's
     /// front, which only chosen sound has.
     Taken(State, usize),
-    /// Opcode 11 was taken: its frame is whole. With the stores made.
-    Whole(State, usize),
-    /// Opcode 11 drew as many stores as allowed and is to be stepped again. With the stores made.
-    Unfinished(State, usize),
+    /// Opcode 11 was taken: its frame is whole. With the stores made, and the rows that its packet
+    /// touches.
+    Whole(State, usize, Option<Rows>),
+    /// Opcode 11 drew as many stores as allowed and is to be stepped again. With the stores made, and
+    /// the rows that the whole packet touches.
+    Unfinished(State, usize, Option<Rows>),
     /// The film is at its end; nothing changed.
     Ended(State),
     /// The step was refused; nothing changed.
@@ -238,7 +240,7 @@ pub fn step_as(
     let allowance = Allowance { stores: allowed, form };
     match take_step(film, state, &mut lent, allowance) {
         Ok(Stepped::Taken(after, bytes)) => Stepped::Taken(after.settled(), bytes),
-        Ok(Stepped::Whole(after, stores)) => Stepped::Whole(after.settled(), stores),
+        Ok(Stepped::Whole(after, stores, rows)) => Stepped::Whole(after.settled(), stores, rows),
         Ok(stays) => stays,
         Err(refusal) => Stepped::Refused(refusal),
     }
@@ -450,8 +452,8 @@ fn draw_video(
     let drawn = packet::draw_as(form, columns, rows, map, packet, front, back, lent.place, stores)?;
     Ok(if drawn.whole {
         let after = State { map: None, unsent: true, ..moved };
-        Stepped::Whole(after, drawn.stores)
+        Stepped::Whole(after, drawn.stores, drawn.rows)
     } else {
-        Stepped::Unfinished(state, drawn.stores)
+        Stepped::Unfinished(state, drawn.stores, drawn.rows)
     })
 }

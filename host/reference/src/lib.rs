@@ -34,5 +34,5 @@ pub mod sound;
 pub mod steps;
 
 pub use block::{source, Source};
-pub use packet::{check, check_as, draw, draw_as, CallForm, Drawn};
+pub use packet::{check, check_as, draw, draw_as, CallForm, Drawn, Rows};
 pub use refusal::Refusal;

@@ -42,7 +42,7 @@ fn lines(film: &[u8], opened: State) -> String {
             room: &mut [],
         };
         match film::step(film, state, lent, STORES_A_STEP) {
-            Stepped::Taken(after, _) | Stepped::Whole(after, _) => {
+            Stepped::Taken(after, _) | Stepped::Whole(after, ..) => {
                 lines += &opcode_line(film, &state);
                 if after.pixels() > MAX_PIXELS {
                     return lines + TOO_LARGE;
@@ -50,7 +50,7 @@ fn lines(film: &[u8], opened: State) -> String {
                 state = after;
             }
             // Not met: no frame has more stores than a step is allowed.
-            Stepped::Unfinished(same, _) => state = same,
+            Stepped::Unfinished(same, ..) => state = same,
             Stepped::Ended(_) => return lines + &format!("ended {}\n", film.len()),
             Stepped::Refused(refusal) => {
                 return lines + &format!("refused {} {}\n", refusal.number, state.position);

@@ -1,5 +1,5 @@
 //! A packet: the map and the data of one frame. Checking it, and drawing it store by store
-//! (01, "Packet, blocks, place"; what may be left over: 02, W6).
+//! (01, "Packet, blocks, place"; touched rows: 02, W2; what may be left over: 02, W6).
 
 use crate::block::{self, Source};
 use crate::frame::{FrameSize, BLOCK_PIXELS, BLOCK_SIDE};
@@ -30,6 +30,25 @@ impl CallForm {
             CallForm::Default => 1,
             CallForm::Strict => 0,
         }
+    }
+}
+
+/// The rows of blocks that an accepted packet touches (02, W2): the first and the last one, counted
+/// from 0, that holds a block other than code 1. Code 0 counts.
+#[derive(Clone, Copy, Debug, PartialEq, Eq)]
+pub struct Rows {
+    /// The first row.
+    pub first: usize,
+    /// The last row.
+    pub last: usize,
+}
+
+impl Rows {
+    /// Those of a packet's blocks; none where every block is code 1.
+    fn touched(blocks: &[Block<'_>]) -> Option<Rows> {
+        let touched = || blocks.iter().filter(|block| block.code != UNTOUCHED);
+        let rows = || touched().map(|block| block.y / BLOCK_SIDE);
+        Some(Rows { first: rows().min()?, last: rows().max()? })
     }
 }
 
@@ -76,8 +95,13 @@ impl Block<'_> {
 }
 
 /// Checks a packet for a frame of so many columns and rows of blocks, in the default form: 6, 10, then
-/// block by block 12, 13, 14, then 15.
-pub fn check(columns: usize, rows: usize, map: &[u8], data: &[u8]) -> Result<(), Refusal> {
+/// block by block 12, 13, 14, then 15. Of an accepted packet the rows that it touches, if any.
+pub fn check(
+    columns: usize,
+    rows: usize,
+    map: &[u8],
+    data: &[u8],
+) -> Result<Option<Rows>, Refusal> {
     check_as(CallForm::Default, columns, rows, map, data)
 }
 
@@ -88,9 +112,10 @@ pub fn check_as(
     rows: usize,
     map: &[u8],
     data: &[u8],
-) -> Result<(), Refusal> {
-    let left = left_over(columns, rows, map, data)?;
-    check_left_over(form, left)
+) -> Result<Option<Rows>, Refusal> {
+    let (blocks, left) = split_packet(columns, rows, map, data)?;
+    check_left_over(form, left)?;
+    Ok(Rows::touched(&blocks))
 }
 
 /// The blocks of a packet that [`check`] accepts, in order.
@@ -130,6 +155,15 @@ pub struct Drawn {
     pub whole: bool,
     /// Stores made, those of the place included.
     pub stores: usize,
+    /// The rows that the whole packet touches, whatever the place and the stores (02, W2).
+    pub rows: Option<Rows>,
+}
+
+impl Drawn {
+    /// The answer of a call that leaves this place, for a packet of these blocks.
+    pub(crate) fn new(blocks: &[Block<'_>], place: usize, stores: usize) -> Drawn {
+        Drawn { whole: place == blocks.len(), stores, rows: Rows::touched(blocks) }
+    }
 }
 
 /// Draws a packet on `back`, going on from `place`, with at most `allowed` stores, in the default form.
@@ -181,8 +215,7 @@ pub fn draw_as(
         *place = block.number + 1;
         stores += 1;
     }
-    let whole = *place == size.blocks();
-    Ok(Drawn { whole, stores })
+    Ok(Drawn::new(&blocks, *place, stores))
 }
 
 /// The tests of a drawing call behind that of the size: 8, 10, 11, then 12 to 15.

@@ -3,6 +3,7 @@
 
 use crate::film::{self, opcode, Lent, State, Stepped};
 use crate::frame::{BLOCK_SIDE, MAX_PIXELS};
+use crate::packet::Rows;
 use crate::palette;
 use crate::refusal::Refusal;
 
@@ -14,7 +15,8 @@ const ROOM: usize = 2 * 65_535;
 /// What playing a film gives.
 #[derive(Clone, Debug, PartialEq, Eq)]
 pub struct Played {
-    /// The pictures sent, in order, each as the bytes of a PPM file.
+    /// The pictures sent, in order, each as the bytes of a PPM file. Its heading has the rows of blocks
+    /// touched (02, W2) since the same one of the two lent pictures was last sent.
     pub pictures: Vec<Vec<u8>>,
     /// The sound of the stream. Opcode 03 begins another recording unless channels, bits and rate
     /// stay as they are.
@@ -51,6 +53,8 @@ pub fn play(film: &[u8], stream: usize) -> Played {
     let (mut colours, mut place) = (vec![0; palette::LENGTH], 0);
     let (mut a, mut b) = (vec![0; MAX_PIXELS], vec![0; MAX_PIXELS]);
     let mut room = vec![0; ROOM];
+    // Of each lent picture, what the packets drawn on it touched since it was sent.
+    let mut touched = [Vec::new(), Vec::new()];
     let refusal = loop {
         let lent = Lent {
             palette: &mut colours,
@@ -63,14 +67,18 @@ pub fn play(film: &[u8], stream: usize) -> Played {
             Stepped::Taken(after, bytes) => {
                 // Only a frame that is sent changes the roles (01, opcode 07).
                 if after.front != state.front {
-                    pictures.push(ppm(&after, film::shown(&after, &a, &b), &colours));
+                    let rows = std::mem::take(&mut touched[after.front]);
+                    pictures.push(ppm(&after, film::shown(&after, &a, &b), &colours, &rows));
                 }
                 record(&mut recordings, film, &state, &after, &room[..bytes]);
                 state = after;
             }
-            Stepped::Whole(after, _) => state = after,
+            Stepped::Whole(after, _, rows) => {
+                touched[1 - state.front].extend(rows);
+                state = after;
+            }
             // Not met: no frame has more stores than a step is allowed.
-            Stepped::Unfinished(same, _) => state = same,
+            Stepped::Unfinished(same, ..) => state = same,
             Stepped::Ended(_) => break None,
             Stepped::Refused(refusal) => break Some(refusal),
         }
@@ -107,11 +115,17 @@ fn rate_of_format(film: &[u8], state: &State) -> Option<u16> {
     is_acted_on.then(|| u16::from_le_bytes([rate[0], rate[1]]))
 }
 
-/// A picture as a PPM file: a heading with its width and height in pixels, then red, green and blue
-/// of each pixel.
-fn ppm(state: &State, picture: &[u8], colours: &[u8]) -> Vec<u8> {
+/// A picture as a PPM file: a heading with the first and the last of its touched rows, as a comment, and
+/// with its width and height in pixels, then red, green and blue of each pixel.
+fn ppm(state: &State, picture: &[u8], colours: &[u8], touched: &[Rows]) -> Vec<u8> {
     let [width, height] = [state.columns, state.rows].map(|blocks| blocks * BLOCK_SIDE);
-    let heading = format!("P6\n{width} {height}\n255\n");
+    let first = touched.iter().map(|rows| rows.first).min();
+    let last = touched.iter().map(|rows| rows.last).max();
+    let rows = match first.zip(last) {
+        Some((first, last)) => format!("{first} to {last}"),
+        None => "none".to_string(),
+    };
+    let heading = format!("P6\n# rows {rows}\n{width} {height}\n255\n");
     let entry = |&pixel: &u8| colours[usize::from(pixel) * 3..][..3].iter().map(|&c| full_range(c));
     heading.into_bytes().into_iter().chain(picture.iter().flat_map(entry)).collect()
 }

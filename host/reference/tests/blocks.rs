@@ -5,7 +5,7 @@
 mod common;
 
 use common::{block, hex};
-use reference::{block::source, check, check_as, draw, packet, CallForm, Refusal, Source};
+use reference::{block::source, check_as, draw, packet, CallForm, Refusal, Source};
 
 /// Eight rows from the rows given; the last one is repeated to the bottom.
 fn layout(rows: &[&str]) -> Vec<u8> {
@@ -314,6 +314,11 @@ fn forms() -> Vec<(u8, Vec<u8>)> {
     ]
 }
 
+/// Whether a packet is accepted; its rows are in `rows.rs`.
+fn check(columns: usize, rows: usize, map: &[u8], data: &[u8]) -> Result<(), Refusal> {
+    reference::check(columns, rows, map, data).map(|_| ())
+}
+
 /// Each form takes just its length: every shorter one is 13, also where the bytes that choose the
 /// form are missing, and every longer one is 15 in the strict form; in the default one byte more is
 /// taken (02, W6).
@@ -330,7 +335,7 @@ fn lengths() {
         let left = Err(Refusal { number: 15, block: 0 });
         for (over, default, strict) in [(0, Ok(()), Ok(())), (1, Ok(()), left), (2, left, left)] {
             let longer = [&data[..], &[0; 2][..over]].concat();
-            let answer = |form| check_as(form, 1, 1, &[code], &longer);
+            let answer = |form| check_as(form, 1, 1, &[code], &longer).map(|_| ());
             assert_eq!(answer(CallForm::Default), default, "{case} and {over}");
             assert_eq!(answer(CallForm::Strict), strict, "{case} and {over}");
         }

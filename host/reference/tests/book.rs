@@ -2,7 +2,7 @@
 //! calls is tested beside their maker.)
 
 use reference::book::{Book, Call};
-use reference::{CallForm, Drawn, Refusal};
+use reference::{CallForm, Drawn, Refusal, Rows};
 
 const FRONT: [u8; 128] = [1; 128];
 
@@ -13,7 +13,7 @@ fn call(allowed: usize) -> Call<'static> {
 }
 
 fn drawn(whole: bool, stores: usize) -> Result<Drawn, Refusal> {
-    Ok(Drawn { whole, stores })
+    Ok(Drawn { whole, stores, rows: Some(Rows { first: 0, last: 0 }) })
 }
 
 #[test]
@@ -100,7 +100,8 @@ fn refused_calls() {
         assert_eq!((book.picture(), book.place()), (&before[..], 2));
     }
     // At place 0 the small packet is not refused.
-    assert_eq!(Book::open(&[5; 128]).enter(&small), drawn(true, 1));
+    let nothing = Drawn { whole: true, stores: 1, rows: None };
+    assert_eq!(Book::open(&[5; 128]).enter(&small), Ok(nothing));
 }
 
 /// A packet with a byte left over (02, W6): the marked case again, in the default form. Strict calls

@@ -8,7 +8,10 @@ mod common;
 
 use common::{block, hex};
 use reference::block::{copy, BlockCopy, Picture};
-use reference::{check, draw, listing, palette, Drawn, Refusal};
+use reference::{check, draw, listing, palette, Drawn, Refusal, Rows};
+
+/// The only row of blocks, which is touched (02, W2).
+const ROW: Option<Rows> = Some(Rows { first: 0, last: 0 });
 
 fn row(picture: &[u8], width: usize, row: usize) -> &[u8] {
     &picture[row * width..][..width]
@@ -99,7 +102,7 @@ fn map_low_nibble_first() {
     let (front, mut back, mut place) = ([1; 128], [5; 128], 0);
     let drawn = draw(2, 1, &[0xE1], &[7], &front, &mut back, &mut place, 312_000);
     // Code 1 has no pixel stores, so the two blocks have 1 and 65.
-    let expected = Drawn { whole: true, stores: 66 };
+    let expected = Drawn { whole: true, stores: 66, rows: ROW };
     assert_eq!(drawn, Ok(expected));
     for y in 0..8 {
         assert_eq!(row(&back, 16, y), hex("05050505050505050707070707070707"));
@@ -112,7 +115,7 @@ fn whole_picture() {
     let (front, mut back, mut place) = ([1; 128], [5; 128], 0);
     let data = [0x00, 0x07];
     let drawn = draw(2, 1, &[0xE2], &data, &front, &mut back, &mut place, 130);
-    let expected = Drawn { whole: true, stores: 130 };
+    let expected = Drawn { whole: true, stores: 130, rows: ROW };
     assert_eq!(drawn, Ok(expected));
     assert_eq!(place, 2);
     for y in 0..8 {
@@ -127,7 +130,7 @@ fn picture_after_75_stores() {
     let (front, mut back, mut place) = ([1; 128], [5; 128], 0);
     let data = [0x00, 0x07];
     let drawn = draw(2, 1, &[0xE2], &data, &front, &mut back, &mut place, 75);
-    let unfinished = Drawn { whole: false, stores: 75 };
+    let unfinished = Drawn { whole: false, stores: 75, rows: ROW };
     assert_eq!(drawn, Ok(unfinished));
     assert_eq!(place, 1);
     assert_eq!(row(&back, 16, 0), hex("05050505050505050707070707070707"));
@@ -136,7 +139,7 @@ fn picture_after_75_stores() {
 
     // Block 1 from its first pixel again: 64 pixels and the place.
     let drawn = draw(2, 1, &[0xE2], &data, &front, &mut back, &mut place, 65);
-    let whole = Drawn { whole: true, stores: 65 };
+    let whole = Drawn { whole: true, stores: 65, rows: ROW };
     assert_eq!(drawn, Ok(whole));
     // Not set back to 0 when the frame is whole (third slip).
     assert_eq!(place, 2);
@@ -148,7 +151,7 @@ fn picture_after_75_stores() {
 /// 8x8 pixels: code 5 with 00 00 taken, 01 00 refused 14.
 #[test]
 fn copies_at_the_edge() {
-    assert_eq!(check(1, 1, &[0x05], &[0x00, 0x00]), Ok(()));
+    assert_eq!(check(1, 1, &[0x05], &[0x00, 0x00]), Ok(ROW));
     let outside = Refusal { number: 14, block: 0 };
     assert_eq!(check(1, 1, &[0x05], &[0x01, 0x00]), Err(outside));
 }
@@ -156,12 +159,12 @@ fn copies_at_the_edge() {
 /// "01's width cases become 80 taken, 0 and 81 refused" (02, W1); and the rows by the same rule.
 #[test]
 fn columns_and_rows() {
-    assert_eq!(check(80, 1, &[0x11; 40], &[]), Ok(()));
+    assert_eq!(check(80, 1, &[0x11; 40], &[]), Ok(None));
     let size = Refusal { number: 6, block: 0 };
     for columns in [0, 81] {
         assert_eq!(check(columns, 1, &[0x11; 41], &[]), Err(size), "{columns}");
     }
-    assert_eq!(check(1, 60, &[0x11; 30], &[]), Ok(()));
+    assert_eq!(check(1, 60, &[0x11; 30], &[]), Ok(None));
     for rows in [0, 61] {
         assert_eq!(check(1, rows, &[0x11; 31], &[]), Err(size), "{rows}");
     }

@@ -6,11 +6,14 @@ mod common;
 use common::{chunk, film, hex, opcode, send, size, video, Lent};
 use reference::film::{self as films, chunk_head, opcode_head, shown, Span, State, Stepped};
 use reference::sound::{Sound, NO_STREAM};
-use reference::Refusal;
+use reference::{Refusal, Rows};
 
 fn open(film: &[u8]) -> Result<State, Refusal> {
     films::open(film, NO_STREAM)
 }
+
+/// The only row of a frame of one block.
+const ROW: Option<Rows> = Some(Rows { first: 0, last: 0 });
 
 fn refused(number: u8) -> Stepped {
     Stepped::Refused(Refusal { number, block: 0 })
@@ -439,7 +442,7 @@ fn number_11_place() {
     assert_eq!(lent, before);
     lent.place = 1;
     let whole = lent.step(&film, at_video, 0);
-    assert!(matches!(whole, Stepped::Whole(_, 0)), "{whole:?}");
+    assert!(matches!(whole, Stepped::Whole(_, 0, ROW)), "{whole:?}");
     assert_eq!(lent.b, [0; 64]);
 }
 
@@ -452,13 +455,13 @@ fn drawing_in_pieces() {
     let at_video = lent.steps(&film, open(&film).expect("a good header"), 3);
     for allowed in [0, 10, 64] {
         let stepped = lent.step(&film, at_video, allowed);
-        assert_eq!(stepped, Stepped::Unfinished(at_video, allowed));
+        assert_eq!(stepped, Stepped::Unfinished(at_video, allowed, ROW));
         assert_eq!(lent.b[..allowed], vec![7; allowed]);
         assert!(lent.b[allowed..].iter().all(|&pixel| pixel == 0));
         assert_eq!(lent.place, 0);
     }
     let after = State { position: film.len(), map: None, unsent: true, ..at_video };
-    assert_eq!(lent.step(&film, at_video, 65), Stepped::Whole(after, 65));
+    assert_eq!(lent.step(&film, at_video, 65), Stepped::Whole(after, 65, ROW));
     assert_eq!((lent.a, lent.b, lent.place), (vec![0; 64], vec![7; 64], 1));
 }
 

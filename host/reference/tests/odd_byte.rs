@@ -9,7 +9,10 @@ use reference::film::{open, State, Stepped};
 use reference::listing::list;
 use reference::packet::{blocks, left_over};
 use reference::sound::NO_STREAM;
-use reference::{check_as, draw_as, CallForm, Drawn, Refusal};
+use reference::{check_as, draw_as, CallForm, Refusal, Rows};
+
+/// The only row of a frame of one block.
+const ROW: Option<Rows> = Some(Rows { first: 0, last: 0 });
 
 fn refused<T>(number: u8, block: usize) -> Result<T, Refusal> {
     Err(Refusal { number, block })
@@ -21,7 +24,7 @@ fn checking() {
     for over in 0..6 {
         let data = vec![7; 1 + over];
         let accepted_if = |taken| if taken { Ok(()) } else { refused(15, 0) };
-        let check = |form| check_as(form, 1, 1, &[0x0E], &data);
+        let check = |form| check_as(form, 1, 1, &[0x0E], &data).map(|_| ());
         assert_eq!(check(CallForm::Default), accepted_if(over <= 1), "{over} bytes over");
         assert_eq!(check(CallForm::Strict), accepted_if(over == 0), "{over} bytes over");
         assert_eq!(left_over(1, 1, &[0x0E], &data), Ok(over));
@@ -64,7 +67,8 @@ fn the_byte_is_not_read() {
         let (front, mut back, mut place) = ([1; 128], [5; 128], 0);
         let form = CallForm::Default;
         let drawn = draw_as(form, 2, 1, &map, &padded, &front, &mut back, &mut place, 312_000);
-        assert_eq!((drawn, place), (Ok(Drawn { whole: true, stores: 130 }), 2));
+        let drawn = drawn.map(|drawn| (drawn.whole, drawn.stores));
+        assert_eq!((drawn, place), (Ok((true, 130)), 2));
         for row in back.chunks(16) {
             assert_eq!(row, [[5; 8], [7; 8]].concat());
         }
@@ -82,7 +86,7 @@ fn strict_drawing() {
         assert_eq!((drawn, back, place), (refused(15, 0), [5; 128], found));
         let drawn = draw_as(form, 2, 1, &map, &padded[..2], &front, &mut back, &mut place, 65);
         let stores = if found == 2 { 0 } else { 65 };
-        assert_eq!(drawn, Ok(Drawn { whole: found > 0, stores }));
+        assert_eq!(drawn.map(|drawn| (drawn.whole, drawn.stores)), Ok((found > 0, stores)));
     }
 }
 
@@ -111,7 +115,7 @@ fn steps() {
             let stepped = lent.step_as(form, &film, state, 312_000);
             if taken {
                 let after = State { position: film.len(), map: None, unsent: true, ..state };
-                assert_eq!(stepped, Stepped::Whole(after, 65));
+                assert_eq!(stepped, Stepped::Whole(after, 65, ROW));
                 assert_eq!((lent.b, lent.place), (vec![7; 64], 1));
             } else {
                 assert_eq!(stepped, Stepped::Refused(Refusal { number: 15, block: 0 }));

@@ -22,7 +22,7 @@ fn entry(index: u8, colour: [u8; 3]) -> Vec<u8> {
 }
 
 fn ppm(colour: [u8; 3]) -> Vec<u8> {
-    [&b"P6\n8 8\n255\n"[..], &colour.repeat(64)].concat()
+    [&b"P6\n# rows 0 to 0\n8 8\n255\n"[..], &colour.repeat(64)].concat()
 }
 
 /// Components are scaled to the nearest: 63 is 255, 1 is 4.05, 11 is 44.5 and a little.
@@ -52,6 +52,44 @@ fn one_for_each_sent() {
     let played = play(&film(&[chunk(&opcodes.concat())]));
     assert_eq!(played.pictures, [ppm([255, 0, 0]), ppm([0, 255, 0])]);
     assert_eq!(played.refusal, None);
+}
+
+/// Opcodes 0F and 11 of a frame of one column and three rows: code E in these rows, else code 1.
+fn touching(rows: &[usize]) -> Vec<Vec<u8>> {
+    let code = |row| if rows.contains(&row) { 0x0E } else { 0x01 };
+    let map = [code(0) | code(1) << 4, code(2)];
+    vec![opcode(0x0F, 0, &map), video(&vec![7; rows.len()])]
+}
+
+/// The heading of a picture has the rows that were touched since the same lent picture was last sent
+/// (02, W2): the first and the last of all packets drawn on it.
+#[test]
+fn rows_since_last_sent() {
+    let opcodes = [
+        vec![size(1, 3)],
+        touching(&[1]),
+        vec![send()], // the second picture: row 1
+        touching(&[]),
+        vec![send()], // the first one: none
+        touching(&[0]),
+        touching(&[2]),
+        vec![send(), send()], // the second one: rows 0 and 2; then nothing is unsent
+        touching(&[2]),
+        touching(&[]),
+        vec![send()], // the first one: row 2
+        touching(&[0]),
+        vec![send()],   // the second one: row 0
+        touching(&[1]), // never sent
+    ];
+    let played = play(&film(&[chunk(&opcodes.concat())]));
+    assert_eq!(played.refusal, None);
+    let rows = ["1 to 1", "none", "0 to 2", "2 to 2", "0 to 0"];
+    let headings = rows.map(|rows| format!("P6\n# rows {rows}\n8 24\n255\n"));
+    assert_eq!(played.pictures.len(), headings.len());
+    for (picture, heading) in played.pictures.iter().zip(headings) {
+        assert_eq!(picture[..heading.len()], *heading.as_bytes());
+        assert_eq!(picture.len(), heading.len() + 3 * 192);
+    }
 }
 
 /// What was sent before a refusal stays; a refused opening has position 0.

@@ -32,6 +32,8 @@ pub struct Drawing {
     found: Memory,
     stores: Vec<Store>,
     answer: String,
+    /// The rows that the packet touches, which every call tells.
+    rows: Option<mve::Rows>,
     end: Memory,
 }
 
@@ -55,7 +57,7 @@ impl Drawing {
         };
         let mut stores = list::drawing(&listed(&packet), &found).expect("a valid packet");
         stores.truncate(allowed);
-        Drawing { form, packet, allowed, found, stores, answer, end }
+        Drawing { form, packet, allowed, found, stores, answer, rows: rows(drawn.rows), end }
     }
 
     /// The form of the call.
@@ -67,6 +69,11 @@ impl Drawing {
     pub fn packet(&self) -> &maker::Packet {
         &self.packet
     }
+}
+
+/// The rows that the second decoder tells.
+fn rows(touched: Option<reference::Rows>) -> Option<mve::Rows> {
+    touched.map(|reference::Rows { first, last }| mve::Rows { first, last })
 }
 
 fn listed(packet: &maker::Packet) -> Packet<'_> {
@@ -118,8 +125,9 @@ impl Case for Drawing {
             CallForm::Strict => mve::draw_strict,
         };
         let drawn = draw(*columns, *rows, map, data, front, back, place, usize::MAX);
-        if drawn != Ok(mve::Drawn::Whole { stores: due }) {
-            return Err(format!("the new call answers {drawn:?}, with {due} stores due"));
+        if drawn != Ok(mve::Drawn::Whole { stores: due, rows: self.rows }) {
+            let rows = self.rows;
+            return Err(format!("the new call answers {drawn:?}: due are {due} stores, {rows:?}"));
         }
         same(&memory, &self.end)
     }
@@ -196,8 +204,8 @@ fn listed_walk(
         let mut model = memory.clone();
         listed.iter().for_each(|&store| model.make(store));
         let next = match second_step(form, film, state, &mut memory, allowed).0 {
-            Stepped::Taken(next, _) | Stepped::Whole(next, _) => next,
-            Stepped::Unfinished(same, _) => same,
+            Stepped::Taken(next, _) | Stepped::Whole(next, ..) => next,
+            Stepped::Unfinished(same, ..) => same,
             Stepped::Ended(_) => return (stores, calls),
             Stepped::Refused(refusal) => panic!("a valid film is refused: {refusal:?}"),
         };
@@ -222,7 +230,7 @@ pub fn steps(form: CallForm, film: &[u8], stream: usize, mut memory: Memory) -> 
         let before = memory.clone();
         let (answer, samples) = second_step(form, film, state, &mut memory, usize::MAX);
         let next = match answer {
-            Stepped::Taken(next, _) | Stepped::Whole(next, _) | Stepped::Ended(next) => next,
+            Stepped::Taken(next, _) | Stepped::Whole(next, ..) | Stepped::Ended(next) => next,
             other => panic!("a valid film is answered {other:?}"),
         };
         memory.state = state::second_numbers(next);
@@ -294,7 +302,8 @@ impl Case for Walk {
         match (undisturbed, step) {
             (Stepped::Taken(_, bytes), mve::Step::Taken(_, again)) if *bytes == again => {}
             (Stepped::Ended(_), mve::Step::Ended(_)) => {}
-            (Stepped::Whole(..), mve::Step::Whole(_, stores)) if stores == due => {}
+            (Stepped::Whole(_, _, touched), mve::Step::Whole(_, stores, again))
+                if stores == due && again == rows(*touched) => {}
             _ => return Err(format!("the new step answers {step:?}, not {undisturbed:?}")),
         }
         if room != *samples {

@@ -34,8 +34,8 @@ pub fn run(arguments: &[String]) -> io::Result<String> {
             kept.leave();
             ffi::stop();
             Ok(match drawn.map_err(io::Error::other)? {
-                Drawn::Whole { stores } => format!("whole {stores}\n"),
-                Drawn::Unfinished { stores } => format!("unfinished {stores}\n"),
+                Drawn::Whole { stores, .. } => format!("whole {stores}\n"),
+                Drawn::Unfinished { stores, .. } => format!("unfinished {stores}\n"),
             })
         }
         ["--film", form, allowed, film] => {
@@ -90,7 +90,7 @@ pub fn walk<const LENT: usize>(
         match step.map_err(io::Error::other)? {
             Step::Unfinished(..) => {}
             Step::Ended(_) => return Ok(steps),
-            Step::Taken(next, _) | Step::Whole(next, _) => {
+            Step::Taken(next, _) | Step::Whole(next, ..) => {
                 if state.unsent && !next.unsent {
                     send(kept, &next)?;
                 }

@@ -115,7 +115,7 @@ fn case_bytes(packet: &Packet) -> Vec<u8> {
 
 fn answer_line(packet: &Packet) -> String {
     match reference::check(packet.columns, packet.rows, &packet.map, &packet.data) {
-        Ok(()) => "accepted\n".to_string(),
+        Ok(_) => "accepted\n".to_string(),
         Err(refusal) => format!("refused {} {}\n", refusal.number, refusal.block),
     }
 }

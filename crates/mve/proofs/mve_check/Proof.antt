@@ -1,5 +1,5 @@
 use mathlib.Core.Path.{ap, _∙_}
-use Rattle.mve.specs.Answer.{ofVerdict}
+use Rattle.mve.specs.Answer.{ofFound}
 use borrow.Author.Needs.{needs}
 use Rattle.mve.proofs.mve_check.Statement.{statement}
 use Rattle.mve.proofs.mve_check.Tie as tie
@@ -15,7 +15,7 @@ of-check-requires : tie.Need-of-check-requires
 of-check-requires c κs = search needs
 
 returns : tie.Need-returns
-returns c = c .of-check .ensures ∙ ap ofVerdict (c .before .check .ensures)
+returns c = c .of-check .ensures ∙ ap ofFound (c .before .check .ensures)
 
 pub mve-check-spec : {M : Type 1} → statement M
 mve-check-spec = tie.close (tie.spec check-requires of-check-requires returns)

@@ -1,5 +1,5 @@
 use mathlib.Core.Path.{ap, _∙_}
-use Rattle.mve.specs.Answer.{ofOutcome}
+use Rattle.mve.specs.Answer.{ofReport}
 use borrow.Author.Needs.{needs}
 use Rattle.mve.proofs.mve_draw_strict.Statement.{statement}
 use Rattle.mve.proofs.mve_draw_strict.Tie as tie
@@ -18,7 +18,7 @@ same-length : tie.Need-same-length
 same-length c = search needs
 
 returns : tie.Need-returns
-returns c = (c .before .before .before .draw-strict .ensures .0, c .of-draw .ensures ∙ ap ofOutcome (c .before .before .before .draw-strict .ensures .1))
+returns c = (c .before .before .before .draw-strict .ensures .0, c .of-draw .ensures ∙ ap ofReport (c .before .before .before .draw-strict .ensures .1))
 
 pub mve-draw-strict-spec : {M : Type 1} → statement M
 mve-draw-strict-spec = tie.close (tie.spec draw-strict-requires of-draw-requires same-length returns)

@@ -1,5 +1,4 @@
 use Rattle.mve.proofs.Films.{opened-as, not-opened-as}
-use Rattle.mve.specs.Film.{ofOpening}
 use borrow.Author.Needs.{needs}
 use Rattle.mve.proofs.mve_open.Statement.{statement}
 use Rattle.mve.proofs.mve_open.Tie as tie

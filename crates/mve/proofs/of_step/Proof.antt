@@ -4,6 +4,9 @@ use Rattle.mve.proofs.of_step.Statement.{statement}
 use Rattle.mve.proofs.of_step.Tie as tie
 use Rattle.mve.proofs.of_step.Reads as reads
 use Rattle.mve.proofs.of_step.Lts as lts
+use Rattle.mve.proofs.kept_with.Reads as kept-with-reads
+use Rattle.mve.proofs.refused_with.Reads as refused-with-reads
+use Rattle.mve.proofs.stepped_with.Reads as stepped-with-reads
 
 enum-known-x : tie.Need-enum-known-x
 enum-known-x c = search needs
@@ -48,10 +51,10 @@ returns-2 : tie.Need-returns-2
 returns-2 c = heard-as _ _ _ _ _ (c .before .before .x2 .given .1) (c .stepped-with2 .ensures)
 
 returns-3 : tie.Need-returns-3
-returns-3 c = whole-as _ _ _ _ _ (c .before .before .x3 .given .1) (c .stepped-with3 .ensures)
+returns-3 c = whole-as _ _ _ _ _ _ (c .before .before .x3 .given .1) (c .stepped-with3 .ensures)
 
 returns-4 : tie.Need-returns-4
-returns-4 c = unfinished-as _ _ _ _ _ (c .before .before .x4 .given .1) (c .kept-with .ensures)
+returns-4 c = unfinished-as _ _ _ _ _ _ (c .before .before .x4 .given .1) (c .kept-with .ensures)
 
 returns-5 : tie.Need-returns-5
 returns-5 c = ended-as _ _ _ _ (c .before .enum-told .given .1) (c .kept-with2 .ensures)

@@ -19,10 +19,10 @@ enum-known-d-3 : tie.Need-enum-known-d-3
 enum-known-d-3 c = search needs
 
 returns : tie.Need-returns
-returns c = step-whole _ _ _ _ _ (c .before .before .d .given .1) (c .finished .ensures)
+returns c = step-whole _ _ _ _ _ _ (c .before .before .d .given .1) (c .finished .ensures)
 
 returns-2 : tie.Need-returns-2
-returns-2 c = step-part _ _ _ _ (c .before .d2 .given .1)
+returns-2 c = step-part _ _ _ _ _ (c .before .d2 .given .1)
 
 returns-3 : tie.Need-returns-3
 returns-3 c = step-refused _ _ _ _ (c .before .d3 .given .1)

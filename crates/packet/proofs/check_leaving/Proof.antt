@@ -1,7 +1,8 @@
-use mathlib.Core.Path.{sym, _∙_}
+use mathlib.Core.Path.{refl, sym, _∙_}
 use native.Mathlib.Omega.{arith}
 use Rattle.packet.proofs.Sizes.{few, is-sized, judges-blocks, refuses-10, refuses-6}
 use Rattle.packet.specs.Verdict.{verdict}
+use Rattle.packet.proofs.Strip.{finds-refused, finds-by}
 use borrow.Author.Needs.{needs}
 use Rattle.packet.proofs.check_leaving.Statement.{statement}
 use Rattle.packet.proofs.check_leaving.Tie as tie
@@ -23,13 +24,13 @@ check-blocks-requires : tie.Need-check-blocks-requires
 check-blocks-requires c κs = is-sized _ _ _ _ (sym (c .before .before .is-legal-size .ensures) ∙ c .before .if1 .taken) (c .if2 .taken)
 
 returns : tie.Need-returns
-returns c = judges-blocks _ _ _ _ _ (sym (c .before .before .before .is-legal-size .ensures) ∙ c .before .before .if1 .taken) (c .before .if2 .taken) _ (c .check-blocks .ensures)
+returns c = finds-by _ _ _ _ (judges-blocks _ _ _ _ _ (sym (c .before .before .before .is-legal-size .ensures) ∙ c .before .before .if1 .taken) (c .before .if2 .taken) _ refl) (c .check-blocks .ensures)
 
 returns-2 : tie.Need-returns-2
-returns-2 c = refuses-10 _ _ _ _ _ (sym (c .before .before .is-legal-size .ensures) ∙ c .before .if1 .taken) (c .if2 .left)
+returns-2 c = finds-refused _ _ _ _ (refuses-10 _ _ _ _ _ (sym (c .before .before .is-legal-size .ensures) ∙ c .before .if1 .taken) (c .if2 .left))
 
 returns-3 : tie.Need-returns-3
-returns-3 c = refuses-6 _ _ _ _ _ (sym (c .before .is-legal-size .ensures) ∙ c .if1 .left)
+returns-3 c = finds-refused _ _ _ _ (refuses-6 _ _ _ _ _ (sym (c .before .is-legal-size .ensures) ∙ c .if1 .left))
 
 pub check-leaving-spec : {M : Type 1} → statement M
 check-leaving-spec =

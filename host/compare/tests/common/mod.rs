@@ -3,8 +3,9 @@
 #![allow(dead_code)] // each test file uses a part of it
 
 use compare::{Decoder, Event, FromDefault, Proved, Second, Tally};
-use maker::Form;
+use maker::{Form, Packet};
 use reference::CallForm::{self, Default, Strict};
+use reference::Rows;
 use std::fmt::Debug;
 
 /// How often each thing must be reached at least.
@@ -21,6 +22,40 @@ pub const LEFT_OVER: [Event; 8] = [
     Event::RefusedOver(Strict, 2),
     Event::RefusedOver(Strict, 3),
 ];
+
+/// Wrong rows for an accepted packet and a call that finds this place, by a name.
+pub type WrongRows = (&'static str, fn(&Packet, usize, Option<Rows>) -> Option<Rows>);
+
+/// The rows that programs tell which read 02's W2 wrongly. The last one is so only where the place is
+/// not 0.
+pub const WRONG_ROWS: [WrongRows; 8] = [
+    ("code 0 not counted", |packet, _, _| rows_with(packet, |_, code| code > 1)),
+    ("code 1 counted", |packet, _, _| rows_with(packet, |_, _| true)),
+    ("the last row one too small", |_, _, rows| {
+        rows.map(|Rows { first, last }| Rows { first, last: last.saturating_sub(1) })
+    }),
+    ("the first row always 0", |_, _, rows| rows.map(|rows| Rows { first: 0, ..rows })),
+    ("the last row always the frame's", |packet, _, rows| {
+        rows.map(|rows| Rows { last: packet.rows - 1, ..rows })
+    }),
+    ("rows counted in pixels", |_, _, rows| {
+        rows.map(|Rows { first, last }| Rows { first: 8 * first, last: 8 * last + 7 })
+    }),
+    ("none told as row 0", |_, _, rows| rows.or(Some(Rows { first: 0, last: 0 }))),
+    ("rows of the blocks still due", |packet, place, _| {
+        rows_with(packet, |number, code| number >= place && code != 1)
+    }),
+];
+
+/// The rows that hold a block which counts, by its number and its code.
+fn rows_with(packet: &Packet, counts: impl Fn(usize, u8) -> bool) -> Option<Rows> {
+    let codes = packet.map.iter().flat_map(|byte| [byte & 0x0F, byte >> 4]);
+    let blocks = codes.take(packet.columns * packet.rows).enumerate();
+    let counted: Vec<usize> =
+        blocks.filter(|&(number, code)| counts(number, code)).map(|(number, _)| number).collect();
+    let row = |number: &usize| number / packet.columns;
+    Some(Rows { first: counted.first().map(row)?, last: counted.last().map(row)? })
+}
 
 /// The comparison was made on something: each of these was reached, and a block of every form.
 #[track_caller]

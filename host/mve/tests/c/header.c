@@ -1,6 +1,6 @@
 /* The film of document 01's listing, stepped over through the C header, with a call that leaves a block begun; a film with
-   sound, in rooms that are too small at first; and packets with bytes left over, by the default and the strict forms. Exits
-   with 0 where every answer is the one that the documents give. */
+   sound, in rooms that are too small at first; packets with bytes left over, by the default and the strict forms; and the
+   rows that packets touch. Exits with 0 where every answer is the one that the documents give. */
 #include "mve.h"
 
 #include <stdio.h>
@@ -52,7 +52,7 @@ static int is_same(struct mve_state s, struct mve_state t) {
 static int sound(void) {
     uint8_t palette[768] = {0}, none[1] = {0}, room[16], heard[sizeof samples];
     size_t place = 0, length = 0, refused = 0;
-    EXPECT(MVE_VERSION == 5 && MVE_ROOM_BYTES == 2 * 65535);
+    EXPECT(MVE_VERSION == 6 && MVE_ROOM_BYTES == 2 * 65535);
 
     struct mve_stepped s = mve_open(sound_film, sizeof sound_film, 5);
     EXPECT(s.kind == MVE_TAKEN && s.bytes == 0 && s.state.stream == 5 && s.state.has_format == 0);
@@ -219,6 +219,42 @@ static int padded_film(void) {
     return 0;
 }
 
+static int has_rows(struct mve_answer answer, size_t touched, size_t first, size_t last) {
+    return answer.touched == touched && answer.first_row == first && answer.last_row == last;
+}
+
+/* One column and four rows of blocks: code 1, E, 0, 1. The rows are those of the whole packet in every answer but a
+   refusal; and the film's step at its only block. */
+static int rows(void) {
+    const uint8_t map[] = {0xe1, 0x10}, untouched[] = {0x11, 0x11}, data[] = {0x2a, 0x99};
+    uint8_t palette[768] = {0}, front[256] = {0}, back[256], a[64] = {0}, b[64] = {0}, room[1];
+    size_t place = 0, calls = 0;
+    memset(back, 7, sizeof back);
+    EXPECT(has_rows(mve_check(1, 4, map, 2, data, 1), 1, 1, 2));
+    EXPECT(has_rows(mve_check(1, 4, map, 2, data, 2), 1, 1, 2));
+    EXPECT(has_rows(mve_check_strict(1, 4, map, 2, data, 1), 1, 1, 2));
+    EXPECT(has_rows(mve_check_strict(1, 4, map, 2, data, 2), 0, 0, 0));
+    EXPECT(has_rows(mve_check(1, 4, untouched, 2, data, 0), 0, 0, 0));
+    for (struct mve_answer answer = {0}; answer.kind != MVE_WHOLE; calls += 1) {
+        answer = calls % 2 ? mve_draw(1, 4, map, 2, data, 1, front, 256, back, 256, &place, 65)
+                           : mve_draw_strict(1, 4, map, 2, data, 1, front, 256, back, 256, &place, 65);
+        EXPECT(answer.kind != MVE_REFUSED && has_rows(answer, 1, 1, 2));
+        EXPECT(back[63] == 7 && back[192] == 7 && back[255] == 7);
+    }
+    EXPECT(calls == 4 && place == 4 && back[64] == 0x2a && back[191] == 0);
+
+    size_t drawn = 0;
+    for (struct mve_stepped s = mve_open(film, sizeof film, 0); s.kind != MVE_ENDED;) {
+        s = mve_step(film, sizeof film, s.state, palette, sizeof palette, a, sizeof a, b, sizeof b, &place, room, 0,
+                     drawn == 0 ? 40 : 70);
+        size_t draws = s.kind == MVE_WHOLE || s.kind == MVE_UNFINISHED;
+        EXPECT(s.kind != MVE_REFUSED && s.touched == draws && s.first_row == 0 && s.last_row == 0);
+        drawn += draws;
+    }
+    EXPECT(drawn == 2);
+    return 0;
+}
+
 int main(void) {
-    return pictures() | sound() | padded_packet() | padded_film();
+    return pictures() | sound() | padded_packet() | padded_film() | rows();
 }

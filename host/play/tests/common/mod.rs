@@ -126,7 +126,7 @@ pub fn stops(film: &[u8], options: &Options) -> usize {
                 }
                 state = next;
             }
-            Stepped::Whole(next, _) => state = next,
+            Stepped::Whole(next, ..) => state = next,
             Stepped::Unfinished(..) => stops += 1,
             Stepped::Ended(_) | Stepped::Refused(_) => return stops,
         }
