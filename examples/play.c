@@ -31,10 +31,8 @@ Rust.
 #include <unistd.h>
 
 enum {
-    LARGEST_PICTURE = 80 * 60 * 64, /* bytes: 80 by 60 blocks of 8x8 pixels */
-    LEAST_ALLOWANCE = 65, /* the stores of a block with pixels: a step that is allowed fewer never finishes one */
-    LEAST_EVERY = 2,      /* a player that is stopped at every opcode of sound never gets on */
-    FILE_NAME = 32,       /* room for a slash and the name of a picture or a sound file */
+    LEAST_EVERY = 2, /* a player that is stopped at every opcode of sound never gets on */
+    FILE_NAME = 32,  /* room for a slash and the name of a picture or a sound file */
     WAV_HEADER = 44
 };
 
@@ -67,9 +65,9 @@ struct saved {
 struct kept {
     struct saved slots[2];
     atomic_size_t saved; /* which of the two is the saved one */
-    uint8_t palette[768];
-    uint8_t a[LARGEST_PICTURE];
-    uint8_t b[LARGEST_PICTURE];
+    uint8_t palette[MVE_PALETTE_BYTES];
+    uint8_t a[MVE_PICTURE_BYTES];
+    uint8_t b[MVE_PICTURE_BYTES];
     size_t place;
 };
 
@@ -374,38 +372,17 @@ static bool cut_sound(struct sound sound, const struct arguments *arguments) {
 }
 
 static void tell_refusal(struct mve_stepped refused, size_t sounds, const struct arguments *arguments) {
-    static const char *const reasons[] = {
-        [MVE_HEADER] = "film header wrong or short",
-        [MVE_CHUNK] = "a chunk or its head passes the end of the film",
-        [MVE_OPCODE] = "an opcode or its head passes its chunk, or bytes follow the chunk's last opcode",
-        [MVE_TYPE] = "opcode type or version not taken",
-        [MVE_BODY_LENGTH] = "opcode body of a wrong length",
-        [MVE_FRAME_SIZE] = "frame size or true-colour word wrong, or a second size",
-        [MVE_PALETTE] = "palette range or colour component too large",
-        [MVE_LENT_LENGTH] = "a lent palette or picture of a wrong length",
-        [MVE_NO_FRAME] = "video data without a frame size or a map",
-        [MVE_MAP_LENGTH] = "map length does not fit the frame size",
-        [MVE_PLACE] = "place above the block count",
-        [MVE_CODE_6] = "code 6 is not taken in 8-bit films",
-        [MVE_DATA_SHORT] = "too few data bytes",
-        [MVE_COPY_OUTSIDE] = "copied from outside the picture",
-        [MVE_DATA_LEFT] = "data bytes left over",
-        [MVE_STATE] = "a state that no film gives",
-        [MVE_SOUND_FORMAT] = "sound before its format, or a format both 8-bit and compressed",
-        [MVE_SOUND_LENGTH] = "sound data or sample count of a wrong length",
-        [MVE_ROOM] = "room too small for the samples",
-    };
     fprintf(stderr, "\r%s: refused %zu", arguments->film, refused.number);
-    if (refused.number >= MVE_CODE_6 && refused.number <= MVE_COPY_OUTSIDE) {
+    if (mve_is_of_block(refused.number)) {
         fprintf(stderr, " in block %zu", refused.block);
     }
-    fprintf(stderr, ": %s, at byte %zu, pictures: %zu, sound files: %zu\n", reasons[refused.number],
+    fprintf(stderr, ": %s, at byte %zu, pictures: %zu, sound files: %zu\n", mve_refusal_text(refused.number),
             refused.state.position, count_pictures(arguments->folder), sounds);
 }
 
 /* Whether the opcode that a state stands at, which was taken, is a 03 that gave the format of the sound. */
 static bool is_format(const struct film *film, struct mve_state state) {
-    return state.position != state.chunk_end && film->bytes[state.position + 2] == 0x03 && state.stream <= 15;
+    return state.position != state.chunk_end && film->bytes[state.position + 2] == 0x03 && state.stream < MVE_NO_STREAM;
 }
 
 /* The rate in a 03: the third word of its body. */
@@ -414,8 +391,7 @@ static size_t rate_of(const struct film *film, struct mve_state state) {
     return body[4] + 256u * body[5];
 }
 
-/* Writes what a step that was taken or whole gave: samples, the beginning of a sound file, a picture. A picture is sent
-   by the step that leaves no frame unsent where one was (opcode 07). */
+/* Writes what a step that was taken or whole gave: samples, the beginning of a sound file, a picture. */
 static bool write_output(const struct film *film, const struct kept *kept, struct mve_state before, struct saved *next,
                          const uint8_t *room, size_t bytes, const struct arguments *arguments) {
     if (is_format(film, before) && !take_format(next, rate_of(film, before), arguments)) {
@@ -424,7 +400,7 @@ static bool write_output(const struct film *film, const struct kept *kept, struc
     if (bytes > 0 && !write_samples(&next->sound, room, bytes, arguments)) {
         return false;
     }
-    return before.unsent == 0 || next->state.unsent != 0 || write_picture(kept, next, arguments, film->length);
+    return !mve_is_sent(before, next->state) || write_picture(kept, next, arguments, film->length);
 }
 
 /* Whether the watchdog stops a run that has just written what an opcode of sound gave. */
@@ -434,7 +410,7 @@ static bool stops_at_sound(struct watchdog *watchdog, const struct arguments *ar
 }
 
 /* Steps over the film from the saved state on, in the default form: many films pad their packets by a byte, and are to be
-   played (mve_step_strict is for the mastering desk). What a step gives is written before the state is saved: a stop in
+   played (mve_step_strict is for those who make films). What a step gives is written before the state is saved: a stop in
    between writes a picture twice, but loses none; samples go to the same place of the file again. */
 static enum outcome play(const struct film *film, struct kept *kept, const struct arguments *arguments,
                          struct watchdog *watchdog) {
@@ -514,10 +490,10 @@ static bool read_number(const char *text, size_t least, size_t *number) {
 }
 
 static bool read_numbers(int count, char **words, struct arguments *arguments) {
-    if (!read_number(words[3], LEAST_ALLOWANCE, &arguments->allowance)) {
+    if (!read_number(words[3], MVE_BLOCK_STORES, &arguments->allowance)) {
         fprintf(stderr,
                 "play: allowance %s: give a number of stores, %d or more, or no block with pixels is ever finished\n",
-                words[3], LEAST_ALLOWANCE);
+                words[3], MVE_BLOCK_STORES);
         return false;
     }
     if (count > 4 && !read_number(words[4], 0, &arguments->stream)) {

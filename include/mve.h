@@ -1,63 +1,96 @@
-/* mve.h - a player core for Interplay MVE films, 8-bit pictures and sound
+/* mve.h - a player core for Interplay MVE films with 8-bit pictures and sound
 
 SYNOPSIS
 
-    #include "mve.h"
+The text of examples/synopsis.c, a whole program:
 
-    static uint8_t room[MVE_ROOM_BYTES];
-    struct mve_stepped s = mve_open(film, film_length, 0);
-    size_t place = 0;
-    while (s.kind != MVE_ENDED && s.kind != MVE_REFUSED) {
-        s = mve_step(film, film_length, s.state, palette, 768, a, a_length, b, b_length, &place, room, sizeof room, 1000);
-        size_t shown = mve_shown(s.state, a, a_length, b, b_length);
-        ... show the first `shown` bytes of s.state.front ? b : a ...
-        ... play the first s.bytes bytes of the room ...
+    // Plays the film on standard input: counts its pictures and the bytes of its sound, or says why it is refused.
+    #include "mve.h"
+    #include <stdio.h>
+
+    static uint8_t film[1 << 24]; // 16 MiB; a longer film is cut there
+    static uint8_t palette[MVE_PALETTE_BYTES], a[MVE_PICTURE_BYTES], b[MVE_PICTURE_BYTES], room[MVE_ROOM_BYTES];
+
+    int main(void) {
+        size_t length = fread(film, 1, sizeof film, stdin), place = 0, pictures = 0, sound = 0;
+        struct mve_stepped s = mve_open(film, length, 0);
+        while (s.kind != MVE_ENDED && s.kind != MVE_REFUSED) {
+            struct mve_state before = s.state;
+            s = mve_step(film, length, before, palette, sizeof palette, a, sizeof a, b, sizeof b, &place,
+                         room, sizeof room, MVE_ALL_STORES);
+            if (mve_is_sent(before, s.state)) {
+                pictures += 1; // show (s.state.front == 0 ? a : b), mve_shown(..) bytes, by the palette
+            }
+            sound += s.bytes; // play the first s.bytes bytes of the room
+        }
+        if (s.kind == MVE_REFUSED) {
+            fprintf(stderr, "refused by %zu at byte %zu: %s\n", s.number, s.state.position, mve_refusal_text(s.number));
+            return 1;
+        }
+        printf("%zu pictures, %zu bytes of sound\n", pictures, sound);
+        return 0;
     }
 
-mve_open   the first state of a film, for one stream of its sound or for none
-mve_step   one step: a chunk's head, or one opcode with its palette change, its drawing or its samples
-mve_shown  how many bytes of the front picture are to be shown
-mve_check  whether a packet is accepted, without drawing
-mve_draw   the drawing of a packet, without a film
+    cc -I include examples/synopsis.c target/staticlib/libmve.a -o synopsis && ./synopsis < film.mve
 
-mve_step_strict, mve_check_strict, mve_draw_strict: the same, but a packet may leave no byte over (see THE PACKET)
+mve_open    the first state of a film, for one stream of its sound or for none
+mve_step    one step: a chunk's head, or one opcode with its palette change, its drawing or its samples
+mve_shown   how many bytes of the front picture are shown
+mve_check   whether a packet is accepted, without drawing it
+mve_draw    the drawing of a packet, without a film
 
-examples/play.c is a whole player, which is stopped and goes on.
+mve_step_strict, mve_check_strict and mve_draw_strict are the strict forms: a packet may leave no byte over (THE PACKET).
+mve_is_sent tells whether a step sent a picture to the display. mve_refusal_text says in words why a call was refused.
+mve_is_of_block tells whether a refusal names a block.
+
+examples/play.c is a whole player, which is stopped again and again and goes on. docs/RULES.md has all rules in full.
 
 MEMORY
 
-Nothing is allocated and nothing is kept between calls; all memory is lent by the caller. (The library calls memset, to
-set lent bytes, and nothing else.) What is lent must be private to the call while it runs: nobody else writes it, and
-nobody else reads what is lent for writing (palette, pictures, place, room). What is lent for writing shares no byte with
-anything else that is lent. Every address comes with its length and is not null, also where the length is 0. Nothing
-else is asked: any bytes, state, place and number are answered.
+The library allocates nothing and keeps nothing between calls. The caller lends all memory. (The library calls memset, to
+set lent bytes, and no other function.) The caller must keep three rules:
+
+    While a call runs, nobody else writes to lent memory, and nobody else reads what is lent for writing: palette,
+    pictures, place and room.
+    What is lent for writing shares no byte with anything else that is lent.
+    Every address comes with its length, and is not null even where the length is 0.
+
+Nothing is asked of the values: the library answers any bytes, state, place and number.
+
+Before the first step, set palette, both pictures and the place to 0. The library writes only what the film says, so
+until a film sets a colour or draws a block, the host's bytes are used as they are. A film may copy from a picture that
+it has not drawn yet.
 
 A refused call changes nothing that is lent. A step that is refused, ended or unfinished gives back the state that it
 was given.
 
 STOPS
 
-Drawing makes stores, one pixel or the place at a time, in one order. A call may be allowed fewer than are due: it
-makes the first of them, answers MVE_UNFINISHED, and the next call goes on. The place is the number of the first block
-that is not finished. No block reads a pixel of its own, so one that was begun is drawn again from its first pixel, and
-the picture is the same.
+Drawing is a list of stores, each of one pixel or of the place, made in a fixed order. The place is the number of the first
+block that is not finished. A call may be allowed fewer stores than are due: it makes the first of them and answers
+MVE_UNFINISHED, and the next call goes on. A block that was begun is drawn again from its first pixel. No block reads a
+pixel of its own, so this gives the same picture.
 
 A watchdog may therefore stop the program inside mve_step or mve_draw, or their strict forms, between any two stores. To
 go on, call again with the same film, the state last given back, and the palette, pictures and place as the stop left
-them. Keep those in memory that outlives the stop, and the old state until the new one is saved in full. A step that was
-stopped while it changed the palette stores the same entries again. One that was stopped while it wrote samples writes
-the same samples again, since the state has the last samples before them: the room need not outlive the stop. So that no
-sample is played twice, take those of a step as played where its new state is saved, and not before (examples/play.c
-keeps the length of its file with the state, and cuts the file back to it after a stop).
+them. Keep these in memory that outlives the stop. Keep the old state until the new one is saved in full.
 
-This holds on a machine that keeps two things. Stores reach that memory in program order, as the restarted program sees
-it: a store is there only with all that were made before it. So a write-back cache must not be lost at the stop, or must
-be flushed in order. And no store is torn: it is there in full or not at all. The place is one aligned word, stored at
-once; compiled code may store neighbouring pixels by one wider store, too. Both hold for memory that processes on x86-64
-share, whenever one of them is stopped or killed; host/stops tests it.
+A step that was stopped while it changed the palette stores the same entries again. A step that was stopped while it
+wrote samples writes the same samples again, because the state holds the last samples before them. So the room need not
+outlive the stop. To play no sample twice, count the samples of a step as played when its new state is saved, and not
+before. (examples/play.c keeps the length of its sound file with the state, and cuts the file back to it after a stop.)
 
-A block has at most 65 stores, the largest picture 312,000. A call that is allowed 64 or fewer finishes no block that has
-pixels to store, so allow 65 or more.
+All this holds on a machine that keeps two rules:
+
+    Stores reach that memory in program order: when the program starts again, a store is there only if all stores before
+    it are there. A write-back cache must not be lost at the stop, or must be flushed in order.
+    No store is torn: it is there in full or not at all. The place is one aligned word, stored at once. Compiled code may
+    store neighbouring pixels by one wider store.
+
+On x86-64 both hold for memory that processes share, whenever one of them is stopped or killed. host/stops tests it.
+
+A block has at most MVE_BLOCK_STORES stores, and the largest picture has MVE_ALL_STORES. A call that is allowed fewer
+than MVE_BLOCK_STORES finishes no block that has pixels to store, so allow that many or more.
 
 LINKING FOR A BOOT STAGE
 
@@ -82,18 +115,18 @@ called. All relocations are relative: code and constants may be loaded at any ad
 
 The stack of a call is the most that it takes, together with all that it calls: return addresses, pushed registers and
 arguments, locals with the copies of constant tables, and what is used below the stack pointer. Each call takes less than
-1,024 bytes. The arguments that its caller puts on the stack come on top. Of an undefined function, as memset, only the
-return address is counted: the function is the host's own, and so is its stack.
+1,024 bytes. The arguments that its caller puts on the stack come on top. An undefined function, such as memset, is the
+host's own, and so is its stack: only its return address is counted.
 
 At a call the stack pointer is a multiple of 16, as the ABI says. An interrupt that is taken on the same stack must leave
 the ABI's red zone alone, the 128 bytes below the stack pointer. Every instruction is one that every x86-64 processor
 has, up to SSE2; a stage without an operating system switches SSE on first (CR4.OSFXSR).
 
-The table is made by `cargo run -p stack -- --header` in host/, and a test holds it to the archive.
+`cargo run -p stack -- --header` in host/ makes the table, and a test compares it with the archive.
 
 THE FILM
 
-Numbers are little-endian, a word is 16 bits.
+Numbers are little-endian. A word has 16 bits.
 
     header   "Interplay MVE File", 1A 00, words 001A 0100 1133      26 bytes
     chunk    word length, word type (not read), body                length counts the body alone
@@ -113,25 +146,30 @@ Numbers are little-endian, a word is 16 bits.
     0D    0        32 groups: a mask byte, lowest bit first, and 3 bytes for each bit that is one
     0F    0        the map for the next 11; the place becomes 0
     11    0        14 bytes that are skipped, then the packet
-    02, 04, 0A, 12 to 15: passed over unread; 03, 08 and 09, too, where the stream is above 15. Other types are refused.
+    02, 04, 0A, 12 to 15: passed over unread. 03, 08 and 09 are passed over, too, where the stream is above 15. All other
+    types are refused.
 
-The palette is 256 entries of red, green and blue, 0 to 63: 768 bytes.
+The palette has 256 entries of red, green and blue, 0 to 63, one byte each.
+
+A picture has one byte a pixel, row by row: 8 times columns bytes for each row of pixels, 64 times columns times rows in
+all.
 
 THE SOUND
 
-A film has up to 16 streams of sound, 0 to 15; mve_open is told which is wanted. A number above 15 is none: 03, 08 and 09
-are then passed over, whatever their version and length.
+A film has up to 16 streams of sound, 0 to 15. mve_open is told which one is wanted. Any number above 15 chooses none
+(MVE_NO_STREAM): 03, 08 and 09 are then passed over, whatever their version and length.
 
     03       a word that is not read; word of flags: bit 0 stereo, bit 1 16-bit, bit 2 compressed (in version 1 alone);
-             word of the rate, in samples of a channel a second, and the length of a buffer, which the library does not
-             read; a host finds the rate in the body's third word (bytes 4 and 5, counted from 0). A later 03 starts
+             word of the rate, in samples of a channel a second, and the length of a buffer. The library reads neither
+             rate nor length; a host finds the rate in bytes 4 and 5 of the body, counted from 0. A later 03 starts
              afresh.
     08, 09   word of an index that is not read; word of a mask, which has bit n for stream n; word of the count of
-             samples, of both channels together; of 08 then the data. A packet whose mask lacks the stream's bit is passed over.
+             samples, of both channels together; in 08 then the data. A packet whose mask lacks the stream's bit is
+             passed over.
 
-A step that takes an 08 or 09 of the stream writes its samples at the room's front and answers how many bytes in `bytes`;
-the rest of the room stays. Samples of 16 bits are signed, with the low byte first; those of 8 bits are unsigned. Left and
-right come in turn. state.stereo and state.wide tell the format.
+A step that takes an 08 or 09 of the stream writes its samples at the room's front and answers how many bytes in `bytes`.
+The rest of the room stays. Samples of 16 bits are signed, with the low byte first; those of 8 bits are unsigned. In
+stereo left and right come in turn. state.stereo and state.wide tell the format.
 
     08, uncompressed   the data: one byte a sample, or two
     08, compressed     16-bit. The first one behind a 03 has a start word for each channel, which are its first samples;
@@ -139,21 +177,21 @@ right come in turn. state.stereo and state.wide tell the format.
                        its channel, added with wrap-around. The state carries the last samples from packet to packet.
     09                 zero samples (of 8 bits 128); the last samples stay
 
-MVE_ROOM_BYTES are always room enough. After MVE_ROOM call again with more: nothing has changed.
+A room of MVE_ROOM_BYTES is always enough. After MVE_ERROR_ROOM call again with more: nothing has changed.
 
 THE PACKET
 
 Blocks are 8x8 pixels, left to right, then down. The map has a code for each: a nibble, low nibble first. The data has
-the bytes of each block in the same order. "Front" is the picture shown; "back" is the one two frames old that is drawn
-on. A copied 8x8 lies inside its picture.
+the bytes of each block in the same order. "Front" is the picture shown. "Back" is the other one, two frames old, which
+is drawn on. A copied 8x8 lies inside its picture.
 
 Many films pad a packet to an even length, so one byte may be left over behind the data of the last block; it is not
-read. Two or more are refused. That is the default form of the three calls that take a packet, mve_check, mve_draw and
-mve_step, and the one that players use. The strict forms, mve_check_strict, mve_draw_strict and mve_step_strict, refuse
-one byte, too. They are for the mastering desk, and for all who write films and want every byte accounted for. A default
-call and a strict one give the same answer and leave the same memory, unless exactly one byte is left over and nothing
-else is wrong: then the default call accepts the packet, and the strict one refuses it by MVE_DATA_LEFT. Calls of both
-forms may be mixed, also within one picture.
+read. Two or more are refused. This is the default form of the three calls that take a packet: mve_check, mve_draw and
+mve_step. Players use it. The strict forms, mve_check_strict, mve_draw_strict and mve_step_strict, refuse one byte, too.
+They are for those who make films and want every byte accounted for. A default call and a strict one give the same answer
+and leave the same memory, unless exactly one byte is left over and nothing else is wrong: then the default call accepts
+the packet, and the strict one refuses it by MVE_ERROR_DATA_LEFT. Calls of both forms may be mixed, also within one
+picture.
 
     code     bytes           pixels
     0        0               the same block of front
@@ -167,26 +205,29 @@ forms may be mixed, also within one picture.
     B to E   64, 16, 4, 1    a byte a pixel, 2x2, 4x4, 8x8
     F        2               two colours in turn, as on a chessboard
 
-The fields of 7 to A, of one bit or two, run left to right, then down, from the low end of each byte. docs/FORMAT.md tells
-how the colours choose a form, and the offsets.
+The fields of 7 to A, of one bit or two, run left to right, then down, from the low end of each byte. docs/RULES.md says
+how the colours choose a form, and what the offsets are.
 
 THE ROWS TOUCHED
 
-A row of blocks is touched by a packet where it holds a block other than code 1; code 0 counts, whatever it copies.
-Where there is such a row, `touched` is 1, and `first_row` and `last_row` are the first and the last of them, counted
-from 0 (8 rows of pixels each); where there is none, all three are 0. They are told by MVE_ACCEPTED of mve_check, and by
-MVE_WHOLE and MVE_UNFINISHED of mve_draw and mve_step, in both forms, and are always those of the whole packet, whatever
-the place and the count of stores. Every other answer has none. A drawing leaves all pixels of the other rows, and the
-whole front picture, as they are.
+A row of blocks is touched by a packet where it holds a block other than code 1; code 0 counts, whatever it copies. If
+there is such a row, `touched` is 1, and `first_row` and `last_row` are the first and the last of them, counted from 0 (8
+rows of pixels each). If there is none, all three are 0. They come with MVE_ACCEPTED of mve_check, and with MVE_WHOLE and
+MVE_UNFINISHED of mve_draw and mve_step, in both forms. They are always those of the whole packet, whatever the place and
+the count of stores. Every other answer has none. A drawing leaves all pixels of the other rows, and the whole front
+picture, as they are.
 
-For a display that keeps a copy of each of the two pictures and has a slow link: a copy is its picture as it was last
-sent. So keep, for each of the two pictures, the rows touched since that picture was last sent; begin with no row where
-the copies begin as the pictures do, else with all. When a step answers MVE_WHOLE, join its rows to those of the picture
-drawn on: b where the front of the state that went in is 0, a where it is 1. The frame is sent by a step that leaves no
-frame unsent where one was (opcode 07); the picture drawn on is now the front. Send the rows kept for it, from the first
-to the last of all, to its copy; then none are kept for it. The other copy stays as it is: its picture was not drawn on.
-The rows of the last packet alone may be too few, since a frame that is never sent is drawn over, and its rows are still
-to be sent. A 07 with no frame unsent sends nothing.
+A display with a slow link may keep a copy of each of the two pictures, as each was last sent, and be sent the touched
+rows alone. For this, keep the rows touched since the last sending, for each of the two pictures. Begin with no row if the
+copies begin as the pictures do, else with all. Then:
+
+    When a step answers MVE_WHOLE, join its rows to those of the picture drawn on: b if the front of the state that went in
+    is 0, a if it is 1.
+    When mve_is_sent tells that a picture was sent, it is now the front. Send the rows kept for it, from the first to the
+    last, to its copy; then keep none for it. The other copy stays as it is: its picture was not drawn on.
+
+The rows of the last packet alone may be too few: a frame that is never sent is drawn over, and its rows are still to be
+sent.
 
 Save the rows together with the state, in one write: a stop may fall between 11 and 07. A drawing that was stopped or is
 unfinished is taken again and tells the same rows at its end. A host that gives up an unfinished drawing must join the
@@ -203,51 +244,96 @@ rows of MVE_UNFINISHED, too.
 extern "C" {
 #endif
 
-/* The version of this interface. It changes with every change of the calls, of the structs, of the packets that are
-   accepted and of the pictures that they give; CHANGELOG.md says what changed. 1 was without sound, and without this
-   number; 2 counted sizes in pixels; 3 took the fields of codes 7 to A from the high end of each byte; 4 had the strict
-   forms alone, under the names of the default ones; 5 told no rows. */
-#define MVE_VERSION 6
+/* The version of this interface. It changes with every change of the calls, of the structs, of the names, of the packets
+   that are accepted and of the pictures that they give. CHANGELOG.md says what changed in each. */
+#define MVE_VERSION 7
 
-/* A room that is always enough: a word counts a packet's samples, and each has two bytes at most. */
+/* The bytes of the palette: 256 entries of red, green and blue. */
+#define MVE_PALETTE_BYTES 768
+
+/* The bytes of the largest picture: 640x480 pixels. Pictures of this length are always enough. */
+#define MVE_PICTURE_BYTES 307200
+
+/* The bytes of a room that is always enough: a word counts a packet's samples, and each has two bytes at most. */
 #define MVE_ROOM_BYTES 131070
+
+/* The stores of the largest picture: a call that is allowed so many is never unfinished. */
+#define MVE_ALL_STORES 312000
+
+/* The stores of a block that has pixels to store, 64 pixels and the place: a call that is allowed fewer finishes none. */
+#define MVE_BLOCK_STORES 65
+
+/* A stream number that no film has: all sound is passed over. So it is with every larger number. */
+#define MVE_NO_STREAM 16
 
 /* What a call answers. */
 enum mve_kind {
-    MVE_ACCEPTED = 0,   /* mve_check: the packet gives a picture, and no more is left over than may be */
+    MVE_ACCEPTED = 0,   /* mve_check: the packet gives a picture, and no more bytes are left over than may be */
     MVE_TAKEN = 0,      /* mve_open, mve_step: done; nothing was drawn */
     MVE_WHOLE = 1,      /* the picture is drawn to its end */
     MVE_UNFINISHED = 2, /* the stores allowed were made; more are due */
     MVE_ENDED = 3,      /* mve_step: the film has ended; nothing is changed */
-    MVE_REFUSED = 4     /* nothing is changed; see the number */
+    MVE_REFUSED = 4     /* nothing is changed; the number says why */
 };
 
-/* Numbers of refusal. Where more than one is met the first in this order is given; of blocks the lowest speaks.
-   mve_draw alone tests the size before the lengths lent. */
+/* The numbers of refusal, in the order in which they are tested: the first that is met is given. Of several blocks with a
+   fault, the one with the lowest number is given, with its first fault in the order 12, 13, 14. mve_draw tests the size
+   (6) before the lengths lent (8). */
 enum mve_refusal {
-    MVE_STATE = 16,          /* a state with position, chunk end, map, front, size or sound format out of bounds */
-    MVE_LENT_LENGTH = 8,     /* palette not 768 bytes, or a picture shorter than the frame */
-    MVE_HEADER = 1,          /* film header wrong or short (mve_open alone) */
-    MVE_CHUNK = 2,           /* a chunk or its head passes the end of the film */
-    MVE_OPCODE = 3,          /* an opcode or its head passes its chunk, or bytes follow 00 or 01 */
-    MVE_TYPE = 4,            /* opcode type or version not taken */
-    MVE_BODY_LENGTH = 5,     /* opcode body of a wrong length */
-    MVE_FRAME_SIZE = 6,      /* columns not 1 to 80, rows not 1 to 60, true-colour word wrong, or a second size */
-    MVE_PALETTE = 7,         /* palette range or colour component too large */
-    MVE_NO_FRAME = 9,        /* 11 without a frame size or a map */
-    MVE_MAP_LENGTH = 10,     /* map length does not fit the frame size */
-    MVE_PLACE = 11,          /* place above the block count */
-    MVE_CODE_6 = 12,         /* code 6 is not taken in 8-bit films */
-    MVE_DATA_SHORT = 13,     /* too few data bytes */
-    MVE_COPY_OUTSIDE = 14,   /* copied from outside the picture */
-    MVE_DATA_LEFT = 15,      /* two data bytes or more left over; in the strict forms one or more */
-    MVE_SOUND_FORMAT = 17,   /* 08 or 09 of the stream before a 03, or a 03 both 8-bit and compressed */
-    MVE_SOUND_LENGTH = 18,   /* data not as long as the count of samples says, a count that is odd in stereo, or below the
-                                channels in the first compressed 08 */
-    MVE_ROOM = 19            /* room too small for the samples */
+    MVE_ERROR_STATE = 16,        /* a state with position, chunk end, map, front, size or sound format out of bounds */
+    MVE_ERROR_LENT_LENGTH = 8,   /* palette not 768 bytes, or a picture shorter than the frame */
+    MVE_ERROR_HEADER = 1,        /* film header wrong or short (mve_open alone) */
+    MVE_ERROR_CHUNK = 2,         /* a chunk or its head passes the end of the film */
+    MVE_ERROR_OPCODE = 3,        /* an opcode or its head passes its chunk, or bytes follow 00 or 01 */
+    MVE_ERROR_TYPE = 4,          /* opcode type or version not taken */
+    MVE_ERROR_BODY_LENGTH = 5,   /* opcode body of a wrong length */
+    MVE_ERROR_FRAME_SIZE = 6,    /* columns not 1 to 80, rows not 1 to 60, true-colour word wrong, or a second size */
+    MVE_ERROR_PALETTE = 7,       /* palette range or colour component too large */
+    MVE_ERROR_NO_FRAME = 9,      /* 11 without a frame size or a map */
+    MVE_ERROR_MAP_LENGTH = 10,   /* map length does not fit the frame size */
+    MVE_ERROR_PLACE = 11,        /* place above the block count */
+    MVE_ERROR_CODE_6 = 12,       /* code 6, which 8-bit films do not have */
+    MVE_ERROR_DATA_SHORT = 13,   /* too few data bytes */
+    MVE_ERROR_COPY_OUTSIDE = 14, /* copied from outside the picture */
+    MVE_ERROR_DATA_LEFT = 15,    /* two data bytes or more left over; in the strict forms one or more */
+    MVE_ERROR_SOUND_FORMAT = 17, /* 08 or 09 of the stream before a 03, or a 03 both 8-bit and compressed */
+    MVE_ERROR_SOUND_LENGTH = 18, /* data not as long as the count of samples says, a count that is odd in stereo, or
+                                    below the channels in the first compressed 08 */
+    MVE_ERROR_ROOM = 19          /* room too small for the samples */
 };
 
-/* Where a walk over a film is. It goes into a step and comes back; keep it as it came. */
+/* What a number of refusal means, for messages. */
+static inline const char *mve_refusal_text(size_t number) {
+    switch (number) {
+    case MVE_ERROR_HEADER: return "the film does not begin with the header of an MVE film";
+    case MVE_ERROR_CHUNK: return "a chunk or its head passes the end of the film";
+    case MVE_ERROR_OPCODE: return "an opcode or its head passes its chunk, or bytes follow the chunk's last opcode";
+    case MVE_ERROR_TYPE: return "this type or version of opcode is not one of an 8-bit film";
+    case MVE_ERROR_BODY_LENGTH: return "the opcode's body has a wrong length";
+    case MVE_ERROR_FRAME_SIZE: return "the frame size is out of bounds, given twice, or for true colour";
+    case MVE_ERROR_PALETTE: return "a palette range or a colour component is too large";
+    case MVE_ERROR_LENT_LENGTH: return "the palette or a picture that was lent has a wrong length";
+    case MVE_ERROR_NO_FRAME: return "video data comes before a frame size or without a map";
+    case MVE_ERROR_MAP_LENGTH: return "the map's length does not fit the frame size";
+    case MVE_ERROR_PLACE: return "the place is above the number of blocks";
+    case MVE_ERROR_CODE_6: return "the block has code 6, which 8-bit films do not have";
+    case MVE_ERROR_DATA_SHORT: return "the packet's data ends before the block's";
+    case MVE_ERROR_COPY_OUTSIDE: return "the block is copied from outside the picture";
+    case MVE_ERROR_DATA_LEFT: return "too many data bytes are left over behind the last block";
+    case MVE_ERROR_STATE: return "the state is one that no film gives";
+    case MVE_ERROR_SOUND_FORMAT: return "sound comes before its format, or a format is both 8-bit and compressed";
+    case MVE_ERROR_SOUND_LENGTH: return "the sound's data or its count of samples has a wrong length";
+    case MVE_ERROR_ROOM: return "the room is too small for the samples";
+    default: return "not a number of refusal";
+    }
+}
+
+/* Whether a refusal by this number names a block. */
+static inline int mve_is_of_block(size_t number) {
+    return number >= MVE_ERROR_CODE_6 && number <= MVE_ERROR_COPY_OUTSIDE;
+}
+
+/* Where a walk over a film is. It goes into a step, and the next state comes back. Change nothing in it. */
 struct mve_state {
     size_t position;   /* in the film */
     size_t chunk_end;
@@ -280,7 +366,8 @@ struct mve_answer {
     size_t last_row;
 };
 
-/* bytes: how many the step wrote at the room's front; 0 but for an 08 or 09 of the stream that is taken. */
+/* As above. bytes: how many bytes of samples the step wrote at the room's front; only an 08 or 09 of the stream writes any.
+   state: the next state. */
 struct mve_stepped {
     size_t kind;
     size_t number;
@@ -293,16 +380,23 @@ struct mve_stepped {
     struct mve_state state;
 };
 
-/* The first state of a film, for this stream of its sound: MVE_TAKEN, or MVE_REFUSED by MVE_HEADER with a state of zeros.
-   Reads the film alone. */
+/* Whether the step from `before` to `after` sent a picture: it is to be shown now. A picture is sent by the step that
+   leaves no frame unsent where one was finished and unsent: opcode 07. Give the state that went into mve_step and the one
+   that came back. */
+static inline int mve_is_sent(struct mve_state before, struct mve_state after) {
+    return before.unsent != 0 && after.unsent == 0;
+}
+
+/* The first state of a film, for this stream of its sound: MVE_TAKEN, or MVE_REFUSED by MVE_ERROR_HEADER with a state of
+   zeros. Reads the film alone. */
 struct mve_stepped mve_open(const uint8_t *film, size_t film_length, size_t stream);
 
-/* One step. MVE_TAKEN: a chunk's head or an opcode but 11. MVE_WHOLE, MVE_UNFINISHED: opcode 11, by at most `allowed`
-   stores; while it is unfinished the position stays. a and b are the two pictures, a byte a pixel, row by row: each has
-   at least 64 times columns times rows bytes once the size is known. The place starts at 0. The room is written by sound
-   alone. Every number of refusal but 1 can be met. `strict` is 0 for the default form of the step and any other number
-   for the strict form; mve_step and mve_step_strict below call it so. The library has one step for both forms, and not
-   two, because that takes less stack. */
+/* One step. MVE_TAKEN: a chunk's head or an opcode other than 11 was taken. MVE_WHOLE, MVE_UNFINISHED: opcode 11 was drawn
+   by at most `allowed` stores; while it is unfinished the position stays. a and b are the two pictures; once the size is
+   known, each has at least 64 times columns times rows bytes. The place starts at 0. Only sound writes to the room. Every
+   number of refusal but 1 can be met. `strict` is 0 for the default form of the step and any other number for the strict
+   form; mve_step and mve_step_strict below call it so. The library has one step for both forms, and not two, because that
+   takes less stack. */
 struct mve_stepped mve_step_as(const uint8_t *film, size_t film_length, struct mve_state state,
                                uint8_t *palette, size_t palette_length, uint8_t *a, size_t a_length,
                                uint8_t *b, size_t b_length, size_t *place, uint8_t *room, size_t room_length,

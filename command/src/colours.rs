@@ -1,10 +1,10 @@
 //! Colours as other programs take them.
 
-use crate::walk::PALETTE;
+use mve::PALETTE_BYTES;
 
 /// A palette of components of 8 bits, from one of 6 bits, 0 to 63: the two high bits come again as the
 /// low ones, so that 0 is 0 and 63 is 255.
-pub fn widened(palette: &[u8; PALETTE]) -> [u8; PALETTE] {
+pub fn widened(palette: &[u8; PALETTE_BYTES]) -> [u8; PALETTE_BYTES] {
     palette.map(|component| component << 2 | component >> 4)
 }
 
@@ -29,11 +29,11 @@ mod tests {
 
     #[test]
     fn components() {
-        let mut palette = [0; PALETTE];
+        let mut palette = [0; PALETTE_BYTES];
         palette[..6].copy_from_slice(&[0, 1, 15, 16, 32, 63]);
         let wide = widened(&palette);
         assert_eq!(wide[..6], [0, 4, 60, 65, 130, 255]);
-        assert_eq!(wide[6..], [0; PALETTE - 6]);
+        assert_eq!(wide[6..], [0; PALETTE_BYTES - 6]);
     }
 
     /// The colour bars of BT.601 at full brightness.

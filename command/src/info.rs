@@ -5,9 +5,10 @@ use crate::messages::{name, why, Failure, FAILED, REFUSED};
 use crate::progress::Progress;
 use crate::refusals::Refused;
 use crate::report::Report;
-use crate::walk::{Rules, ALL_STORES};
+use crate::walk::Rules;
 use crate::{arguments, json, listing, table, tell, Subcommand};
 use clap::{Arg, ArgAction, ArgMatches, Command};
+use mve::ALL_STORES;
 use std::io::{self, Write};
 use std::path::{Path, PathBuf};
 

@@ -5,7 +5,6 @@ use crate::messages::{Failure, Kept};
 use crate::output::{self, Output};
 use crate::player::{Player, Wanted};
 use crate::refusals::Refused;
-use crate::walk::LEAST_STORES;
 use crate::{arguments, Subcommand};
 use clap::builder::{OsStringValueParser, PathBufValueParser, TypedValueParser};
 use clap::{Arg, ArgAction, ArgGroup, ArgMatches, Command};
@@ -48,7 +47,7 @@ fn describe(command: Command) -> Command {
     let wav = PathBufValueParser::new().try_map(wav_name);
     let wav = Arg::new("sound").long("sound").value_name("OUT.wav").value_parser(wav);
     let from = number("from", "N", 0).default_value("0");
-    let stops = number("stops", "ALLOWANCE", LEAST_STORES);
+    let stops = number("stops", "ALLOWANCE", mve::BLOCK_STORES);
     let options = [
         (output, "Write the pictures there: OUT/, OUT.gif, OUT.y4m or -"),
         (wav, "Write the sound there; where its format changes, OUT.2.wav follows"),

@@ -8,7 +8,8 @@ use crate::refusals::Refused;
 use crate::report::stream_numbers;
 use crate::sound::Format;
 use crate::tell;
-use crate::walk::{Passed, Rules, Walk, ALL_STORES};
+use crate::walk::{Passed, Rules, Walk};
+use mve::ALL_STORES;
 use std::path::Path;
 
 /// What is wanted of a film.

@@ -1,4 +1,4 @@
-//! Refusals in words, for a person who has the film and not the papers.
+//! Refusals in words, for a person who has the film and does not know the format.
 
 use mve::Refusal;
 use std::fmt;
@@ -39,8 +39,8 @@ const SENTENCES: [(u8, &str); 19] = [
 impl Refused {
     /// A refusal that the library gave at this byte.
     pub fn new(refusal: Refusal, byte: usize) -> Refused {
-        let Refusal { number, block } = refusal;
-        Refused { number, byte, block: matches!(number, 12..=14).then_some(block) }
+        let Refusal { error, block } = refusal;
+        Refused { number: error.number(), byte, block: error.is_of_block().then_some(block) }
     }
 
     /// What the number means.
@@ -65,27 +65,30 @@ impl fmt::Display for Refused {
 #[cfg(test)]
 mod tests {
     use super::*;
+    use mve::Error;
     use std::collections::BTreeSet;
 
-    /// Numbers 1 to 19 have a sentence each, of their own, of one line.
+    /// Every number of refusal has a sentence of its own, of one line.
     #[test]
     fn sentences() {
-        assert!(SENTENCES.iter().map(|(number, _)| *number).eq(1..=19));
+        let numbers = Error::ALL.iter().map(|error| error.number());
+        assert!(SENTENCES.iter().map(|(number, _)| *number).eq(numbers));
         let sentences: BTreeSet<_> = SENTENCES.iter().map(|(_, sentence)| *sentence).collect();
-        assert_eq!(sentences.len(), 19);
+        assert_eq!(sentences.len(), SENTENCES.len());
         for sentence in sentences {
             assert!(sentence.ends_with('.') && !sentence[..sentence.len() - 1].contains(". "));
             assert!(sentence.len() <= 88, "{sentence}"); // behind 12 spaces, 100 columns
         }
-        let unknown = Refused::new(Refusal { number: 20, block: 0 }, 0);
+        let unknown = Refused { number: 99, byte: 0, block: None };
         assert_eq!(unknown.sentence(), "This program does not know the number.");
     }
 
     /// Only 12 to 14 speak of a block; of the others the number 0 says nothing.
     #[test]
     fn blocks() {
-        for number in 1..=19 {
-            let refused = Refused::new(Refusal { number, block: 0 }, 30);
+        for &error in Error::ALL {
+            let number = error.number();
+            let refused = Refused::new(Refusal { error, block: 0 }, 30);
             let is_of_block = (12..=14).contains(&number);
             let block = if is_of_block { ", block 0" } else { "" };
             assert_eq!(refused.place(), format!("refused by number {number} at byte 30{block}"));

@@ -3,16 +3,7 @@
 
 use crate::opcodes::Opcode;
 use crate::refusals::Refused;
-use mve::{State, Step};
-
-/// The bytes of the largest picture: 80 by 60 blocks of 8x8 pixels.
-const LARGEST_PICTURE: usize = 80 * 60 * 64;
-/// Bytes of a palette.
-pub const PALETTE: usize = 768;
-/// The stores of the largest picture: with so many a step, none is stopped.
-pub const ALL_STORES: usize = 312_000;
-/// The stores of a block: a step that is allowed fewer never finishes one.
-pub const LEAST_STORES: usize = 65;
+use mve::{State, Step, PALETTE_BYTES, PICTURE_BYTES};
 
 /// How a film is walked.
 #[derive(Clone, Copy, Debug)]
@@ -30,7 +21,7 @@ pub struct Walk<'a> {
     film: &'a [u8],
     rules: Rules,
     state: State,
-    palette: [u8; PALETTE],
+    palette: [u8; PALETTE_BYTES],
     a: Vec<u8>,
     b: Vec<u8>,
     place: usize,
@@ -58,7 +49,7 @@ pub struct Picture<'a> {
     /// A palette entry for each pixel, row by row.
     pub pixels: &'a [u8],
     /// 256 entries of red, green and blue, 0 to 63.
-    pub palette: &'a [u8; PALETTE],
+    pub palette: &'a [u8; PALETTE_BYTES],
 }
 
 impl<'a> Walk<'a> {
@@ -69,9 +60,9 @@ impl<'a> Walk<'a> {
             film,
             rules,
             state,
-            palette: [0; PALETTE],
-            a: vec![0; LARGEST_PICTURE],
-            b: vec![0; LARGEST_PICTURE],
+            palette: [0; PALETTE_BYTES],
+            a: vec![0; PICTURE_BYTES],
+            b: vec![0; PICTURE_BYTES],
             place: 0,
             room: vec![0; mve::ROOM_BYTES],
             stops: 0,
@@ -84,14 +75,14 @@ impl<'a> Walk<'a> {
         let before = self.state;
         let (after, bytes) = loop {
             match self.step()? {
-                Step::Unfinished(..) => self.stops += 1,
-                Step::Taken(after, bytes) => break (after, bytes),
-                Step::Whole(after, ..) => break (after, 0),
-                Step::Ended(_) => return Ok(None),
+                Step::Unfinished { .. } => self.stops += 1,
+                Step::Taken { state: after, bytes } => break (after, bytes),
+                Step::Whole { state: after, .. } => break (after, 0),
+                Step::Ended { .. } => return Ok(None),
             }
         };
         self.state = after;
-        let sent = before.unsent && !after.unsent;
+        let sent = mve::is_sent(&before, &after);
         Ok(Some(Passed { opcode: Opcode::at(self.film, &before), sent, bytes }))
     }
 

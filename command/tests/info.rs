@@ -1,4 +1,4 @@
-//! `mve info`: what it tells, held to the second program.
+//! `mve info`: what it tells, compared with the second decoder.
 
 mod common;
 
@@ -13,15 +13,15 @@ use std::collections::BTreeSet;
 use std::fs::{self, File};
 use std::process::{Command, Stdio};
 
-/// By hand: 16x12 blocks; 40 pictures of 100,000 us; palette opcodes 0B, 0C and four 0D.
+/// By hand: 16x12 blocks; 40 pictures of 100,000 us; palette opcodes 0B and four 0D, a 0C behind each.
 const DEMO: &str = "\
 film.mve
   size      128x96 pixels, 16x12 blocks
   pictures  40 sent
   duration  4.000 s by the timer
   sound     22050 Hz mono 16-bit uncompressed; stream 0
-  palette   6 changes
-  bytes     194319
+  palette   10 changes
+  bytes     194987
   result    plays to its end
 ";
 
@@ -30,7 +30,7 @@ fn one_film() {
     let film = demo::film().bytes();
     let ran = mve(&with_film("one", &film), &["info", "film.mve"]);
     ran.assert_silent();
-    assert_eq!(ran.text(), DEMO.replace("194319", &film.len().to_string()));
+    assert_eq!(ran.text(), DEMO.replace("194987", &film.len().to_string()));
 }
 
 /// One film that plays, one that is cut inside a chunk, one that is none, one that is not there.
@@ -52,7 +52,7 @@ fn many_films() {
     let words =
         |line: &str| line.split_whitespace().map(String::from).collect::<Vec<_>>().join(" ");
     assert_eq!(words(heads), "FILM SIZE BLOCKS SENT SECONDS SOUND PALETTE BYTES RESULT");
-    assert_eq!(words(plays), format!("film.mve 128x96 16x12 3 0.30 22050 1x16 0 3 {length} plays"));
+    assert_eq!(words(plays), format!("film.mve 128x96 16x12 3 0.30 22050 1x16 0 4 {length} plays"));
     assert!(refused.starts_with('…') && refused.ends_with("refused 2"), "{refused}");
     assert_eq!(words(text), "text.mve - - 0 0.00 - 0 9 refused 1");
     assert_eq!(words(no), "no.mve - - - - - - - not read");
@@ -103,14 +103,14 @@ fn json_of_the_demonstration() {
         r#"[{{"file": "film.mve", "bytes": {}, "size": {{"width": 128, "height": 96, "columns": 16,
         "rows": 12}}, "pictures": 40, "duration_us": 4000000, "timer_assumed": false, "sound":
         [{{"rate": 22050, "channels": 1, "bits": 16, "compressed": false}}], "streams": [0], "stream":
-        0, "palette_changes": 6, "plays": true, "refused": null}},
+        0, "palette_changes": 10, "plays": true, "refused": null}},
         {{"file": "n\"o", "error": "No such file or directory"}}]"#,
         film.len()
     );
     assert_eq!(json(&ran), Json::of(&expected));
 }
 
-/// A film in JSON as the second program finds it. The words of a refusal are the command's own.
+/// A film in JSON as the second decoder finds it. The words of a refusal are the command's own.
 fn assert_found(found: &Json, film: &[u8], stream: usize, case: &str) -> Option<u8> {
     let second = Second::of(film, stream);
     let number = |name: &str| found[name].clone();
@@ -177,7 +177,7 @@ fn assert_films(folder: &str, stream: usize, films: &[Vec<u8>]) -> BTreeSet<u8> 
     numbers
 }
 
-/// Films that the second program refuses by 15 are left out: how many bytes may be left over is tested
+/// Films that the second decoder refuses by 15 are left out: how many bytes may be left over is tested
 /// by hand, below.
 fn is_clear(film: &[u8], stream: usize) -> bool {
     Second::of(film, stream).refused.is_none_or(|(refusal, _)| refusal.number != 15)

@@ -1,4 +1,4 @@
-//! `mve play` to pictures: every pixel, colour and time, held to the second program.
+//! `mve play` to pictures: every pixel, colour and time, compared with the second decoder.
 
 mod common;
 

@@ -15,7 +15,7 @@ fn broken() -> (Vec<u8>, usize) {
     (film.bytes(), block)
 }
 
-/// The message, where the second program says where it is.
+/// The message, where the second decoder says where it is.
 fn message(film: &[u8], block: usize, end: &str) -> String {
     let (refusal, byte) = Second::of(film, 0).refused.expect("a refused film");
     assert_eq!((refusal.number, refusal.block), (12, block));

@@ -1,4 +1,4 @@
-//! `mve play` to WAV files: every byte, held to the second program.
+//! `mve play` to WAV files: every byte, compared with the second decoder.
 
 mod common;
 
@@ -15,7 +15,7 @@ fn wavs(folder: &Path) -> BTreeMap<String, Vec<u8>> {
     files(folder).into_iter().filter(|(name, _)| name.ends_with(".wav")).collect()
 }
 
-/// The files that all samples of the second program make.
+/// The files that all samples of the second decoder make.
 fn expected(sounds: &[Sounds]) -> BTreeMap<String, Vec<u8>> {
     let name = |number: usize| match number {
         0 => "out.wav".to_string(),

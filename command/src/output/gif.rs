@@ -3,8 +3,9 @@
 use super::{Finished, Part, Pictures};
 use crate::colours::widened;
 use crate::messages::Failure;
-use crate::walk::{Picture, PALETTE};
+use crate::walk::Picture;
 use ::gif::{Encoder, EncodingError, Frame, Repeat};
+use mve::PALETTE_BYTES;
 use std::borrow::Cow;
 use std::cell::RefCell;
 use std::fs::File;
@@ -20,7 +21,7 @@ pub struct Gif {
     part: Part,
     file: Shared,
     /// From the first picture on, whose palette is that of the file.
-    begun: Option<(Encoder<Shared>, [u8; PALETTE])>,
+    begun: Option<(Encoder<Shared>, [u8; PALETTE_BYTES])>,
     /// The microseconds of all pictures so far.
     elapsed: u64,
 }

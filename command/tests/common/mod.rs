@@ -1,4 +1,4 @@
-//! The command, run in a folder of its own, and what the second program says of a film.
+//! The command, run in a folder of its own, and what the second decoder says of a film.
 
 #![allow(dead_code)] // each test file uses a part of it
 

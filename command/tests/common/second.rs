@@ -1,4 +1,4 @@
-//! What the second program finds in a film and plays of it. Times are read here, from opcode 02.
+//! What the second decoder finds in a film and plays of it. Times are read here, from opcode 02.
 
 use reference::film::{opcode_head, open, shown, step, Lent, State, Stepped};
 use reference::frame::MAX_PIXELS;

@@ -163,7 +163,7 @@ impl Proved {
         let room = vec![0; mve::ROOM_BYTES];
         let mut program = Proved { film, states: Vec::new(), palette: [0; 768], room, bytes: 0 };
         let mut state = mve::open(&program.film, STREAM).expect("a header");
-        while let Ok(mve::Step::Taken(next, bytes)) = program.step(state) {
+        while let Ok(mve::Step::Taken { state: next, bytes }) = program.step(state) {
             program.states.extend((bytes > 0).then_some(state));
             state = next;
         }
@@ -183,7 +183,7 @@ impl Program for Proved {
 
     fn run(&mut self, number: usize) -> Result<(), String> {
         match self.step(self.states[number]) {
-            Ok(mve::Step::Taken(_, bytes)) => {
+            Ok(mve::Step::Taken { bytes, .. }) => {
                 self.bytes = bytes;
                 Ok(())
             }

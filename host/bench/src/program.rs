@@ -19,7 +19,7 @@ pub const LIBAV: &str = "libavcodec";
 pub const SECOND: &str = "second";
 
 /// The stores of the largest frame.
-pub const ALL_STORES: usize = 312_000;
+pub use mve::ALL_STORES;
 
 /// A program that takes the frames of one kind, from pictures of zeros on.
 pub trait Program {

@@ -22,7 +22,7 @@ pub struct Compared {
     pub samples: usize,
 }
 
-/// A decoder that is held against libavcodec's: the samples of the stream in a film, as bytes.
+/// A decoder that is compared with libavcodec's: the samples of the stream in a film, as bytes.
 type Decode = fn(&[u8]) -> Result<Vec<u8>, String>;
 
 /// Every such decoder.
@@ -50,11 +50,11 @@ fn proved(film: &[u8]) -> Result<Vec<u8>, String> {
     loop {
         let step = mve::step(film, state, &mut palette, &mut [], &mut [], &mut place, &mut room, 0);
         match step {
-            Ok(mve::Step::Taken(next, bytes)) => {
+            Ok(mve::Step::Taken { state: next, bytes }) => {
                 samples.extend(&room[..bytes]);
                 state = next;
             }
-            Ok(mve::Step::Ended(_)) => return Ok(samples),
+            Ok(mve::Step::Ended { .. }) => return Ok(samples),
             Ok(other) => return Err(format!("{other:?}")),
             Err(refusal) => return Err(format!("{refusal}, at byte {}", state.position)),
         }

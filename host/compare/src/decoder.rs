@@ -115,10 +115,12 @@ impl Decoder for Proved {
             .map_err(common_refusal)?;
         *state = common_state(stepped.state());
         Ok(match stepped {
-            mve::Step::Taken(_, bytes) => Step::Taken(bytes),
-            mve::Step::Whole(_, stores, rows) => Step::Whole(stores, common_rows(rows)),
-            mve::Step::Unfinished(_, stores, rows) => Step::Unfinished(stores, common_rows(rows)),
-            mve::Step::Ended(_) => Step::Ended,
+            mve::Step::Taken { bytes, .. } => Step::Taken(bytes),
+            mve::Step::Whole { stores, rows, .. } => Step::Whole(stores, common_rows(rows)),
+            mve::Step::Unfinished { stores, rows, .. } => {
+                Step::Unfinished(stores, common_rows(rows))
+            }
+            mve::Step::Ended { .. } => Step::Ended,
         })
     }
 
@@ -128,7 +130,7 @@ impl Decoder for Proved {
 }
 
 fn common_refusal(refusal: mve::Refusal) -> Refusal {
-    Refusal { number: refusal.number, block: refusal.block }
+    Refusal { number: refusal.number(), block: refusal.block }
 }
 
 fn common_drawn(drawn: mve::Drawn) -> Drawn {

@@ -1,17 +1,18 @@
-//! Holds the proved player core against the second decoder, call by call.
+//! Compares the proved player core with the second decoder, call by call.
 //!
 //! Both are [`Decoder`]s. A [`Comparison`] gives them the same seeded cases and compares whatever
 //! can be seen of each call: the answer with its number, block, count and rows, the place, and every
 //! byte of both pictures; outside the rows told these must be as the call found them. Lists of drawing
-//! calls are held against the book of demand 3, too. Films, with sound or without, are compared step by
+//! calls are compared with the book of demand 3, too. Films, with sound or without, are compared step by
 //! step, with their state, palette, room and shown picture. Packets are checked in both forms, and
 //! calls and steps are of either. The first thing that differs ends it, with the seed and the number of
 //! the case; a [`Tally`] counts what the cases reached.
 //!
-//! [`FromDefault`] stands for what the two forms have to do with each other: against it the strict form
-//! of a decoder is held to the default one.
+//! [`FromDefault`] is the strict form as it follows from the default one: with it the strict form of a
+//! decoder is compared.
 //!
-//! In comments "01" is the scope document, "02" that of the requests.
+//! In comments "01" is the scope document, "02" that of the requests; docs/RULES.md has
+//! their rules.
 
 pub mod cases;
 pub mod comparison;

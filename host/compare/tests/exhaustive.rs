@@ -1,7 +1,7 @@
 //! What there are few enough of to try all: sizes, motion vectors, data lengths, places; of a film
 //! the opcodes' types, versions and body lengths, and where a run of palette entries starts; of its
 //! sound formats, counts, data lengths and the bytes of compressed data. Every call is made in both
-//! forms, and the strict form is held to the default one, too. (What packets leave over is in
+//! forms, and the strict form is compared with the default one, too. (What packets leave over is in
 //! `odd_byte.rs`.)
 
 mod common;

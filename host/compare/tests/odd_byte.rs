@@ -1,6 +1,6 @@
 //! What packets leave over (02, W6): one byte is taken in the default form, none in the strict one, for
 //! every kind of last block, by checks, drawing calls and steps; 15 comes last in the order; the two
-//! forms agree but for exactly one byte; and that byte does not show.
+//! forms agree unless exactly one byte is left over; and that byte does not change the picture.
 
 mod common;
 
@@ -216,7 +216,7 @@ fn compare_forms(decoder: impl Decoder + Copy, kind: Kind, cases: u64, wanted: &
     }
 }
 
-/// The forms agree but for exactly one byte left over: checks, lists of calls, films and films with
+/// The forms agree unless exactly one byte is left over: checks, lists of calls, films and films with
 /// sound; of the proved library, and of the second decoder.
 #[test]
 fn forms_agree() {

@@ -1,7 +1,10 @@
 //! The film of the demonstration: a ball bounces through a sunset, for four seconds at ten pictures
 //! a second, with a tone at each bounce. It has every opcode that is acted on and blocks of many
-//! codes. Its sound is uncompressed, which other players decode as this one does; its beginning is
-//! small enough for the listing program.
+//! codes. Its beginning is small enough for the listing program.
+//!
+//! Other players show it in the same colours and with the same sound (`docs/PEERS.md`): libavformat
+//! passes over 0B and 0D, so each has a 0C of the same colours behind it; the sound is uncompressed; and
+//! the first pictures copy from none that was not sent before.
 
 use crate::encode;
 use crate::film::{init_video, packet_opcodes, Chunk, Film, Opcode};
@@ -25,6 +28,7 @@ pub const SAMPLES: usize = RATE / 10;
 const SKY: usize = 0;
 const SKY_ROWS: usize = 9;
 const GROUND: usize = SKY + SKY_ROWS * 16;
+const GROUND_ROWS: usize = 3;
 const BALL: usize = 192;
 const SUN: usize = 196;
 const HILL: usize = 198;
@@ -41,6 +45,8 @@ const BALL_COLOURS: [[[u8; 3]; 4]; 4] = [
     [[62, 63, 60], [36, 60, 16], [18, 42, 8], [8, 24, 4]],
     [[63, 62, 63], [63, 30, 50], [48, 14, 34], [28, 6, 20]],
 ];
+/// An entry that no picture has.
+const NO_ENTRY: u8 = 255;
 /// Pictures between two bounces.
 const BOUNCE: usize = FRAMES / BALL_COLOURS.len();
 
@@ -57,7 +63,8 @@ pub fn film() -> Film {
 /// A film of its first pictures, so many.
 pub fn beginning(frames: usize) -> Film {
     let mut chunks = vec![first_chunk(), sound_chunk()];
-    let (mut front, mut back) = (vec![0; SIZE.pixels()], vec![0; SIZE.pixels()]);
+    // What pictures hold at first is the host's: with these, no block is found in them and copied.
+    let (mut front, mut back) = (vec![NO_ENTRY; SIZE.pixels()], vec![NO_ENTRY; SIZE.pixels()]);
     for frame in 0..frames.min(FRAMES) {
         let wanted = picture(frame);
         chunks.push(frame_chunk(frame, &wanted, &front, &back));
@@ -107,19 +114,20 @@ fn sound_opcodes(frame: usize) -> [Opcode; 2] {
     [Opcode::new(0x08, 0, data), Opcode::new(0x09, 0, words(!(1 << STREAM)))]
 }
 
-/// Timer, size, mode, gradients and single colours. Timer and mode are passed over.
+/// Timer, size, mode, gradients and all colours. Timer and mode are passed over.
 fn first_chunk() -> Chunk {
     let timer = [&100_000_u32.to_le_bytes()[..], &1_u16.to_le_bytes()].concat();
     let mode = [640_u16, 480, 0].map(u16::to_le_bytes).concat();
-    let gradients = vec![SKY as u8, SKY_ROWS as u8, 16, GROUND as u8, 3, 16];
-    let count = SINGLE_COLOURS.len() as u16;
-    let single = [&(SUN as u16).to_le_bytes()[..], &count.to_le_bytes(), &SINGLE_COLOURS.concat()];
+    let gradients = vec![SKY as u8, SKY_ROWS as u8, 16, GROUND as u8, GROUND_ROWS as u8, 16];
+    let sky = gradient(SKY_ROWS, |red, other| [red, 0, other]);
+    let ground = gradient(GROUND_ROWS, |red, other| [red, other, 0]);
+    let colours = [&sky[..], &ground, &BALL_COLOURS[0], &SINGLE_COLOURS].concat();
     let opcodes = vec![
         Opcode::new(0x02, 0, timer),
         init_video(SIZE),
         Opcode::new(0x0A, 0, mode),
         Opcode::new(0x0B, 0, gradients),
-        Opcode::new(0x0C, 0, single.concat()),
+        entries(SKY, &colours),
         Opcode::new(0x01, 0, Vec::new()),
     ];
     Chunk { kind: 2, opcodes, ..Chunk::default() }
@@ -128,7 +136,9 @@ fn first_chunk() -> Chunk {
 fn frame_chunk(frame: usize, wanted: &[u8], front: &[u8], back: &[u8]) -> Chunk {
     let mut opcodes = Vec::new();
     if frame % BOUNCE == 0 {
-        opcodes.push(Opcode::new(0x0D, 0, ball_colours(BALL_COLOURS[frame / BOUNCE])));
+        let colours = BALL_COLOURS[frame / BOUNCE];
+        opcodes.push(Opcode::new(0x0D, 0, ball_colours(colours)));
+        opcodes.push(entries(BALL, &colours));
     }
     let packet = encode::packet(SIZE, wanted, front, back).packet();
     let [map, video] = packet_opcodes(&mut Seeded::new(0), packet);
@@ -139,6 +149,18 @@ fn frame_chunk(frame: usize, wanted: &[u8], front: &[u8], back: &[u8]) -> Chunk 
     opcodes.push(Opcode::new(0x07, 0, vec![0; 4]));
     opcodes.push(Opcode::new(0x01, 0, Vec::new()));
     Chunk { kind: 3, opcodes, ..Chunk::default() }
+}
+
+/// Opcode 0C: these colours from an entry on.
+fn entries(start: usize, colours: &[[u8; 3]]) -> Opcode {
+    let words = [start as u16, colours.len() as u16].map(u16::to_le_bytes);
+    Opcode::new(0x0C, 0, [&words.concat()[..], &colours.concat()].concat())
+}
+
+/// The colours of a gradient of 0B with 16 columns: red rises by rows, the other colour by columns.
+fn gradient(rows: usize, colour: impl Fn(u8, u8) -> [u8; 3]) -> Vec<[u8; 3]> {
+    let entry = |i: usize| colour((63 * (i / 16) / (rows - 1)) as u8, (39 * (i % 16) / 15) as u8);
+    (0..16 * rows).map(entry).collect()
 }
 
 /// A body of 0D: the first four entries of one group of eight.

@@ -8,7 +8,7 @@
 //! valid is so by construction, not because a decoder took it. Only [`states`] uses the second
 //! decoder, to walk into the middle of a film, and [`sound`] its table of steps. ([`calls`] has its
 //! names for the two forms of a call.) In comments "01" is the scope document, "02" that of the
-//! requests.
+//! requests; docs/RULES.md has their rules.
 
 pub mod calls;
 pub mod demo;

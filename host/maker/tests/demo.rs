@@ -88,6 +88,49 @@ fn many_codes() {
     assert!(codes.is_superset(&[0, 1, 2, 4, 5, 7, 8, 9, 0xA, 0xB, 0xE, 0xF].into()), "{codes:?}");
 }
 
+/// The codes of a picture, counted from 0.
+fn codes_of(number: usize) -> BTreeSet<u8> {
+    let film = demo::film();
+    let mut maps = film.chunks.iter().flat_map(|chunk| &chunk.opcodes).filter(|o| o.kind == 0x0F);
+    let map = maps.nth(number).expect("a map");
+    map.body.iter().flat_map(|byte| [byte & 0x0F, byte >> 4]).collect()
+}
+
+/// No picture copies from one that was not sent before it: libavcodec has none there (docs/PEERS.md).
+#[test]
+fn first_pictures_copy_from_none() {
+    assert!(codes_of(0).is_disjoint(&[0, 1, 2, 4, 5].into()), "{:?}", codes_of(0));
+    assert!(codes_of(1).is_disjoint(&[1, 2].into()), "{:?}", codes_of(1));
+}
+
+/// Behind each 0B and 0D stands a 0C of the same colours, so that players which pass over those show
+/// the same: without them, and with them last, the pictures stay.
+#[test]
+fn colours_come_by_0c_too() {
+    let film = demo::film();
+    let played = reference::pictures::play(&film.bytes(), demo::STREAM);
+    let (mut without, mut last) = (film.clone(), film);
+    for chunk in &mut without.chunks {
+        chunk.opcodes.retain(|opcode| !matches!(opcode.kind, 0x0B | 0x0D));
+    }
+    let mut turned = 0;
+    for chunk in &mut last.chunks {
+        for at in 1..chunk.opcodes.len() {
+            if matches!(chunk.opcodes[at - 1].kind, 0x0B | 0x0D) {
+                assert_eq!(chunk.opcodes[at].kind, 0x0C);
+                chunk.opcodes.swap(at - 1, at);
+                turned += 1;
+                break;
+            }
+        }
+    }
+    assert_eq!(turned, 1 + 4, "the gradients, and the ball's four colours");
+    for film in [without, last] {
+        let again = reference::pictures::play(&film.bytes(), demo::STREAM);
+        assert!(again.refusal.is_none() && again.pictures == played.pictures);
+    }
+}
+
 /// Whatever a packet draws, the encoder's packet draws the same, by all of its forms.
 #[test]
 fn encoded_exactly() {

@@ -1,6 +1,6 @@
 //! The library's answers, which are numbers.
 
-use crate::{Refusal, Rows, Sound, State};
+use crate::{Error, Refusal, Rows, Sound, State};
 
 /// The first numbers of every answer. The order of the fields is the library's, here and below.
 #[repr(C)]
@@ -111,8 +111,8 @@ impl Outcome {
         let Outcome { kind, number, block, stores } = self;
         let rows = rows.read()?;
         match (kind, number, block, stores, rows) {
-            (kind::REFUSED, 1..=19, _, 0, None) => {
-                Some(Err(Refusal { number: number as u8, block }))
+            (kind::REFUSED, _, _, 0, None) => {
+                Some(Err(Refusal { error: Error::from_number(number)?, block }))
             }
             (kind::ACCEPTED, 0, 0, 0, _)
             | (kind::WHOLE | kind::UNFINISHED, 0, 0, _, _)
@@ -226,7 +226,10 @@ mod tests {
     #[test]
     fn refusals() {
         let refused = |number, stores| Outcome { kind: kind::REFUSED, number, block: 2, stores };
-        assert_eq!(read(refused(13, 0), NONE), Some(Err(Refusal { number: 13, block: 2 })));
+        assert_eq!(
+            read(refused(13, 0), NONE),
+            Some(Err(Refusal { error: Error::DataShort, block: 2 }))
+        );
         for (number, stores) in [(0, 0), (20, 0), (256 + 13, 0), (13, 1)] {
             assert_eq!(read(refused(number, stores), NONE), None, "{number} after {stores} stores");
         }
@@ -305,7 +308,10 @@ mod tests {
             let moved = Moved { outcome, bytes, rows: NONE, state: STATE.into() };
             std::panic::catch_unwind(move || moved.taken(found).map(|_| ()))
         };
-        assert_eq!(refused(STATE.into(), 0).ok(), Some(Err(Refusal { number: 16, block: 0 })));
+        assert_eq!(
+            refused(STATE.into(), 0).ok(),
+            Some(Err(Refusal { error: Error::State, block: 0 }))
+        );
         assert!(refused(STATE.into(), 2).is_err());
         assert!(refused(State { position: 0, ..STATE }.into(), 0).is_err());
         let sound = Sound { right: 11, ..SOUND };

@@ -4,18 +4,25 @@ use crate::answer::{kind, Numbers, Taken};
 use crate::form::Form;
 use crate::{ffi, Refusal, Rows};
 
-/// A stream number that no film has: opcodes 03, 08 and 09 are passed over, as by every number from
-/// here on.
-pub const NO_STREAM: usize = 16;
+/// The bytes of the palette: 256 entries of red, green and blue.
+pub const PALETTE_BYTES: usize = 768;
 
-/// The length of a room that is always enough: a word counts the samples of a packet, and each has
-/// two bytes at most.
+/// The bytes of the largest picture, 640x480 pixels: pictures of this length are always enough.
+pub const PICTURE_BYTES: usize = 307_200;
+
+/// The bytes of a room that is always enough: a word counts the samples of a packet, and each has two
+/// bytes at most.
 pub const ROOM_BYTES: usize = 131_070;
+
+/// A stream number that no film has: opcodes 03, 08 and 09 are passed over, as with every larger
+/// number.
+pub const NO_STREAM: usize = 16;
 
 /// The state of a film between two steps.
 ///
-/// It goes into a step and comes back. Any numbers may stand in it: those that no film gives are
-/// refused with 16.
+/// It goes into a step, and the next state comes back. Any numbers may stand in it: those that no film
+/// gives are refused by 16. The fields have the names of C's `struct mve_state`. The map's three are one
+/// here, `map`, and those of the sound are in [`Sound`].
 #[derive(Clone, Copy, Debug, PartialEq, Eq, Hash)]
 pub struct State {
     /// Where the next chunk head or opcode is read.
@@ -60,21 +67,40 @@ pub struct Sound {
     pub right: u16,
 }
 
-/// How a step went that was not refused, with the state for the next one.
+/// How a step went that was not refused. The fields are named as in C's `struct mve_stepped`.
 #[derive(Clone, Copy, Debug, PartialEq, Eq, Hash)]
 pub enum Step {
-    /// A chunk head, or an opcode other than 11, is taken. With the bytes of samples that the step
-    /// wrote to the room's front; none but opcodes 08 and 09 of the stream write any.
-    Taken(State, usize),
-    /// Opcode 11 is taken and its frame drawn. With the stores that the step made, and the rows of
-    /// blocks that the whole packet touches.
-    Whole(State, usize, Option<Rows>),
-    /// The stores allowed were used up before opcode 11's frame was drawn; the next step goes on
-    /// with it. With the stores that the step made, and the rows of blocks that the whole packet
-    /// touches.
-    Unfinished(State, usize, Option<Rows>),
+    /// A chunk head, or an opcode other than 11, is taken.
+    Taken {
+        /// The state for the next step.
+        state: State,
+        /// The bytes of samples that the step wrote to the room's front. Only opcodes 08 and 09 of the
+        /// stream write any.
+        bytes: usize,
+    },
+    /// Opcode 11 is taken and its frame drawn.
+    Whole {
+        /// The state for the next step.
+        state: State,
+        /// Stores that the step made.
+        stores: usize,
+        /// The rows of blocks that the whole packet touches.
+        rows: Option<Rows>,
+    },
+    /// The stores allowed were made before opcode 11's frame was drawn. The next step goes on with it.
+    Unfinished {
+        /// The state for the next step: the one that went in.
+        state: State,
+        /// Stores that the step made.
+        stores: usize,
+        /// The rows of blocks that the whole packet touches.
+        rows: Option<Rows>,
+    },
     /// The film is at its end. Nothing has changed.
-    Ended(State),
+    Ended {
+        /// The state that went in.
+        state: State,
+    },
 }
 
 impl Step {
@@ -85,16 +111,16 @@ impl Step {
     /// let film = b"Interplay MVE File\x1A\0\x1A\0\0\x01\x33\x11";
     /// let state = mve::open(film, mve::NO_STREAM)?;
     /// let step = mve::step(film, state, &mut [0; 768], &mut [], &mut [], &mut 0, &mut [], 0)?;
-    /// assert_eq!(step, mve::Step::Ended(state));
+    /// assert_eq!(step, mve::Step::Ended { state });
     /// assert_eq!(step.state(), state);
     /// # Ok::<(), mve::Refusal>(())
     /// ```
     pub const fn state(self) -> State {
         match self {
-            Step::Taken(state, _)
-            | Step::Whole(state, ..)
-            | Step::Unfinished(state, ..)
-            | Step::Ended(state) => state,
+            Step::Taken { state, .. }
+            | Step::Whole { state, .. }
+            | Step::Unfinished { state, .. }
+            | Step::Ended { state } => state,
         }
     }
 
@@ -102,10 +128,18 @@ impl Step {
     /// does not draw has none.
     pub const fn rows(self) -> Option<Rows> {
         match self {
-            Step::Whole(_, _, rows) | Step::Unfinished(_, _, rows) => rows,
-            Step::Taken(..) | Step::Ended(_) => None,
+            Step::Whole { rows, .. } | Step::Unfinished { rows, .. } => rows,
+            Step::Taken { .. } | Step::Ended { .. } => None,
         }
     }
+}
+
+/// Whether the step from one state to the next sent a picture, which is to be shown now.
+///
+/// A picture is sent by the step that leaves no frame unsent where one was finished and unsent: opcode
+/// 07. It is C's `mve_is_sent`.
+pub const fn is_sent(before: &State, after: &State) -> bool {
+    before.unsent && !after.unsent
 }
 
 /// Opens a film for a stream of its sound, 0 to 15: its first state. With [`NO_STREAM`], or any other
@@ -118,7 +152,7 @@ impl Step {
 /// # Examples
 ///
 /// ```
-/// use mve::{open, Refusal, Sound, State};
+/// use mve::{open, Error, Refusal, Sound, State};
 ///
 /// let film = b"Interplay MVE File\x1A\0\x1A\0\0\x01\x33\x11";
 /// let first = State {
@@ -132,7 +166,7 @@ impl Step {
 ///     sound: Sound { stream: 3, ..Sound::default() },
 /// };
 /// assert_eq!(open(film, 3), Ok(first));
-/// assert_eq!(open(&film[..25], 3), Err(Refusal { number: 1, block: 0 }));
+/// assert_eq!(open(&film[..25], 3), Err(Refusal { error: Error::Header, block: 0 }));
 /// ```
 pub fn open(film: &[u8], stream: usize) -> Result<State, Refusal> {
     let moved = ffi::open(film, stream);
@@ -172,7 +206,7 @@ pub fn open(film: &[u8], stream: usize) -> Result<State, Refusal> {
 /// a map of code E; 11, that block's colour; 07, which sends the frame to the display; 01.
 ///
 /// ```
-/// use mve::{open, shown, step, Refusal, Rows, State, Step, NO_STREAM};
+/// use mve::{open, shown, step, Error, Refusal, Rows, State, Step, NO_STREAM};
 ///
 /// let film = [
 ///     &b"Interplay MVE File\x1A\0\x1A\0\0\x01\x33\x11"[..],
@@ -192,8 +226,8 @@ pub fn open(film: &[u8], stream: usize) -> Result<State, Refusal> {
 ///         opcodes.push((state.position, film[state.position + 2]));
 ///     }
 ///     match step(&film, state, &mut palette, &mut a, &mut b, &mut place, &mut [], 312_000)? {
-///         Step::Ended(_) => break,
-///         Step::Whole(next, stores, rows) => {
+///         Step::Ended { .. } => break,
+///         Step::Whole { state: next, stores, rows } => {
 ///             assert_eq!((stores, rows), (65, Some(Rows { first: 0, last: 0 })));
 ///             assert_eq!(shown(&next, &a, &b), [0; 64]); // drawn, but not sent yet
 ///             state = next;
@@ -208,7 +242,7 @@ pub fn open(film: &[u8], stream: usize) -> Result<State, Refusal> {
 /// // No film gives this state.
 /// let wrong = State { position: 83, ..state };
 /// let refused = step(&film, wrong, &mut palette, &mut a, &mut b, &mut place, &mut [], 312_000);
-/// assert_eq!(refused, Err(Refusal { number: 16, block: 0 }));
+/// assert_eq!(refused, Err(Refusal { error: Error::State, block: 0 }));
 /// # Ok::<(), Refusal>(())
 /// ```
 ///
@@ -216,7 +250,7 @@ pub fn open(film: &[u8], stream: usize) -> Result<State, Refusal> {
 /// start word for each channel and a byte for the sample behind each of them.
 ///
 /// ```
-/// use mve::{open, step, Refusal, Sound, Step, ROOM_BYTES};
+/// use mve::{open, step, Error, Refusal, Sound, Step, ROOM_BYTES};
 ///
 /// let film = [
 ///     &b"Interplay MVE File\x1A\0\x1A\0\0\x01\x33\x11"[..],
@@ -230,11 +264,11 @@ pub fn open(film: &[u8], stream: usize) -> Result<State, Refusal> {
 /// let mut samples: Vec<u8> = Vec::new();
 /// loop {
 ///     match step(&film, state, &mut palette, &mut [], &mut [], &mut place, &mut room, 0)? {
-///         Step::Taken(next, bytes) => {
+///         Step::Taken { state: next, bytes } => {
 ///             samples.extend(&room[..bytes]);
 ///             state = next;
 ///         }
-///         Step::Ended(_) => break,
+///         Step::Ended { .. } => break,
 ///         other => unreachable!("no picture is drawn: {other:?}"),
 ///     }
 /// }
@@ -261,8 +295,8 @@ pub fn step(
 
 /// Takes one step over a film as [`step`] does, in the strict form: no packet may leave a byte over.
 ///
-/// The two forms come to the same, but at an opcode 11 whose packet leaves exactly one byte over and
-/// has no other fault.
+/// The two forms give the same, except at an opcode 11 whose packet leaves exactly one byte over and has
+/// no other fault.
 ///
 /// # Errors
 ///
@@ -274,7 +308,7 @@ pub fn step(
 /// and a byte that pads it to an even length.
 ///
 /// ```
-/// use mve::{open, step, step_strict, Refusal, Step, NO_STREAM};
+/// use mve::{open, step, step_strict, Error, Refusal, Step, NO_STREAM};
 ///
 /// let film = [
 ///     &b"Interplay MVE File\x1A\0\x1A\0\0\x01\x33\x11"[..],
@@ -295,9 +329,9 @@ pub fn step(
 ///     state = default.state();
 /// }
 /// let refused = step_strict(&film, state, &mut palette, &mut a, &mut b, &mut place, &mut [], 65);
-/// assert_eq!(refused, Err(Refusal { number: 15, block: 0 }));
+/// assert_eq!(refused, Err(Refusal { error: Error::DataLeft, block: 0 }));
 /// let taken = step(&film, state, &mut palette, &mut a, &mut b, &mut place, &mut [], 65)?;
-/// assert!(matches!(taken, Step::Whole(_, 65, _)));
+/// assert!(matches!(taken, Step::Whole { stores: 65, .. }));
 /// assert_eq!(b, [0x2a; 64]);
 /// # Ok::<(), Refusal>(())
 /// ```
@@ -331,10 +365,10 @@ fn stepped(
     let moved = ffi::step(form, film, found, palette, a, b, place, room, allowed);
     let (state, Taken { kind, stores, rows }) = moved.taken(found)?;
     match (kind, moved.bytes, rows) {
-        (kind::ACCEPTED, bytes, None) => Ok(Step::Taken(state, bytes)),
-        (kind::WHOLE, 0, rows) => Ok(Step::Whole(state, stores, rows)),
-        (kind::UNFINISHED, 0, rows) => Ok(Step::Unfinished(state, stores, rows)),
-        (kind::ENDED, 0, None) => Ok(Step::Ended(state)),
+        (kind::ACCEPTED, bytes, None) => Ok(Step::Taken { state, bytes }),
+        (kind::WHOLE, 0, rows) => Ok(Step::Whole { state, stores, rows }),
+        (kind::UNFINISHED, 0, rows) => Ok(Step::Unfinished { state, stores, rows }),
+        (kind::ENDED, 0, None) => Ok(Step::Ended { state }),
         _ => moved.unknown(),
     }
 }

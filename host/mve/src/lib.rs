@@ -1,13 +1,54 @@
 //! The proved player core for Interplay MVE films with 8-bit pictures and sound, for Rust programs.
 //!
 //! The core is a static library whose contracts are proved. This crate hands each call on to it and
-//! gives its answers names; it decides nothing and allocates nothing. Every function takes any
-//! input and answers it; a refused call leaves everything lent to it as it was. None panics, unless
-//! the library that is linked is not the one this crate is written for.
+//! gives its answers names. It decides nothing, allocates nothing and needs no standard library. Every
+//! function takes any input and answers it; a refused call leaves everything lent to it as it was. None
+//! panics, unless another version of the library is linked than the one this crate is written for.
 //!
-//! [`open`] opens a film, [`step`] takes it chunk by chunk and opcode by opcode, keeping the palette,
-//! drawing the pictures and writing the samples to what is lent to it, and [`shown`] is the picture
-//! to show.
+//! A film is played in memory that the host lends, step by step:
+//!
+//! ```
+//! use mve::{Event, Memory, Player, PALETTE_BYTES, PICTURE_BYTES, ROOM_BYTES};
+//!
+//! // A film of one frame of one block: its size, a map, the block's colour, and 07, which sends it.
+//! let film = [
+//!     &b"Interplay MVE File\x1A\0\x1A\0\0\x01\x33\x11"[..],
+//!     &[0x0c, 0, 2, 0, 4, 0, 0x05, 0, 1, 0, 1, 0, 0, 0, 0x01, 0],
+//!     &[0x24, 0, 3, 0, 1, 0, 0x0f, 0, 0x0e, 15, 0, 0x11, 0],
+//!     &[0; 14],
+//!     &[0x2a, 4, 0, 0x07, 0, 0, 0, 0, 0, 0, 0, 0x01, 0],
+//! ]
+//! .concat();
+//!
+//! let (mut palette, mut room) = ([0; PALETTE_BYTES], vec![0; ROOM_BYTES]);
+//! let (mut a, mut b, mut place) = (vec![0; PICTURE_BYTES], vec![0; PICTURE_BYTES], 0);
+//! let memory = Memory {
+//!     palette: &mut palette,
+//!     a: &mut a,
+//!     b: &mut b,
+//!     place: &mut place,
+//!     room: &mut room,
+//! };
+//! let mut player = Player::open(&film, 0, memory)?;
+//! let mut pictures = 0;
+//! while let Some(event) = player.step()? {
+//!     match event {
+//!         Event::Picture(picture) => {
+//!             assert_eq!((picture.columns, picture.rows), (1, 1));
+//!             assert_eq!(picture.pixels, [0x2a; 64]); // show them in the palette's colours
+//!             pictures += 1;
+//!         }
+//!         Event::Samples(samples) => println!("{} bytes to play", samples.bytes.len()),
+//!         Event::Taken | Event::Drawn(_) | Event::Unfinished => {}
+//!     }
+//! }
+//! assert_eq!(pictures, 1);
+//! # Ok::<(), mve::Refusal>(())
+//! ```
+//!
+//! Below the player are the library's calls: [`open`] opens a film, [`step`] takes it chunk by chunk and
+//! opcode by opcode, keeping the palette, drawing the pictures and writing the samples to what is lent
+//! to it, [`is_sent`] tells whether a step sent a picture, and [`shown`] is the picture to show.
 //!
 //! A frame comes as a packet: a map with a code for each 8x8 block, and the blocks' data. [`check`]
 //! tells whether a packet is valid, [`draw`] draws it, at once or in pieces. Both, and [`step`], tell
@@ -15,8 +56,8 @@
 //! the others.
 //!
 //! Many films pad a packet to an even length, so these calls accept one byte left over behind the
-//! blocks' data. [`check_strict`], [`draw_strict`] and [`step_strict`] accept none: they are for the
-//! mastering desk. A player uses the others, the default forms.
+//! blocks' data. [`check_strict`], [`draw_strict`] and [`step_strict`] accept none: they are for those
+//! who make films and want every byte accounted for. A player uses the others, the default forms.
 //!
 //! ```
 //! // One block of code 7: two colours, a bit for each 2x2 pixels.
@@ -36,15 +77,26 @@
 //! # Ok::<(), mve::Refusal>(())
 //! ```
 
+#![no_std]
+
+#[cfg(test)]
+extern crate std;
+
 mod answer;
 mod ffi;
 mod film;
 mod form;
 mod packet;
+mod player;
 mod refusal;
 mod rows;
 
-pub use film::{open, shown, step, step_strict, Sound, State, Step, NO_STREAM, ROOM_BYTES};
-pub use packet::{check, check_strict, draw, draw_strict, Drawn};
-pub use refusal::Refusal;
+pub use film::{is_sent, open, shown, step, step_strict, Sound, State, Step};
+pub use film::{NO_STREAM, PALETTE_BYTES, PICTURE_BYTES, ROOM_BYTES};
+pub use packet::{check, check_strict, draw, draw_strict, Drawn, ALL_STORES, BLOCK_STORES};
+pub use player::{Event, Memory, Picture, Player, Samples};
+pub use refusal::{Error, Refusal};
 pub use rows::Rows;
+
+/// The version of the interface that this crate is written for: C's `MVE_VERSION`.
+pub const VERSION: usize = 7;

@@ -16,20 +16,20 @@ use crate::{ffi, Refusal, Rows};
 /// # Errors
 ///
 /// In this order: 6 for the size, 10 for the length of the map, then block by block 12, 13 and 14,
-/// then 15 for two bytes or more left over. The first block with a fault speaks.
+/// then 15 for two bytes or more left over. The first block with a fault is named.
 ///
 /// # Examples
 ///
 /// A frame has 1 to 80 columns and 1 to 60 rows.
 ///
 /// ```
-/// use mve::{check, Refusal};
+/// use mve::{check, Error, Refusal};
 ///
 /// assert_eq!(check(80, 1, &[0x11; 40], &[]), Ok(None));
 /// assert_eq!(check(1, 60, &[0x11; 30], &[]), Ok(None));
 /// for (columns, rows) in [(0, 1), (81, 1), (1, 0), (1, 61)] {
 ///     let map = [0x11; 41];
-///     assert_eq!(check(columns, rows, &map, &[]), Err(Refusal { number: 6, block: 0 }));
+///     assert_eq!(check(columns, rows, &map, &[]), Err(Refusal { error: Error::FrameSize, block: 0 }));
 /// }
 /// ```
 ///
@@ -37,17 +37,17 @@ use crate::{ffi, Refusal, Rows};
 /// block itself.
 ///
 /// ```
-/// # use mve::{check, Refusal, Rows};
+/// # use mve::{check, Error, Refusal, Rows};
 /// assert_eq!(check(1, 1, &[0x05], &[0x00, 0x00]), Ok(Some(Rows { first: 0, last: 0 })));
-/// assert_eq!(check(1, 1, &[0x05], &[0x01, 0x00]), Err(Refusal { number: 14, block: 0 }));
+/// assert_eq!(check(1, 1, &[0x05], &[0x01, 0x00]), Err(Refusal { error: Error::CopyOutside, block: 0 }));
 /// ```
 ///
 /// Code E has one data byte. A second one pads the packet; a third is too many.
 ///
 /// ```
-/// # use mve::{check, Refusal};
+/// # use mve::{check, Error, Refusal};
 /// assert!(check(1, 1, &[0x0E], &[7, 0]).is_ok());
-/// assert_eq!(check(1, 1, &[0x0E], &[7, 0, 0]), Err(Refusal { number: 15, block: 0 }));
+/// assert_eq!(check(1, 1, &[0x0E], &[7, 0, 0]), Err(Refusal { error: Error::DataLeft, block: 0 }));
 /// ```
 ///
 /// Two columns and four rows. The second row has a block of code 0, the third one of code E; the
@@ -68,8 +68,8 @@ pub fn check(
 
 /// Checks a packet as [`check`] does, in the strict form: no byte may be left over.
 ///
-/// It is for the mastering desk, which wants to know of every byte too many. The two forms answer the
-/// same, but where exactly one byte is left over and nothing else is wrong.
+/// It is for those who make films and want every byte accounted for. The two forms answer the same,
+/// unless exactly one byte is left over and nothing else is wrong.
 ///
 /// # Errors
 ///
@@ -78,10 +78,10 @@ pub fn check(
 /// # Examples
 ///
 /// ```
-/// use mve::{check, check_strict, Refusal};
+/// use mve::{check, check_strict, Error, Refusal};
 ///
 /// assert!(check_strict(1, 1, &[0x0E], &[7]).is_ok());
-/// assert_eq!(check_strict(1, 1, &[0x0E], &[7, 0]), Err(Refusal { number: 15, block: 0 }));
+/// assert_eq!(check_strict(1, 1, &[0x0E], &[7, 0]), Err(Refusal { error: Error::DataLeft, block: 0 }));
 /// assert!(check(1, 1, &[0x0E], &[7, 0]).is_ok());
 /// ```
 pub fn check_strict(
@@ -106,6 +106,13 @@ fn checked(
         _ => answer.unknown(),
     }
 }
+
+/// The stores of the largest picture: a call that is allowed so many is never unfinished.
+pub const ALL_STORES: usize = 312_000;
+
+/// The stores of a block that has pixels to store, 64 pixels and the place: a call that is allowed fewer
+/// finishes none.
+pub const BLOCK_STORES: usize = 65;
 
 /// How far a drawing call came.
 ///
@@ -172,8 +179,8 @@ impl Drawn {
 /// is stored once behind each block, after the block's pixels. A call that ends inside a block
 /// leaves that block's first pixels drawn, and the next call draws the block again from its first
 /// pixel. So a drawing can be stopped after any store and taken up again, and comes out the same.
-/// A call that is allowed 65 stores or more finishes at least one block of those left; no frame has
-/// more than 312,000 stores.
+/// A call that is allowed [`BLOCK_STORES`] or more finishes at least one block of those left; no frame
+/// has more than [`ALL_STORES`].
 ///
 /// # Errors
 ///
@@ -234,8 +241,8 @@ pub fn draw(
 
 /// Draws a packet as [`draw`] does, in the strict form: no byte may be left over.
 ///
-/// The two forms come to the same picture, place and answer, but where exactly one byte is left over
-/// and nothing else is wrong.
+/// The two forms give the same picture, place and answer, unless exactly one byte is left over and
+/// nothing else is wrong.
 ///
 /// # Errors
 ///
@@ -244,13 +251,13 @@ pub fn draw(
 /// # Examples
 ///
 /// ```
-/// use mve::{draw, draw_strict, Refusal};
+/// use mve::{draw, draw_strict, Error, Refusal};
 ///
 /// // A solid block, and a byte that pads the packet.
 /// let (map, padded, front) = ([0x0E], [7, 99], [0; 64]);
 /// let (mut back, mut place) = ([5; 64], 0);
 /// let refused = draw_strict(1, 1, &map, &padded, &front, &mut back, &mut place, 65);
-/// assert_eq!(refused, Err(Refusal { number: 15, block: 0 }));
+/// assert_eq!(refused, Err(Refusal { error: Error::DataLeft, block: 0 }));
 /// assert_eq!((back, place), ([5; 64], 0));
 ///
 /// let drawn = draw(1, 1, &map, &padded, &front, &mut back, &mut place, 65)?;

@@ -1,95 +1,176 @@
 //! Refusals.
 
-use std::fmt;
+use core::fmt;
 
 /// Why a call was refused. Nothing lent to the call was changed.
 ///
 /// ```
+/// use mve::{Error, Refusal};
+///
 /// // Code 6 in the second of two blocks.
 /// let refusal = mve::check(2, 1, &[0x61], &[]).unwrap_err();
-/// assert_eq!(refusal, mve::Refusal { number: 12, block: 1 });
-/// assert_eq!(refusal.to_string(), "refused 12 in block 1: code 6 is not taken in 8-bit films");
+/// assert_eq!(refusal, Refusal { error: Error::Code6, block: 1 });
+/// assert_eq!(refusal.number(), 12);
+/// assert_eq!(
+///     refusal.to_string(),
+///     "refused 12 in block 1: the block has code 6, which 8-bit films do not have"
+/// );
 /// ```
 #[derive(Clone, Copy, Debug, PartialEq, Eq, Hash)]
 pub struct Refusal {
-    /// The number of refusal, 1 to 19; see [`reason`](Refusal::reason).
-    pub number: u8,
+    /// What is wrong.
+    pub error: Error,
     /// The block that met 12, 13 or 14; else 0.
     pub block: usize,
 }
 
 impl Refusal {
-    /// What the number means.
-    ///
-    /// ```
-    /// let refusal = mve::check(81, 1, &[0x11; 41], &[]).unwrap_err();
-    /// assert_eq!(refusal.reason(), "frame size or true-colour word wrong, or a second size");
-    /// ```
-    pub const fn reason(&self) -> &'static str {
-        match self.number {
-            1 => "film header wrong or short",
-            2 => "a chunk or its head passes the end of the film",
-            3 => "an opcode or its head passes its chunk, or bytes follow the chunk's last opcode",
-            4 => "opcode type or version not taken",
-            5 => "opcode body of a wrong length",
-            6 => "frame size or true-colour word wrong, or a second size",
-            7 => "palette range or colour component too large",
-            8 => "a lent palette or picture of a wrong length",
-            9 => "video data without a frame size or a map",
-            10 => "map length does not fit the frame size",
-            11 => "place above the block count",
-            12 => "code 6 is not taken in 8-bit films",
-            13 => "too few data bytes",
-            14 => "copied from outside the picture",
-            15 => "data bytes left over",
-            16 => "a state that no film gives",
-            17 => "sound before its format, or a format both 8-bit and compressed",
-            18 => "sound data or sample count of a wrong length",
-            19 => "room too small for the samples",
-            _ => "not a number of refusal",
-        }
-    }
-
-    /// Whether the refusal names a block.
-    const fn names_block(&self) -> bool {
-        matches!(self.number, 12..=14)
+    /// The number of the refusal: C's `number`.
+    pub const fn number(&self) -> u8 {
+        self.error.number()
     }
 }
 
 impl fmt::Display for Refusal {
     fn fmt(&self, f: &mut fmt::Formatter<'_>) -> fmt::Result {
-        write!(f, "refused {}", self.number)?;
-        if self.names_block() {
+        write!(f, "refused {}", self.number())?;
+        if self.error.is_of_block() {
             write!(f, " in block {}", self.block)?;
         }
-        write!(f, ": {}", self.reason())
+        write!(f, ": {}", self.error)
     }
 }
 
-impl std::error::Error for Refusal {}
+impl core::error::Error for Refusal {}
+
+/// Declares the numbers of refusal with their texts, which are those of `include/mve.h`.
+macro_rules! errors {
+    ($($(#[$doc:meta])* $name:ident = $number:literal, $text:literal;)*) => {
+        /// The numbers of refusal by name: `MVE_ERROR_DATA_LEFT` of C is `DataLeft`. Displayed, each
+        /// says what is wrong.
+        ///
+        /// ```
+        /// use mve::Error;
+        ///
+        /// assert_eq!(Error::Room.number(), 19);
+        /// assert_eq!(Error::from_number(19), Some(Error::Room));
+        /// assert_eq!(Error::from_number(99), None);
+        /// assert_eq!(Error::Room.to_string(), "the room is too small for the samples");
+        /// ```
+        #[derive(Clone, Copy, Debug, PartialEq, Eq, PartialOrd, Ord, Hash)]
+        #[non_exhaustive]
+        #[repr(u8)]
+        pub enum Error {
+            $($(#[$doc])* $name = $number,)*
+        }
+
+        impl Error {
+            /// All of them, by number.
+            pub const ALL: &'static [Error] = &[$(Error::$name,)*];
+
+            /// The error of a number, if there is one.
+            pub const fn from_number(number: usize) -> Option<Error> {
+                match number {
+                    $($number => Some(Error::$name),)*
+                    _ => None,
+                }
+            }
+
+            /// What is wrong, in words.
+            pub const fn text(self) -> &'static str {
+                match self {
+                    $(Error::$name => $text,)*
+                }
+            }
+        }
+    };
+}
+
+errors! {
+    /// The film's header is wrong or short. Only [`open`](crate::open) meets it.
+    Header = 1, "the film does not begin with the header of an MVE film";
+    /// A chunk or its head passes the end of the film.
+    Chunk = 2, "a chunk or its head passes the end of the film";
+    /// An opcode or its head passes its chunk, or bytes follow opcode 00 or 01.
+    Opcode = 3, "an opcode or its head passes its chunk, or bytes follow the chunk's last opcode";
+    /// A type or version of opcode that is not taken.
+    Type = 4, "this type or version of opcode is not one of an 8-bit film";
+    /// An opcode's body of a wrong length.
+    BodyLength = 5, "the opcode's body has a wrong length";
+    /// Columns not 1 to 80, rows not 1 to 60, a wrong true-colour word, or a second size.
+    FrameSize = 6, "the frame size is out of bounds, given twice, or for true colour";
+    /// A palette range or a colour component that is too large.
+    Palette = 7, "a palette range or a colour component is too large";
+    /// A palette that has not 768 bytes, or a picture shorter than the frame.
+    LentLength = 8, "the palette or a picture that was lent has a wrong length";
+    /// Opcode 11 without a frame size or a map.
+    NoFrame = 9, "video data comes before a frame size or without a map";
+    /// A map whose length does not fit the frame size.
+    MapLength = 10, "the map's length does not fit the frame size";
+    /// A place above the number of blocks.
+    Place = 11, "the place is above the number of blocks";
+    /// A block of code 6.
+    Code6 = 12, "the block has code 6, which 8-bit films do not have";
+    /// Too few data bytes for a block.
+    DataShort = 13, "the packet's data ends before the block's";
+    /// A block that is copied from outside the picture.
+    CopyOutside = 14, "the block is copied from outside the picture";
+    /// Two data bytes or more left over; in the strict forms one or more.
+    DataLeft = 15, "too many data bytes are left over behind the last block";
+    /// A state that no film gives.
+    State = 16, "the state is one that no film gives";
+    /// Sound before its format, or a format both 8-bit and compressed.
+    SoundFormat = 17, "sound comes before its format, or a format is both 8-bit and compressed";
+    /// Sound whose data is not as long as its count of samples says, or whose count cannot be.
+    SoundLength = 18, "the sound's data or its count of samples has a wrong length";
+    /// A room that is too small for the samples.
+    Room = 19, "the room is too small for the samples";
+}
+
+impl Error {
+    /// The number.
+    pub const fn number(self) -> u8 {
+        self as u8
+    }
+
+    /// Whether a refusal by this number names a block.
+    pub const fn is_of_block(self) -> bool {
+        matches!(self, Error::Code6 | Error::DataShort | Error::CopyOutside)
+    }
+}
+
+impl fmt::Display for Error {
+    fn fmt(&self, f: &mut fmt::Formatter<'_>) -> fmt::Result {
+        f.write_str(self.text())
+    }
+}
+
+impl core::error::Error for Error {}
 
 #[cfg(test)]
 mod tests {
     use super::*;
     use std::collections::BTreeSet;
-
-    const UNKNOWN: &str = "not a number of refusal";
+    use std::format;
+    use std::string::ToString;
 
     #[test]
-    fn each_number_has_a_reason_of_its_own() {
-        let reasons = (1..=19).map(|number| Refusal { number, block: 0 }.reason());
-        let distinct: BTreeSet<_> = reasons.collect();
-        assert_eq!(distinct.len(), 19);
-        assert!(!distinct.contains(UNKNOWN));
-        for number in [0, 20] {
-            assert_eq!(Refusal { number, block: 0 }.reason(), UNKNOWN);
+    fn each_number_has_a_text_of_its_own() {
+        let numbers = Error::ALL.iter().map(|error| error.number());
+        assert!(numbers.eq(1..=19));
+        let texts: BTreeSet<_> = Error::ALL.iter().map(|error| error.text()).collect();
+        assert_eq!(texts.len(), 19);
+        for number in 0..=600 {
+            let named = Error::from_number(number).map(|error| usize::from(error.number()));
+            assert_eq!(named, (1..=19).contains(&number).then_some(number));
         }
     }
 
     #[test]
     fn only_12_to_14_name_the_block() {
-        for number in 1..=19 {
-            let message = Refusal { number, block: 3 }.to_string();
+        for &error in Error::ALL {
+            let number = error.number();
+            let message = Refusal { error, block: 3 }.to_string();
             let named = message.starts_with(&format!("refused {number} in block 3: "));
             assert_eq!(named, (12..=14).contains(&number), "{message}");
             assert!(named || message.starts_with(&format!("refused {number}: ")), "{message}");

@@ -1,6 +1,6 @@
 //! The rows of blocks that a packet touches.
 
-use std::ops::{Range, RangeInclusive};
+use core::ops::{Range, RangeInclusive};
 
 /// Rows of blocks, counted from 0, from the first to the last one that holds a block other than code
 /// 1. A block of code 0 counts, whatever it copies.

@@ -3,7 +3,7 @@
 //! hand from its bytes, with fields from the low end of each byte (document 02, W3). (Those that
 //! stand as examples in the documentation are run there.)
 
-use mve::{check, draw, open, step, Refusal, Step, NO_STREAM};
+use mve::{check, draw, open, step, Error, Refusal, Step, NO_STREAM};
 
 /// The picture that a single block of this code and data gives.
 fn block(code: u8, data: &[u8]) -> [u8; 64] {
@@ -89,7 +89,7 @@ fn palette_after(kind: u8, body: &[u8]) -> [u8; 768] {
     let mut state = open(&film, NO_STREAM).expect("a header");
     while state.position < film.len() {
         let stepped = step(&film, state, &mut palette, &mut [], &mut [], &mut 0, &mut [], 0);
-        let Ok(Step::Taken(next, 0)) = stepped else { panic!("{stepped:?}") };
+        let Ok(Step::Taken { state: next, bytes: 0 }) = stepped else { panic!("{stepped:?}") };
         state = next;
     }
     palette
@@ -139,7 +139,7 @@ fn refusals() {
         assert_eq!(back, [5; 128]);
         assert_eq!(place, found);
         let refusal = drawn.expect_err("refused");
-        (refusal.number, refusal.block)
+        (refusal.number(), refusal.block)
     };
     assert_eq!(meets(81, &[], &[], 0, 3), (6, 0));
     assert_eq!(meets(2, &[], &[], 127, 3), (8, 0));
@@ -156,15 +156,15 @@ fn refusals() {
 /// Slices without a byte are lent like others.
 #[test]
 fn empty_slices() {
-    let refused = |number| Err(Refusal { number, block: 0 });
-    assert_eq!(check(0, 0, &[], &[]), refused(6));
-    assert_eq!(check(1, 1, &[], &[]), refused(10));
+    let refused = |error| Err(Refusal { error, block: 0 });
+    assert_eq!(check(0, 0, &[], &[]), refused(Error::FrameSize));
+    assert_eq!(check(1, 1, &[], &[]), refused(Error::MapLength));
     assert_eq!(check(1, 1, &[0x01], &[]), Ok(None));
-    assert_eq!(check(1, 1, &[0x0E], &[]), refused(13));
+    assert_eq!(check(1, 1, &[0x0E], &[]), refused(Error::DataShort));
     let mut place = 0;
     assert_eq!(
         draw(1, 1, &[], &[], &[], &mut [], &mut place, 65),
-        Err(Refusal { number: 8, block: 0 })
+        Err(Refusal { error: Error::LentLength, block: 0 })
     );
     assert_eq!(place, 0);
 }

@@ -1,7 +1,7 @@
 //! The sentences of document 02's W5, in its order, run on the proved library. The expected values
 //! are worked out by hand from the documents.
 
-use mve::{open, step, Refusal, Sound, State, Step, ROOM_BYTES};
+use mve::{open, step, Error, Refusal, Sound, State, Step, ROOM_BYTES};
 
 const HEADER: &[u8; 26] = b"Interplay MVE File\x1A\0\x1A\0\0\x01\x33\x11";
 
@@ -65,12 +65,12 @@ fn hear(film: &[u8], stream: usize) -> Heard {
     loop {
         let (stepped, room) = step_in(film, state, ROOM_BYTES);
         let (next, bytes) = match stepped {
-            Ok(Step::Taken(next, bytes)) => (next, bytes),
-            Ok(Step::Ended(_)) => return Heard { samples, state, refused: None },
+            Ok(Step::Taken { state: next, bytes }) => (next, bytes),
+            Ok(Step::Ended { .. }) => return Heard { samples, state, refused: None },
             Ok(other) => panic!("no picture is drawn: {other:?}"),
             Err(refusal) => {
                 assert!(refusal.block == 0 && room == [0x5A; ROOM_BYTES]);
-                return Heard { samples, state, refused: Some(refusal.number) };
+                return Heard { samples, state, refused: Some(refusal.number()) };
             }
         };
         assert!(room[bytes..].iter().all(|&byte| byte == 0x5A));
@@ -152,7 +152,7 @@ fn other_masks() {
     let film = film(&[format(MONO_8), masked(0x09, 9)]);
     let state = State { position: film.len() - 10, ..hear(&film, 0).state };
     let (stepped, _) = step_in(&film, state, 0);
-    assert!(matches!(stepped, Ok(Step::Taken(_, 0))), "{stepped:?}");
+    assert!(matches!(stepped, Ok(Step::Taken { bytes: 0, .. })), "{stepped:?}");
 }
 
 /// "A later 03 starts afresh."
@@ -236,17 +236,19 @@ fn rooms() {
     let film = film(&[format(MONO_16), data(2, &[1, 2, 3, 4])]);
     let mut state = open(&film, 0).expect("a header");
     while state.position < film.len() - 14 {
-        let Ok(Step::Taken(next, 0)) = step_in(&film, state, 0).0 else { panic!("not taken") };
+        let Ok(Step::Taken { state: next, bytes: 0 }) = step_in(&film, state, 0).0 else {
+            panic!("not taken")
+        };
         state = next;
     }
     for length in 0..4 {
         let (stepped, room) = step_in(&film, state, length);
-        assert_eq!(stepped, Err(Refusal { number: 19, block: 0 }));
+        assert_eq!(stepped, Err(Refusal { error: Error::Room, block: 0 }));
         assert!(room.iter().all(|&byte| byte == 0x5A));
     }
     for length in [4, 5, 9] {
         let (stepped, room) = step_in(&film, state, length);
-        assert!(matches!(stepped, Ok(Step::Taken(_, 4))), "{stepped:?}");
+        assert!(matches!(stepped, Ok(Step::Taken { bytes: 4, .. })), "{stepped:?}");
         assert_eq!(room[..4], [1, 2, 3, 4]);
         assert!(room[4..].iter().all(|&byte| byte == 0x5A));
     }
@@ -310,15 +312,15 @@ fn refusals() {
     // 18 before 19: a count that is odd, in no room.
     let odd = film(&[format(STEREO_8), silence(3)]);
     let state = hear(&odd, 0).state;
-    assert_eq!(step_in(&odd, state, 0).0, Err(Refusal { number: 18, block: 0 }));
+    assert_eq!(step_in(&odd, state, 0).0, Err(Refusal { error: Error::SoundLength, block: 0 }));
     // 16, whatever the stream.
     for stream in [0, 15, 16, usize::MAX] {
         let kept = Sound { stream, has_format: true, compressed: true, ..Sound::default() };
         let state = State { sound: kept, ..open(HEADER, stream).expect("a header") };
-        assert_eq!(step_in(HEADER, state, 0).0, Err(Refusal { number: 16, block: 0 }));
+        assert_eq!(step_in(HEADER, state, 0).0, Err(Refusal { error: Error::State, block: 0 }));
         // Before a 03 nothing of it is read.
         let unread = Sound { has_format: false, ..kept };
         let state = State { sound: unread, ..state };
-        assert_eq!(step_in(HEADER, state, 0).0, Ok(Step::Ended(state)));
+        assert_eq!(step_in(HEADER, state, 0).0, Ok(Step::Ended { state }));
     }
 }

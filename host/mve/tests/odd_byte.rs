@@ -2,12 +2,12 @@
 //! worked out by hand from the documents.
 
 use mve::{
-    check, check_strict, draw, draw_strict, open, step, step_strict, Drawn, Refusal, Rows, State,
-    Step, NO_STREAM,
+    check, check_strict, draw, draw_strict, open, step, step_strict, Drawn, Error, Refusal, Rows,
+    State, Step, NO_STREAM,
 };
 
-fn refused<T>(number: u8, block: usize) -> Result<T, Refusal> {
-    Err(Refusal { number, block })
+fn refused<T>(number: usize, block: usize) -> Result<T, Refusal> {
+    Err(Refusal { error: Error::from_number(number).expect("a number of refusal"), block })
 }
 
 /// A packet for a row of so many blocks.
@@ -71,7 +71,7 @@ impl Form {
             state = take(state).expect("nothing is drawn yet").state();
         }
         let answer = take(state).map(|step| match step {
-            Step::Whole(next, stores, rows) => {
+            Step::Whole { state: next, stores, rows } => {
                 assert_eq!(next, State { position: film.len(), map: None, unsent: true, ..state });
                 Drawn::Whole { stores, rows }
             }
@@ -93,7 +93,7 @@ impl Form {
 
     /// All three calls refuse a packet so, and change nothing.
     #[track_caller]
-    fn refuses(&self, packet: Packet<'_>, number: u8, block: usize) {
+    fn refuses(&self, packet: Packet<'_>, number: usize, block: usize) {
         let Packet { columns, map, data } = packet;
         assert_eq!((self.check)(columns, 1, map, data), refused(number, block), "{data:x?}");
         let nothing = (refused(number, block), vec![5; 64 * columns], 0);

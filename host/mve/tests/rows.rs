@@ -2,8 +2,8 @@
 //! worked out by hand from the documents.
 
 use mve::{
-    check, check_strict, draw, draw_strict, open, step, step_strict, Drawn, Refusal, Rows, State,
-    Step, NO_STREAM,
+    check, check_strict, draw, draw_strict, open, step, step_strict, Drawn, Error, Refusal, Rows,
+    State, Step, NO_STREAM,
 };
 
 const fn rows(first: usize, last: usize) -> Option<Rows> {
@@ -136,9 +136,9 @@ fn steps() {
             let step = call(&film, state, &mut palette, &mut a, &mut b, &mut place, &mut [], 66);
             let step = step.expect("a good film");
             match step {
-                Step::Whole(_, stores, rows) => told.push((true, stores, rows)),
-                Step::Unfinished(_, stores, rows) => told.push((false, stores, rows)),
-                Step::Taken(..) | Step::Ended(_) => assert_eq!(step.rows(), None),
+                Step::Whole { stores, rows, .. } => told.push((true, stores, rows)),
+                Step::Unfinished { stores, rows, .. } => told.push((false, stores, rows)),
+                Step::Taken { .. } | Step::Ended { .. } => assert_eq!(step.rows(), None),
             }
             let inside = step.rows().map_or(0..0, |rows| rows.bytes(1));
             let (drawn, kept) = if state.front == 0 { (b, a) } else { (a, b) };
@@ -146,7 +146,7 @@ fn steps() {
             assert_eq!(kept, front);
             assert_eq!(drawn[..inside.start], before[..inside.start]);
             assert_eq!(drawn[inside.end..], before[inside.end..]);
-            if let Step::Ended(_) = step {
+            if let Step::Ended { .. } = step {
                 break;
             }
             state = step.state();
@@ -160,7 +160,10 @@ fn steps() {
 /// "Refusals: as before": the rows change nothing about them, and a refused call tells none.
 #[test]
 fn refusals() {
-    let refused = |number, block| Err(Refusal { number, block });
+    let refused = |number, block| {
+        let error = Error::from_number(number).expect("a number of refusal");
+        Err(Refusal { error, block })
+    };
     assert_eq!(check(1, 61, &[0x11; 31], &[]), refused(6, 0));
     assert_eq!(check(3, 4, &[0x11; 5], &[]), refused(10, 0));
     assert_eq!(check(1, 3, &[0x6E, 0x01], &[7]), refused(12, 1));

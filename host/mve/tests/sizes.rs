@@ -1,7 +1,7 @@
 //! The sentences of document 02's W1, run on the proved library. The expected values are worked out
 //! by hand from the documents.
 
-use mve::{check, draw, open, shown, step, Refusal, State, Step, NO_STREAM};
+use mve::{check, draw, open, shown, step, Error, Refusal, State, Step, NO_STREAM};
 
 /// The pixels of a picture of 640 by 480.
 const LARGEST: usize = 640 * 480;
@@ -27,8 +27,8 @@ fn sized(film: &[u8]) -> Result<State, Refusal> {
     step_with(film, entered, 0).map(Step::state)
 }
 
-fn refused<T>(number: u8) -> Result<T, Refusal> {
-    Err(Refusal { number, block: 0 })
+fn refused<T>(number: usize) -> Result<T, Refusal> {
+    Err(Refusal { error: Error::from_number(number).expect("a number of refusal"), block: 0 })
 }
 
 /// "Our first real film says 80 by 60 and should fill a 640 by 480 picture."
@@ -42,7 +42,7 @@ fn first_real_film() {
     assert_eq!(shown(&state, &a[..LARGEST - 1], &b), []);
     // The next step asks for pictures of that size.
     let taken = step_with(&film, state, LARGEST);
-    assert!(matches!(taken, Ok(Step::Taken(_, 0))), "{taken:?}");
+    assert!(matches!(taken, Ok(Step::Taken { bytes: 0, .. })), "{taken:?}");
     assert_eq!(step_with(&film, state, LARGEST - 1), refused(8));
     // An eighth of the bytes, or a 64th, as for sizes in pixels.
     assert_eq!(step_with(&film, state, LARGEST / 8), refused(8));

@@ -1,10 +1,10 @@
 //! Whole films beside the players that people have: libavformat splits a seeded film into packets and
-//! libavcodec decodes them, and every picture, every colour and every sample is held against those of
+//! libavcodec decodes them, and every picture, every colour and every sample is compared with those of
 //! the proved library.
 //!
 //! docs/PEERS.md lists the places where libavformat and libavcodec differ from the documents; the
 //! tests have a case for each. In comments "01" is the scope document, "02" that of the requests,
-//! "003" the source document of the file.
+//! "003" the source document of the file; docs/RULES.md says what these are.
 
 pub mod comparison;
 #[cfg(libav)]

@@ -1,12 +1,8 @@
 //! Films as the proved library plays them.
 
 use crate::played::{Picture, Played, Recording, PALETTE_BYTES};
-use mve::{Refusal, State, Step};
+use mve::{Event, Memory, Picture as Shown, Player, Refusal, Samples, PICTURE_BYTES, ROOM_BYTES};
 
-/// Pixels of the largest picture.
-const MAX_PIXELS: usize = 640 * 480;
-/// Stores of the largest picture: every packet is drawn by one step.
-const STORES_A_STEP: usize = 312_000;
 /// Pixels of the side of a block.
 const BLOCK_SIDE: usize = 8;
 
@@ -27,48 +23,35 @@ pub fn play(film: &[u8], stream: usize) -> Account {
 }
 
 fn walk(film: &[u8], stream: usize, played: &mut Played) -> Result<(), Refusal> {
-    let mut state = mve::open(film, stream)?;
-    let (mut a, mut b) = (vec![0; MAX_PIXELS], vec![0; MAX_PIXELS]);
-    let (mut palette, mut room) = (vec![0; PALETTE_BYTES], vec![0; mve::ROOM_BYTES]);
+    let (mut a, mut b) = (vec![0; PICTURE_BYTES], vec![0; PICTURE_BYTES]);
+    let (mut palette, mut room) = (vec![0; PALETTE_BYTES], vec![0; ROOM_BYTES]);
     let mut place = 0;
-    loop {
-        let step = mve::step(
-            film,
-            state,
-            &mut palette,
-            &mut a,
-            &mut b,
-            &mut place,
-            &mut room,
-            STORES_A_STEP,
-        )?;
-        let next = step.state();
-        match step {
-            Step::Ended(_) => return Ok(()),
-            Step::Taken(_, bytes) if bytes > 0 => played.hear(recording(&next, &room[..bytes])),
-            // Only a frame that is sent changes the roles (01, opcode 07).
-            Step::Taken(..) if next.front != state.front => {
-                played.pictures.push(picture(&next, mve::shown(&next, &a, &b), &palette));
-            }
-            Step::Taken(..) | Step::Whole(..) | Step::Unfinished(..) => (),
+    let memory =
+        Memory { palette: &mut palette, a: &mut a, b: &mut b, place: &mut place, room: &mut room };
+    let mut player = Player::open(film, stream, memory)?;
+    while let Some(event) = player.step()? {
+        match event {
+            Event::Picture(shown) => played.pictures.push(picture(shown)),
+            Event::Samples(samples) => played.hear(recording(samples)),
+            Event::Taken | Event::Drawn(_) | Event::Unfinished => (),
         }
-        state = next;
     }
+    Ok(())
 }
 
-fn picture(state: &State, pixels: &[u8], palette: &[u8]) -> Picture {
+fn picture(shown: Shown<'_>) -> Picture {
     Picture {
-        width: BLOCK_SIDE * state.columns,
-        height: BLOCK_SIDE * state.rows,
-        pixels: pixels.to_vec(),
-        colours: palette.to_vec(),
+        width: BLOCK_SIDE * shown.columns,
+        height: BLOCK_SIDE * shown.rows,
+        pixels: shown.pixels.to_vec(),
+        colours: shown.palette.to_vec(),
     }
 }
 
-fn recording(state: &State, samples: &[u8]) -> Recording {
+fn recording(samples: Samples<'_>) -> Recording {
     Recording {
-        channels: 1 + usize::from(state.sound.stereo),
-        sample_bytes: 1 + usize::from(state.sound.wide),
-        samples: samples.to_vec(),
+        channels: 1 + usize::from(samples.stereo),
+        sample_bytes: 1 + usize::from(samples.wide),
+        samples: samples.bytes.to_vec(),
     }
 }

@@ -1,11 +1,13 @@
 //! The demonstration film as other players see it: ffprobe tells its size and its sound, ffmpeg plays
-//! it to its end (Debian: ffmpeg), and libavcodec gives its pictures and samples. Where they are not
-//! on the machine, the tests say so and pass.
+//! it to its end (Debian: ffmpeg), and libavcodec gives its pictures, colours and samples. Where they
+//! are not on the machine, the tests say so and pass.
 
 mod common;
 
 use maker::demo::{self, FRAMES, RATE, SAMPLES, SIZE};
-use peer::libav;
+use peer::comparison::compare;
+use peer::played::Picture;
+use peer::{libav, ours};
 use std::fs;
 use std::io::{self, ErrorKind, Write};
 use std::path::{Path, PathBuf};
@@ -76,13 +78,38 @@ fn ffmpeg_gives_the_samples() {
     assert!(samples == expected, "{} bytes of {}", samples.len(), expected.len());
 }
 
-/// All but the colours of 0B and 0D, which libavformat passes over.
+/// What ffplay shows: each colour is the library's, widened to 8 bits as libavformat does it.
 #[test]
-fn libav_gives_pictures_and_samples() {
+fn ffmpeg_gives_the_colours() {
+    let film = written("seen.mve");
+    let behind = ["-an", "-f", "rawvideo", "-pix_fmt", "rgb24", "-"];
+    let Some(seen) = said("ffmpeg", &["-nostdin", "-i"], &film, &behind) else { return };
+    let ours = ours::play(&demo::film().bytes(), demo::STREAM);
+    assert_eq!(ours.refusal, None);
+    let colours = |picture: &Picture| -> Vec<u8> {
+        let entry = |&pixel: &u8| &picture.colours[3 * usize::from(pixel)..][..3];
+        let components = picture.pixels.iter().flat_map(entry);
+        components.map(|component| component << 2 | component >> 4).collect()
+    };
+    let shown: Vec<u8> = ours.played.pictures.iter().flat_map(colours).collect();
+    assert_eq!(seen.len(), 3 * FRAMES * SIZE.pixels());
+    assert!(
+        seen == shown,
+        "byte {:?}",
+        seen.iter().zip(&shown).position(|(one, other)| one != other)
+    );
+}
+
+/// By libavformat and libavcodec every picture, colour and sample is the library's; the pictures and
+/// the samples are those that the film is made from.
+#[test]
+fn libav_gives_pictures_colours_and_samples() {
     if !common::is_there() {
         return;
     }
-    let account = libav::play(&demo::film().bytes()).expect("libavformat opens the film");
+    let film = demo::film().bytes();
+    let account = libav::play(&film).expect("libavformat opens the film");
+    compare(&ours::play(&film, demo::STREAM), &account).unwrap_or_else(|why| panic!("{why}"));
     assert_eq!((&account.faults[..], account.error), (&[][..], None));
     let pictures = &account.played.pictures;
     assert_eq!(pictures.len(), FRAMES);

@@ -71,7 +71,7 @@ fn ends() {
     assert_begins(&found(|theirs| theirs.faults.push(-22)), "libav says [-22] and ends by None");
     assert_begins(&found(|theirs| theirs.error = Some(-5)), "libav says [] and ends by Some(-5)");
     let (mut ours, theirs) = alike();
-    ours.refusal = Some(mve::Refusal { number: 13, block: 4 });
+    ours.refusal = Some(mve::Refusal { error: mve::Error::DataShort, block: 4 });
     let found = compare(&ours, &theirs).expect_err("a difference");
     assert_begins(&found, "refused 13 in block 4");
 }

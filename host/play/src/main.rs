@@ -16,7 +16,7 @@
 mod sound;
 mod unsent;
 
-use mve::{Refusal, Rows, State, Step};
+use mve::{Refusal, Rows, State, Step, BLOCK_STORES, PALETTE_BYTES, PICTURE_BYTES, ROOM_BYTES};
 use sound::{Failed, Format, Sound};
 use std::env;
 use std::ffi::{OsStr, OsString};
@@ -28,10 +28,6 @@ use std::process::ExitCode;
 use std::sync::atomic::{AtomicUsize, Ordering};
 use unsent::Unsent;
 
-/// The bytes of the largest picture: 80 by 60 blocks of 8x8 pixels.
-const LARGEST_PICTURE: usize = 80 * 60 * 64;
-/// The stores of a block with pixels: a step that is allowed fewer never finishes one.
-const LEAST_ALLOWANCE: usize = 65;
 /// A player that is stopped at every opcode of sound never gets on.
 const LEAST_EVERY: usize = 2;
 
@@ -50,7 +46,7 @@ struct Kept {
     slots: [Saved; 2],
     /// Which of the two is the saved one.
     saved: AtomicUsize,
-    palette: [u8; 768],
+    palette: [u8; PALETTE_BYTES],
     a: Vec<u8>,
     b: Vec<u8>,
     place: usize,
@@ -108,9 +104,9 @@ impl Kept {
         Kept {
             slots: [Saved { state: first, sound: Sound::NONE, unsent: Unsent::NONE }; 2],
             saved: AtomicUsize::new(0),
-            palette: [0; 768],
-            a: vec![0; LARGEST_PICTURE],
-            b: vec![0; LARGEST_PICTURE],
+            palette: [0; PALETTE_BYTES],
+            a: vec![0; PICTURE_BYTES],
+            b: vec![0; PICTURE_BYTES],
             place: 0,
         }
     }
@@ -181,13 +177,13 @@ fn begin(arguments: &Arguments) -> Result<Kept, Failure> {
 /// film included.
 ///
 /// Steps are of the default form: many films pad their packets by a byte, and are to be played
-/// (`step_strict` is for the mastering desk). What a step gives is written before the state is saved: a
+/// (`step_strict` is for those who make films). What a step gives is written before the state is saved: a
 /// stop in between writes a picture twice, but loses none; samples go to the same place of the file
 /// again.
 fn run(kept: &mut Kept, arguments: &Arguments, watchdog: &mut Watchdog) -> Result<Run, Failure> {
     kept.load().sound.cut(&arguments.folder)?;
     let film = fs::read(&arguments.film).map_err(Failure::Film)?;
-    let mut room = vec![0; mve::ROOM_BYTES]; // need not outlive a stop
+    let mut room = vec![0; ROOM_BYTES]; // need not outlive a stop
     loop {
         let Saved { state, sound, mut unsent } = kept.load();
         let Kept { palette, a, b, place, .. } = kept;
@@ -201,21 +197,20 @@ fn run(kept: &mut Kept, arguments: &Arguments, watchdog: &mut Watchdog) -> Resul
         };
         let (next, bytes) = match step {
             // The next run goes on with the packet, and is told the same rows at its end.
-            Step::Unfinished(..) => return Ok(Run::Stopped),
-            Step::Ended(_) => {
+            Step::Unfinished { .. } => return Ok(Run::Stopped),
+            Step::Ended { .. } => {
                 sound.finish(&arguments.folder)?;
                 return Ok(Run::Ended);
             }
-            Step::Taken(next, bytes) => (next, bytes),
-            Step::Whole(next, _, rows) => {
+            Step::Taken { state: next, bytes } => (next, bytes),
+            Step::Whole { state: next, rows, .. } => {
                 unsent.touch(state.front, rows);
                 (next, 0)
             }
         };
         let format = format_of(&film, &state, &next);
         let sound = write_sound(sound, format, &room[..bytes], &arguments.folder)?;
-        // A picture is sent by the step that leaves no frame unsent where one was (opcode 07).
-        if state.unsent && !next.unsent {
+        if mve::is_sent(&state, &next) {
             let rows = unsent.send(next.front);
             write_picture(kept, &next, rows, arguments, film.len())?;
         }
@@ -362,9 +357,9 @@ fn read_arguments(words: &[OsString]) -> Result<Arguments, String> {
         }
         _ => return Err("usage: play FILM FOLDER ALLOWANCE [STREAM [EVERY]]".to_string()),
     };
-    let allowance = read_number(allowance, LEAST_ALLOWANCE).map_err(|text| {
+    let allowance = read_number(allowance, BLOCK_STORES).map_err(|text| {
         format!(
-            "play: allowance {text}: give a number of stores, {LEAST_ALLOWANCE} or more, \
+            "play: allowance {text}: give a number of stores, {BLOCK_STORES} or more, \
              or no block with pixels is ever finished"
         )
     })?;

@@ -13,7 +13,7 @@ use crate::refusal::Refusal;
 /// One drawing call as the book is fed it. A call cut at j is fed as one allowed j.
 #[derive(Clone, Copy, Debug)]
 pub struct Call<'a> {
-    /// Its form. Demand 3 reads the default (02, W6); the strict form is held to it, too.
+    /// Its form. Demand 3 reads the default (02, W6); the strict form keeps it, too.
     pub form: CallForm,
     /// Blocks in a row of the frame.
     pub columns: usize,

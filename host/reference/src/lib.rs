@@ -1,7 +1,7 @@
 //! A second decoder for Interplay MVE films with 8-bit pictures and sound.
 //!
-//! It is written from the documents alone and shares nothing with the player core it is held
-//! against: straightforward rather than fast, one short function for each rule. In comments "01"
+//! It is written from the documents alone and shares nothing with the player core that is compared
+//! with it: straightforward rather than fast, one short function for each rule. In comments "01"
 //! is the scope document with the requests of document "02", which decide over source document
 //! "003" (the file), which decides over source document "000" (the blocks).
 //!

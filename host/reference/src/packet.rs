@@ -16,7 +16,7 @@ const UNTOUCHED: u8 = 0x1;
 pub enum CallForm {
     /// One, since films pad packets to an even length. A call is of this form where none is named.
     Default,
-    /// None, as the mastering desk asks.
+    /// None, as those who make films ask.
     Strict,
 }
 
@@ -249,7 +249,7 @@ fn check_map_length(size: FrameSize, map: &[u8]) -> Result<(), Refusal> {
 }
 
 /// Gives each block its part of the data, and tells how many bytes are left over. All blocks are
-/// tested from block 0 on, whatever the place, and the lowest one with a fault speaks (01, "Numbers of
+/// tested from block 0 on, whatever the place, and the lowest one with a fault is named (01, "Numbers of
 /// refusal").
 fn split<'a>(
     size: FrameSize,

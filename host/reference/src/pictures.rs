@@ -1,5 +1,5 @@
 //! The pictures that a film sends, as PPM files, and the samples of its sound: what the example
-//! players are held to.
+//! players must write.
 
 use crate::film::{self, opcode, Lent, State, Stepped};
 use crate::frame::{BLOCK_SIDE, MAX_PIXELS};

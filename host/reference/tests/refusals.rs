@@ -168,7 +168,7 @@ fn order_of_checking() {
     assert_eq!(check(81, 1, &[0; 9], &data), refused(6));
     assert_eq!(check(2, 1, &[0; 9], &data), refused(10));
     assert_eq!(check(2, 1, &outside_then_6, &data), refused_in(14, 0));
-    // Block 0 lacks data (13), block 1 has code 6 (12): the lower block speaks.
+    // Block 0 lacks data (13), block 1 has code 6 (12): the lower block is named.
     assert_eq!(check(2, 1, &[0x65], &[0x01]), refused_in(13, 0));
     // Block 0 has code 6 (12) and block 1 lacks data.
     assert_eq!(check(2, 1, &[0xE6], &[]), refused_in(12, 0));

@@ -8,7 +8,7 @@
 //! | [`listing`], [`frames`] | the disassembled archive, and the bytes that each function takes |
 //! | [`report`] | the figures as they stand in `include/mve.h` and `docs/PERFORMANCE.md` |
 //!
-//! `tests/` holds both documents to the figures. `stack` prints them.
+//! `tests/` compares both documents with the figures. `stack` prints them.
 
 pub mod archive;
 pub mod arrays;

@@ -300,9 +300,10 @@ impl Case for Walk {
         let packet = list::packet_at(&self.film, state);
         let due = packet.map_or(0, |packet| list::due(&packet, left.place));
         match (undisturbed, step) {
-            (Stepped::Taken(_, bytes), mve::Step::Taken(_, again)) if *bytes == again => {}
-            (Stepped::Ended(_), mve::Step::Ended(_)) => {}
-            (Stepped::Whole(_, _, touched), mve::Step::Whole(_, stores, again))
+            (Stepped::Taken(_, bytes), mve::Step::Taken { bytes: again, .. })
+                if *bytes == again => {}
+            (Stepped::Ended(_), mve::Step::Ended { .. }) => {}
+            (Stepped::Whole(_, _, touched), mve::Step::Whole { stores, rows: again, .. })
                 if stores == due && again == rows(*touched) => {}
             _ => return Err(format!("the new step answers {step:?}, not {undisturbed:?}")),
         }

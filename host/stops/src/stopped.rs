@@ -88,10 +88,10 @@ pub fn walk<const LENT: usize>(
         let step = call(film, state, palette, a, b, place, &mut room, allowed);
         kept.leave();
         match step.map_err(io::Error::other)? {
-            Step::Unfinished(..) => {}
-            Step::Ended(_) => return Ok(steps),
-            Step::Taken(next, _) | Step::Whole(next, ..) => {
-                if state.unsent && !next.unsent {
+            Step::Unfinished { .. } => {}
+            Step::Ended { .. } => return Ok(steps),
+            Step::Taken { state: next, .. } | Step::Whole { state: next, .. } => {
+                if mve::is_sent(&state, &next) {
                     send(kept, &next)?;
                 }
                 kept.save(state::numbers(next));

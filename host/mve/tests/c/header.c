@@ -40,7 +40,7 @@ static const uint8_t samples[] = {
     0xff, 0x7f, 0x64, 0x00, 0x14, 0xf5, 0x67, 0x00, 0x13, 0xf5, 0x68, 0x00, 0x00, 0x00, 0x00, 0x00,
 };
 
-/* Every field: the padding behind the last one is nobody's. */
+/* Field by field: the padding behind the last one may differ. */
 static int is_same(struct mve_state s, struct mve_state t) {
     return s.position == t.position && s.chunk_end == t.chunk_end && s.columns == t.columns && s.rows == t.rows &&
            s.front == t.front && s.has_map == t.has_map && s.map_start == t.map_start &&
@@ -52,7 +52,6 @@ static int is_same(struct mve_state s, struct mve_state t) {
 static int sound(void) {
     uint8_t palette[768] = {0}, none[1] = {0}, room[16], heard[sizeof samples];
     size_t place = 0, length = 0, refused = 0;
-    EXPECT(MVE_VERSION == 6 && MVE_ROOM_BYTES == 2 * 65535);
 
     struct mve_stepped s = mve_open(sound_film, sizeof sound_film, 5);
     EXPECT(s.kind == MVE_TAKEN && s.bytes == 0 && s.state.stream == 5 && s.state.has_format == 0);
@@ -68,7 +67,7 @@ static int sound(void) {
             continue;
         }
         /* Nothing has changed, so the step is called again with more room. */
-        EXPECT(s.kind == MVE_REFUSED && s.number == MVE_ROOM && is_same(s.state, found) && room[0] == 0x5a);
+        EXPECT(s.kind == MVE_REFUSED && s.number == MVE_ERROR_ROOM && is_same(s.state, found) && room[0] == 0x5a);
         s = mve_step(sound_film, sizeof sound_film, found, palette, sizeof palette, none, 0, none, 0, &place, room,
                      sizeof room, 0);
         EXPECT(s.kind == MVE_TAKEN && s.bytes > 0 && length + s.bytes <= sizeof heard && room[s.bytes] == 0x5a);
@@ -91,7 +90,7 @@ static int sound(void) {
 
 static int pictures(void) {
     uint8_t palette[768] = {0}, a[64] = {0}, b[64] = {0}, drawn[64], room[1];
-    size_t place = 0, whole = 0, unfinished = 0;
+    size_t place = 0, whole = 0, unfinished = 0, sent = 0;
     memset(drawn, 0x2a, sizeof drawn);
     EXPECT(sizeof film == 82);
 
@@ -101,6 +100,7 @@ static int pictures(void) {
     while (s.kind != MVE_ENDED) {
         /* 40 is too few for the block: as a stop, it leaves a block begun. */
         size_t allowed = unfinished == 0 ? 40 : 70;
+        struct mve_state before = s.state;
         s = mve_step(film, sizeof film, s.state, palette, sizeof palette, a, sizeof a, b, sizeof b, &place, room, 0,
                      allowed);
         EXPECT(s.kind != MVE_REFUSED && s.bytes == 0);
@@ -112,7 +112,12 @@ static int pictures(void) {
             EXPECT(s.stores == 65 && place == 1 && s.state.position == 70 && s.state.unsent != 0);
             whole += 1;
         }
+        if (mve_is_sent(before, s.state)) {
+            EXPECT(before.position == 70 && before.front == 0 && s.state.front == 1);
+            sent += 1;
+        }
     }
+    EXPECT(sent == 1);
     EXPECT(unfinished == 1 && whole == 1 && s.state.position == 82 && s.state.front == 1);
     EXPECT(s.state.columns == 1 && s.state.rows == 1 && s.state.unsent == 0 && s.state.has_map == 0);
     EXPECT(mve_shown(s.state, a, sizeof a, b, sizeof b) == 64 && memcmp(b, drawn, 64) == 0);
@@ -128,14 +133,14 @@ static int pictures(void) {
 
     struct mve_stepped short_palette =
         mve_step(film, sizeof film, s.state, palette, 767, a, sizeof a, b, sizeof b, &place, room, 0, 70);
-    EXPECT(short_palette.kind == MVE_REFUSED && short_palette.number == MVE_LENT_LENGTH);
+    EXPECT(short_palette.kind == MVE_REFUSED && short_palette.number == MVE_ERROR_LENT_LENGTH);
     EXPECT(short_palette.state.position == 82);
-    EXPECT(mve_open(film, 25, 0).number == MVE_HEADER);
+    EXPECT(mve_open(film, 25, 0).number == MVE_ERROR_HEADER);
 
     /* Two blocks in a row, code 1 and then code 6, which is refused in block 1. */
     const uint8_t map[] = {0x61}, none[] = {0};
     struct mve_answer answer = mve_check(2, 1, map, 1, none, 0);
-    EXPECT(answer.kind == MVE_REFUSED && answer.number == MVE_CODE_6 && answer.block == 1);
+    EXPECT(answer.kind == MVE_REFUSED && answer.number == MVE_ERROR_CODE_6 && answer.block == 1);
     answer = mve_check(1, 1, map, 1, none, 0);
     EXPECT(answer.kind == MVE_ACCEPTED);
     place = 0;
@@ -143,13 +148,13 @@ static int pictures(void) {
     EXPECT(answer.kind == MVE_WHOLE && answer.stores == 1 && place == 1 && memcmp(b, drawn, 64) == 0);
     place = 2;
     answer = mve_draw(1, 1, map, 1, none, 0, a, sizeof a, b, sizeof b, &place, 70);
-    EXPECT(answer.kind == MVE_REFUSED && answer.number == MVE_PLACE && place == 2);
+    EXPECT(answer.kind == MVE_REFUSED && answer.number == MVE_ERROR_PLACE && place == 2);
 
     /* Columns come before rows: 80 of them are taken, 80 rows are not. */
     uint8_t untouched[40];
     memset(untouched, 0x11, sizeof untouched);
     EXPECT(mve_check(80, 1, untouched, sizeof untouched, none, 0).kind == MVE_ACCEPTED);
-    EXPECT(mve_check(1, 80, untouched, sizeof untouched, none, 0).number == MVE_FRAME_SIZE);
+    EXPECT(mve_check(1, 80, untouched, sizeof untouched, none, 0).number == MVE_ERROR_FRAME_SIZE);
     return 0;
 }
 
@@ -162,14 +167,14 @@ static int padded_packet(void) {
     for (size_t length = 1; length <= 3; length += 1) {
         struct mve_answer answer = mve_check(1, 1, map, 1, data, length);
         EXPECT(answer.kind == (length <= 2 ? MVE_ACCEPTED : MVE_REFUSED));
-        EXPECT(answer.number == (length <= 2 ? 0 : MVE_DATA_LEFT) && answer.block == 0);
+        EXPECT(answer.number == (length <= 2 ? 0 : MVE_ERROR_DATA_LEFT) && answer.block == 0);
         answer = mve_check_strict(1, 1, map, 1, data, length);
         EXPECT(answer.kind == (length == 1 ? MVE_ACCEPTED : MVE_REFUSED));
-        EXPECT(answer.number == (length == 1 ? 0 : MVE_DATA_LEFT) && answer.block == 0);
+        EXPECT(answer.number == (length == 1 ? 0 : MVE_ERROR_DATA_LEFT) && answer.block == 0);
     }
 
     struct mve_answer answer = mve_draw_strict(1, 1, map, 1, data, 2, front, 64, back, 64, &place, 70);
-    EXPECT(answer.kind == MVE_REFUSED && answer.number == MVE_DATA_LEFT && answer.stores == 0);
+    EXPECT(answer.kind == MVE_REFUSED && answer.number == MVE_ERROR_DATA_LEFT && answer.stores == 0);
     EXPECT(place == 0 && memcmp(back, zeros, 64) == 0);
     answer = mve_draw(1, 1, map, 1, data, 2, front, 64, back, 64, &place, 70);
     EXPECT(answer.kind == MVE_WHOLE && answer.stores == 65 && place == 1 && memcmp(back, drawn, 64) == 0);
@@ -199,12 +204,12 @@ static int padded_film(void) {
     struct mve_state at_video = s.state;
     s = mve_step_strict(padded, sizeof padded, at_video, palette, sizeof palette, a, sizeof a, b, sizeof b, &place, room,
                         0, 70);
-    EXPECT(s.kind == MVE_REFUSED && s.number == MVE_DATA_LEFT && s.block == 0 && s.stores == 0 && s.bytes == 0);
+    EXPECT(s.kind == MVE_REFUSED && s.number == MVE_ERROR_DATA_LEFT && s.block == 0 && s.stores == 0 && s.bytes == 0);
     EXPECT(is_same(s.state, at_video) && place == 0 && memcmp(b, zeros, 64) == 0);
     /* Every number but 0 means the strict form. */
     s = mve_step_as(padded, sizeof padded, at_video, palette, sizeof palette, a, sizeof a, b, sizeof b, &place, room, 0,
                     70, (size_t)-1);
-    EXPECT(s.kind == MVE_REFUSED && s.number == MVE_DATA_LEFT && memcmp(b, zeros, 64) == 0);
+    EXPECT(s.kind == MVE_REFUSED && s.number == MVE_ERROR_DATA_LEFT && memcmp(b, zeros, 64) == 0);
     s = mve_step(padded, sizeof padded, at_video, palette, sizeof palette, a, sizeof a, b, sizeof b, &place, room, 0, 70);
     EXPECT(s.kind == MVE_WHOLE && s.stores == 65 && s.state.position == 71 && place == 1);
     EXPECT(memcmp(b, drawn, 64) == 0);
@@ -216,6 +221,28 @@ static int padded_film(void) {
                             70);
     }
     EXPECT(s.kind == MVE_ENDED && s.state.front == 1 && memcmp(b, drawn, 64) == 0);
+    return 0;
+}
+
+/* The constants, from the rules: 256 entries of three bytes; 80 by 60 blocks of 64 pixels; as many blocks of 65 stores; a
+   word of samples, two bytes each. */
+static int constants(void) {
+    EXPECT(MVE_VERSION == 7 && MVE_PALETTE_BYTES == 256 * 3 && MVE_PICTURE_BYTES == 80 * 60 * 64);
+    EXPECT(MVE_BLOCK_STORES == 64 + 1 && MVE_ALL_STORES == 80 * 60 * MVE_BLOCK_STORES);
+    EXPECT(MVE_ROOM_BYTES == 2 * 65535 && MVE_NO_STREAM == 16);
+    return 0;
+}
+
+/* Every number has a text of its own, and no other has one; 12 to 14 name a block. */
+static int texts(void) {
+    const char *none = mve_refusal_text(0);
+    for (size_t number = 0; number <= 30; number += 1) {
+        EXPECT((strcmp(mve_refusal_text(number), none) != 0) == (number >= 1 && number <= 19));
+        EXPECT((mve_is_of_block(number) != 0) == (number >= 12 && number <= 14));
+        for (size_t other = 1; other < number && number <= 19; other += 1) {
+            EXPECT(strcmp(mve_refusal_text(number), mve_refusal_text(other)) != 0);
+        }
+    }
     return 0;
 }
 
@@ -235,7 +262,8 @@ static int rows(void) {
     EXPECT(has_rows(mve_check_strict(1, 4, map, 2, data, 1), 1, 1, 2));
     EXPECT(has_rows(mve_check_strict(1, 4, map, 2, data, 2), 0, 0, 0));
     EXPECT(has_rows(mve_check(1, 4, untouched, 2, data, 0), 0, 0, 0));
-    for (struct mve_answer answer = {0}; answer.kind != MVE_WHOLE; calls += 1) {
+    struct mve_answer answer = mve_check(1, 4, map, 2, data, 1);
+    for (; answer.kind != MVE_WHOLE; calls += 1) {
         answer = calls % 2 ? mve_draw(1, 4, map, 2, data, 1, front, 256, back, 256, &place, 65)
                            : mve_draw_strict(1, 4, map, 2, data, 1, front, 256, back, 256, &place, 65);
         EXPECT(answer.kind != MVE_REFUSED && has_rows(answer, 1, 1, 2));
@@ -256,5 +284,5 @@ static int rows(void) {
 }
 
 int main(void) {
-    return pictures() | sound() | padded_packet() | padded_film() | rows();
+    return constants() | texts() | pictures() | sound() | padded_packet() | padded_film() | rows();
 }

@@ -23,7 +23,7 @@ fn header() {
     for index in 0..22 {
         let mut wrong = good.clone();
         wrong[index] ^= 1;
-        assert_eq!(ours::play(&wrong, STREAM).refusal.map(|refusal| refusal.number), Some(1));
+        assert_eq!(ours::play(&wrong, STREAM).refusal.map(|refusal| refusal.number()), Some(1));
         assert!(libav::play(&wrong).is_err(), "{index}");
     }
 }
@@ -148,7 +148,7 @@ fn refused_maps() {
 fn missing_map() {
     let [_, video] = packet(&[0xEE], &[3, 4]);
     let played = play(&film(PAIR, &[pair(1, 2), chunk(VIDEO, &[video, send()]), pair(5, 6)]));
-    assert_eq!(played.ours.refusal.map(|refusal| refusal.number), Some(9));
+    assert_eq!(played.ours.refusal.map(|refusal| refusal.number()), Some(9));
     assert_eq!((played.libav.faults.len(), played.libav.error), (1, None));
     assert_eq!(played.blocks()[1], [[1, 2], [5, 6]]);
 }
@@ -174,14 +174,14 @@ fn refused_opcodes() {
     for (kind, expected) in [(0x06, whole), (0x0E, &[[1, 2], [5, 6]]), (0x10, whole)] {
         let unknown = chunk(VIDEO, &[opcode(kind, &[0; 14])]);
         let played = play(&film(PAIR, &[pair(1, 2), unknown, pair(3, 4), pair(5, 6)]));
-        assert_eq!(played.ours.refusal.map(|refusal| refusal.number), Some(4), "{kind}");
+        assert_eq!(played.ours.refusal.map(|refusal| refusal.number()), Some(4), "{kind}");
         assert_eq!((played.libav.faults.len(), played.libav.error), (1, None), "{kind}");
         let [ours, libav] = played.blocks();
         assert_eq!(ours, [[1, 2]], "{kind}");
         assert_eq!(libav, expected, "{kind}");
     }
     let played = play(&film(PAIR, &[pair(1, 2), chunk(VIDEO, &[opcode(0x16, &[])]), pair(3, 4)]));
-    assert_eq!(played.ours.refusal.map(|refusal| refusal.number), Some(4));
+    assert_eq!(played.ours.refusal.map(|refusal| refusal.number()), Some(4));
     assert!(played.libav.error.is_some());
     assert_eq!(played.blocks(), [[[1, 2]]; 2]);
 }

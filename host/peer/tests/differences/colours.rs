@@ -11,7 +11,7 @@ fn coloured(opcode: Opcode) -> Vec<u8> {
     film(PAIR, &[chunk(VIDEO, &[opcode]), pair(1, 2)])
 }
 
-/// 003: components are 0 to 63; the papers do not widen them. The example players take the nearest of
+/// 003: components are 0 to 63; the rules do not widen them. The example players take the nearest of
 /// 0 to 255, libavformat repeats the two highest bits behind the lowest: one less for 11 to 15, one
 /// more for 48 to 52.
 #[test]

@@ -125,7 +125,8 @@ impl Accounts {
     /// Asserts that the library refuses the film and libav plays it to its end without a fault.
     #[track_caller]
     pub fn refused(self, number: u8, block: usize) -> Accounts {
-        assert_eq!(self.ours.refusal, Some(mve::Refusal { number, block }));
+        let found = self.ours.refusal.map(|refusal| (refusal.number(), refusal.block));
+        assert_eq!(found, Some((number, block)));
         self.libav_ended()
     }
 

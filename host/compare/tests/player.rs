@@ -1,0 +1,120 @@
+//! The wrapper's loop over a film gives the second decoder's pictures, samples and refusal, also where
+//! each step is allowed few stores, and where it goes on from a saved state.
+
+use maker::{film, sound, sound_damage, Seeded};
+use mve::{Event, Memory, Player, Refusal, PALETTE_BYTES, PICTURE_BYTES, ROOM_BYTES};
+use reference::pictures;
+
+/// What a loop gave: the colours of each picture, the samples, how often it was unfinished, and the
+/// refusal.
+#[derive(Debug, Default)]
+struct Given {
+    pictures: Vec<Vec<u8>>,
+    samples: Vec<u8>,
+    unfinished: usize,
+    refusal: Option<Refusal>,
+}
+
+/// The colours of a picture as the second decoder's PPM files have them: the nearest of 0 to 255.
+fn colours(picture: &mve::Picture<'_>) -> Vec<u8> {
+    assert_eq!(picture.pixels.len(), 64 * picture.columns * picture.rows);
+    let entries =
+        picture.pixels.iter().map(|&pixel| &picture.palette[3 * usize::from(pixel)..][..3]);
+    entries.flatten().map(|&component| ((u16::from(component) * 255 + 31) / 63) as u8).collect()
+}
+
+impl Given {
+    fn take(&mut self, event: Event<'_>) {
+        match event {
+            Event::Picture(picture) => self.pictures.push(colours(&picture)),
+            Event::Samples(samples) => self.samples.extend(samples.bytes),
+            Event::Unfinished => self.unfinished += 1,
+            Event::Taken | Event::Drawn(_) => {}
+        }
+    }
+}
+
+/// Plays a film, by a new player after every so many steps: it has the state that the last one gave,
+/// and the same memory.
+fn play(film: &[u8], stream: usize, allowed: usize, steps: usize) -> Given {
+    let mut given = Given::default();
+    let (mut palette, mut room, mut place) = (vec![0; PALETTE_BYTES], vec![0; ROOM_BYTES], 0);
+    let (mut a, mut b) = (vec![0; PICTURE_BYTES], vec![0; PICTURE_BYTES]);
+    let mut saved = None;
+    loop {
+        let memory = Memory {
+            palette: &mut palette,
+            a: &mut a,
+            b: &mut b,
+            place: &mut place,
+            room: &mut room,
+        };
+        let player = match saved {
+            Some(state) => Ok(Player::resume(film, state, memory)),
+            None => Player::open(film, stream, memory),
+        };
+        let mut player = match player {
+            Ok(player) => player.allowed(allowed),
+            Err(refusal) => return Given { refusal: Some(refusal), ..given },
+        };
+        for _ in 0..steps {
+            match player.step() {
+                Ok(Some(event)) => given.take(event),
+                Ok(None) => return given,
+                Err(refusal) => return Given { refusal: Some(refusal), ..given },
+            }
+        }
+        saved = Some(*player.state());
+    }
+}
+
+fn assert_given(film: &[u8], stream: usize, allowed: usize, steps: usize) -> Given {
+    let (given, second) = (play(film, stream, allowed, steps), pictures::play(film, stream));
+    let refusal = given.refusal.map(|refusal| (refusal.number(), refusal.block));
+    assert_eq!(refusal, second.refusal.map(|refusal| (refusal.number, refusal.block)));
+    assert_eq!(given.pictures.len(), second.pictures.len());
+    for (number, (picture, ppm)) in given.pictures.iter().zip(&second.pictures).enumerate() {
+        assert!(ppm.ends_with(picture) && ppm.len() - picture.len() < 60, "picture {number}");
+    }
+    let samples = second.recordings.iter().flat_map(|recording| &recording.samples);
+    assert!(given.samples.iter().eq(samples), "{} bytes of samples", given.samples.len());
+    given
+}
+
+#[test]
+fn films() {
+    let (mut pictures, mut samples, mut unfinished) = (0, 0, 0);
+    for seed in 0..60 {
+        let rng = &mut Seeded::new(seed);
+        let stream = rng.below(16);
+        let film = sound::with_frames(rng, stream, 3).bytes();
+        for (allowed, steps) in [(mve::ALL_STORES, usize::MAX), (mve::BLOCK_STORES, 7), (1000, 1)] {
+            let given = assert_given(&film, stream, allowed, steps);
+            pictures += given.pictures.len();
+            samples += given.samples.len();
+            unfinished += given.unfinished;
+            assert_eq!(given.refusal, None, "seed {seed}");
+        }
+    }
+    assert!(
+        pictures >= 300 && samples >= 10_000 && unfinished >= 1000,
+        "{pictures} {samples} {unfinished}"
+    );
+}
+
+#[test]
+fn refused_films() {
+    let mut refused = 0;
+    for seed in 0..60 {
+        let rng = &mut Seeded::new(seed);
+        for film in [film::hostile(rng), sound::scratched(rng, 0), sound::hostile(rng), Vec::new()]
+        {
+            refused += usize::from(assert_given(&film, 0, 1000, 5).refusal.is_some());
+        }
+        for damage in sound_damage::Damage::ALL {
+            let film = sound_damage::damaged(rng, 0, damage).bytes();
+            refused += usize::from(assert_given(&film, 0, 1000, 5).refusal.is_some());
+        }
+    }
+    assert!(refused >= 200, "{refused}");
+}

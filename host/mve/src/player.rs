@@ -1,0 +1,151 @@
+//! A loop over a film: one step at a time, told as an event.
+
+use crate::film::{is_sent, open, shown, step, step_strict, State, Step};
+use crate::{Refusal, Rows, ALL_STORES};
+
+/// The memory that a film is played in. The library allocates none, so the host lends it.
+///
+/// Let palette, pictures and place be 0 at first. The lengths are those of
+/// [`PALETTE_BYTES`](crate::PALETTE_BYTES), [`PICTURE_BYTES`](crate::PICTURE_BYTES) and
+/// [`ROOM_BYTES`](crate::ROOM_BYTES), which are enough for every film; pictures may be shorter where
+/// the frame is smaller, and the room where packets of sound are, or where no sound is wanted.
+#[derive(Debug)]
+pub struct Memory<'m> {
+    /// 256 entries of red, green and blue, 0 to 63.
+    pub palette: &'m mut [u8],
+    /// One of the two pictures, a byte a pixel.
+    pub a: &'m mut [u8],
+    /// The other one.
+    pub b: &'m mut [u8],
+    /// The first block that is not finished.
+    pub place: &'m mut usize,
+    /// Where samples are written.
+    pub room: &'m mut [u8],
+}
+
+/// A film that is being played: the film, the state between two steps, and the lent memory.
+///
+/// [`step`](Player::step) makes one call of the library and tells what it gave, so a loop over it is a
+/// loop over the film. It decides nothing else and allocates nothing. The first example of this crate
+/// shows it.
+///
+/// A player that must go on after a stop saves [`state`](Player::state) after every step, and comes back
+/// by [`resume`](Player::resume) with palette, pictures and place as the stop left them.
+#[derive(Debug)]
+pub struct Player<'f, 'm> {
+    film: &'f [u8],
+    state: State,
+    memory: Memory<'m>,
+    allowed: usize,
+    strict: bool,
+}
+
+/// What a step gave.
+#[derive(Clone, Copy, Debug, PartialEq, Eq)]
+pub enum Event<'p> {
+    /// A chunk's head or an opcode was taken that gives neither a picture nor samples.
+    Taken,
+    /// A frame was drawn to its end; it is not sent yet. With the rows of blocks that it touches.
+    Drawn(Option<Rows>),
+    /// A picture was sent: it is to be shown.
+    Picture(Picture<'p>),
+    /// Samples were written.
+    Samples(Samples<'p>),
+    /// The stores allowed were made, and the picture is not drawn to its end. The next step goes on
+    /// with it.
+    Unfinished,
+}
+
+/// A picture that is shown.
+#[derive(Clone, Copy, Debug, PartialEq, Eq)]
+pub struct Picture<'p> {
+    /// Of 8x8 blocks: the picture is 8 times as many pixels wide.
+    pub columns: usize,
+    /// Of 8x8 blocks: the picture is 8 times as many pixels high.
+    pub rows: usize,
+    /// A palette entry for each pixel, row by row.
+    pub pixels: &'p [u8],
+    /// 256 entries of red, green and blue, 0 to 63.
+    pub palette: &'p [u8],
+}
+
+/// The samples of a packet of sound.
+#[derive(Clone, Copy, Debug, PartialEq, Eq)]
+pub struct Samples<'p> {
+    /// Two channels, left and right in turn; else one.
+    pub stereo: bool,
+    /// Samples of 16 bits, signed, low byte first; else of 8 bits, unsigned.
+    pub wide: bool,
+    /// The samples.
+    pub bytes: &'p [u8],
+}
+
+impl<'f, 'm> Player<'f, 'm> {
+    /// Opens a film for a stream of its sound, as [`open`](crate::open) does.
+    ///
+    /// # Errors
+    ///
+    /// [`Error::Header`](crate::Error::Header) where the film's header is wrong or short.
+    pub fn open(film: &'f [u8], stream: usize, memory: Memory<'m>) -> Result<Self, Refusal> {
+        Ok(Player::resume(film, open(film, stream)?, memory))
+    }
+
+    /// Goes on with a film from a state that was saved.
+    pub const fn resume(film: &'f [u8], state: State, memory: Memory<'m>) -> Self {
+        Player { film, state, memory, allowed: ALL_STORES, strict: false }
+    }
+
+    /// Allows each step so many stores; else it is [`ALL_STORES`], and no step is unfinished.
+    #[must_use]
+    pub const fn allowed(mut self, stores: usize) -> Self {
+        self.allowed = stores;
+        self
+    }
+
+    /// Takes steps of the strict form: no packet may leave a byte over.
+    #[must_use]
+    pub const fn strict(mut self) -> Self {
+        self.strict = true;
+        self
+    }
+
+    /// The state for the next step.
+    pub const fn state(&self) -> &State {
+        &self.state
+    }
+
+    /// Takes one step, and tells what it gave; none where the film has ended.
+    ///
+    /// # Errors
+    ///
+    /// Those of [`step`](crate::step). Nothing has changed, so the same step is refused again.
+    pub fn step(&mut self) -> Result<Option<Event<'_>>, Refusal> {
+        let Memory { palette, a, b, place, room } = &mut self.memory;
+        let call = if self.strict { step_strict } else { step };
+        let before = self.state;
+        let stepped = call(self.film, before, palette, a, b, place, room, self.allowed)?;
+        self.state = stepped.state();
+        Ok(match stepped {
+            Step::Ended { .. } => None,
+            Step::Unfinished { .. } => Some(Event::Unfinished),
+            Step::Taken { bytes: bytes @ 1.., .. } => Some(Event::Samples(self.samples(bytes))),
+            Step::Whole { rows, .. } => Some(Event::Drawn(rows)),
+            Step::Taken { .. } if is_sent(&before, &self.state) => {
+                Some(Event::Picture(self.picture()))
+            }
+            Step::Taken { .. } => Some(Event::Taken),
+        })
+    }
+
+    /// The picture that is shown; it has no pixel before the film has told its size.
+    pub fn picture(&self) -> Picture<'_> {
+        let (Memory { palette, a, b, .. }, State { columns, rows, .. }) =
+            (&self.memory, self.state);
+        Picture { columns, rows, pixels: shown(&self.state, a, b), palette }
+    }
+
+    fn samples(&self, bytes: usize) -> Samples<'_> {
+        let sound = self.state.sound;
+        Samples { stereo: sound.stereo, wide: sound.wide, bytes: &self.memory.room[..bytes] }
+    }
+}
