@@ -38,6 +38,7 @@ mve_step    one step: a chunk's head, or one opcode with its palette change, its
 mve_shown   how many bytes of the front picture are shown
 mve_check   whether a packet is accepted, without drawing it
 mve_draw    the drawing of a packet, without a film
+mve_origin  which byte or pixel gave a pixel of a packet's picture its value
 
 mve_step_strict, mve_check_strict and mve_draw_strict are the strict forms: a packet may leave no byte over (THE PACKET).
 mve_is_sent tells whether a step sent a picture to the display. mve_refusal_text says in words why a call was refused.
@@ -98,8 +99,8 @@ libmve.a is one object for x86-64 and the System V ABI. It needs no operating sy
 undefined below. Every function has a section of its own, so that the linker's --gc-sections leaves out those that are not
 called. All relocations are relative: code and constants may be loaded at any address, as long as they stay together.
 
-    code                        40,822 bytes
-    constants                   1,201 bytes
+    code                        42,204 bytes
+    constants                   1,377 bytes
     memory of its own           0 bytes
     undefined symbols           memset
     relocations                 R_X86_64_PC32, R_X86_64_PLT32
@@ -107,11 +108,12 @@ called. All relocations are relative: code and constants may be loaded at any ad
     below the stack pointer     40 bytes
     stack of mve_check          176 bytes
     stack of mve_check_strict   176 bytes
-    stack of mve_draw           464 bytes
-    stack of mve_draw_strict    464 bytes
+    stack of mve_draw           496 bytes
+    stack of mve_draw_strict    496 bytes
     stack of mve_open           8 bytes
+    stack of mve_origin         272 bytes
     stack of mve_shown          8 bytes
-    stack of mve_step_as        800 bytes
+    stack of mve_step_as        832 bytes
 
 The stack of a call is the most that it takes, together with all that it calls: return addresses, pushed registers and
 arguments, locals with the copies of constant tables, and what is used below the stack pointer. Each call takes less than
@@ -232,6 +234,20 @@ sent.
 Save the rows together with the state, in one write: a stop may fall between 11 and 07. A drawing that was stopped or is
 unfinished is taken again and tells the same rows at its end. A host that gives up an unfinished drawing must join the
 rows of MVE_UNFINISHED, too.
+
+WHERE A PIXEL COMES FROM
+
+Every pixel of a picture is read from one place: a byte of the packet, or a pixel of a picture. mve_origin names it, and it
+holds the very value that the pixel has once the packet is drawn. Of a pattern that is the byte of the colour, not that of
+the bits which chose it.
+
+    MVE_DATA     byte `byte` of the packet, counted from its first: codes 7 to F
+    MVE_FRONT    pixel x, y of front: codes 0, 4 and 5
+    MVE_BACK     pixel x, y of back as it was before the packet: code 1, the pixel itself, and code 2
+    MVE_NEW      pixel x, y of the new picture, in an earlier block: code 3. Ask again for that pixel to go on.
+
+The packet is what mve_check takes as data: in a film, what stands behind the 14 bytes of opcode 11. Of front and back only
+the lengths are read.
 */
 
 #ifndef MVE_H
@@ -246,7 +262,7 @@ extern "C" {
 
 /* The version of this interface. It changes with every change of the calls, of the structs, of the names, of the packets
    that are accepted and of the pictures that they give. CHANGELOG.md says what changed in each. */
-#define MVE_VERSION 7
+#define MVE_VERSION 8
 
 /* The bytes of the palette: 256 entries of red, green and blue. */
 #define MVE_PALETTE_BYTES 768
@@ -269,6 +285,7 @@ extern "C" {
 /* What a call answers. */
 enum mve_kind {
     MVE_ACCEPTED = 0,   /* mve_check: the packet gives a picture, and no more bytes are left over than may be */
+    MVE_FOUND = 0,      /* mve_origin: the byte or the pixel is named */
     MVE_TAKEN = 0,      /* mve_open, mve_step: done; nothing was drawn */
     MVE_WHOLE = 1,      /* the picture is drawn to its end */
     MVE_UNFINISHED = 2, /* the stores allowed were made; more are due */
@@ -299,7 +316,8 @@ enum mve_refusal {
     MVE_ERROR_SOUND_FORMAT = 17, /* 08 or 09 of the stream before a 03, or a 03 both 8-bit and compressed */
     MVE_ERROR_SOUND_LENGTH = 18, /* data not as long as the count of samples says, a count that is odd in stereo, or
                                     below the channels in the first compressed 08 */
-    MVE_ERROR_ROOM = 19          /* room too small for the samples */
+    MVE_ERROR_ROOM = 19,         /* room too small for the samples */
+    MVE_ERROR_POSITION = 22      /* a position outside the picture (mve_origin alone) */
 };
 
 /* What a number of refusal means, for messages. */
@@ -324,6 +342,7 @@ static inline const char *mve_refusal_text(size_t number) {
     case MVE_ERROR_SOUND_FORMAT: return "sound comes before its format, or a format is both 8-bit and compressed";
     case MVE_ERROR_SOUND_LENGTH: return "the sound's data or its count of samples has a wrong length";
     case MVE_ERROR_ROOM: return "the room is too small for the samples";
+    case MVE_ERROR_POSITION: return "the position lies outside the picture";
     default: return "not a number of refusal";
     }
 }
@@ -332,6 +351,14 @@ static inline const char *mve_refusal_text(size_t number) {
 static inline int mve_is_of_block(size_t number) {
     return number >= MVE_ERROR_CODE_6 && number <= MVE_ERROR_COPY_OUTSIDE;
 }
+
+/* What gave a pixel its value. */
+enum mve_source {
+    MVE_DATA = 0,  /* a byte of the packet */
+    MVE_FRONT = 1, /* a pixel of front */
+    MVE_BACK = 2,  /* a pixel of back, as it was before the packet */
+    MVE_NEW = 3    /* a pixel of the new picture */
+};
 
 /* Where a walk over a film is. It goes into a step, and the next state comes back. Change nothing in it. */
 struct mve_state {
@@ -386,6 +413,19 @@ struct mve_stepped {
 static inline int mve_is_sent(struct mve_state before, struct mve_state after) {
     return before.unsent != 0 && after.unsent == 0;
 }
+
+/* Where a pixel comes from. number: of a refusal, else 0. block: the pixel's, or that of a refusal. code: the block's. byte:
+   where source is MVE_DATA, else 0. x, y: where it is not, else 0. A refusal has 0 behind block. */
+struct mve_traced {
+    size_t kind;
+    size_t number;
+    size_t block;
+    size_t code;
+    size_t source;
+    size_t byte;
+    size_t x;
+    size_t y;
+};
 
 /* The first state of a film, for this stream of its sound: MVE_TAKEN, or MVE_REFUSED by MVE_ERROR_HEADER with a state of
    zeros. Reads the film alone. */
@@ -447,6 +487,14 @@ struct mve_answer mve_draw_strict(size_t columns, size_t rows, const uint8_t *ma
                                   const uint8_t *data, size_t data_length, const uint8_t *front,
                                   size_t front_length, uint8_t *back, size_t back_length, size_t *place,
                                   size_t allowed);
+
+/* Which byte or pixel gives the pixel at x, y its value, in the picture of columns by rows blocks that a packet gives where
+   front and back are as mve_draw finds them at place 0: MVE_FOUND, or MVE_REFUSED by 6, 8, 10, 12 to 15, then 22. One byte
+   may be left over. Nothing is drawn. */
+struct mve_traced mve_origin(size_t columns, size_t rows, const uint8_t *map, size_t map_length,
+                             const uint8_t *data, size_t data_length, const uint8_t *front,
+                             size_t front_length, const uint8_t *back, size_t back_length, size_t x,
+                             size_t y);
 
 #ifdef __cplusplus
 }

@@ -1,5 +1,7 @@
 //! Reading a film: its header is judged before the rest is read.
 
+use crate::messages::{Failure, Kept};
+use crate::refusals::Refused;
 use mve::Refusal;
 use std::fs::File;
 use std::io::{self, Read};
@@ -14,6 +16,18 @@ pub enum Unread {
     Failed(io::Error),
     /// The header is refused. With the length of the file.
     Refused(Refusal, u64),
+}
+
+impl Unread {
+    /// What to say of it, where one film is looked into.
+    pub fn failure(self, path: &Path) -> Failure {
+        match self {
+            Unread::Failed(error) => Failure::Read(path.into(), error),
+            Unread::Refused(refusal, _) => {
+                Failure::Refused(path.into(), Refused::new(refusal, 0), Kept::OnlyBefore(0))
+            }
+        }
+    }
 }
 
 impl From<io::Error> for Unread {

@@ -3,11 +3,16 @@
 //! A subcommand is a file that offers a [`Subcommand`].
 
 mod arguments;
+mod blocks;
+mod canvas;
+mod chain;
 mod clock;
 mod colours;
+mod drawings;
 mod film;
 mod info;
 mod json;
+mod legend;
 mod listing;
 mod messages;
 mod opcodes;
@@ -20,6 +25,7 @@ mod report;
 mod sound;
 mod table;
 mod walk;
+mod why;
 
 use clap::{ArgMatches, Command};
 use messages::Failure;
@@ -28,7 +34,8 @@ use std::io::{self, Write};
 use std::process::ExitCode;
 
 /// All subcommands, in the order of the help.
-const SUBCOMMANDS: [Subcommand; 2] = [info::SUBCOMMAND, play::SUBCOMMAND];
+const SUBCOMMANDS: [Subcommand; 4] =
+    [info::SUBCOMMAND, play::SUBCOMMAND, why::SUBCOMMAND, blocks::SUBCOMMAND];
 
 /// The version of the command, and that of the library's interface.
 const VERSION: &str =

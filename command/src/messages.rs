@@ -32,6 +32,10 @@ pub enum Failure {
     Refused(PathBuf, Refused, Kept),
     /// A film that sends too few pictures: so many.
     NoPicture(PathBuf, usize),
+    /// A film that does not send the picture that is asked for: it sends so many.
+    NotSent(PathBuf, usize),
+    /// A position outside the film's pictures, which are so wide and high.
+    Outside(PathBuf, u16, u16),
     /// A film without sound in the stream, and the streams that it has.
     NoSound(PathBuf, usize, Vec<usize>),
     /// More than a WAV file can hold.
@@ -49,6 +53,8 @@ pub enum Kept {
     NoPicture,
     /// So many are written.
     Pictures(usize),
+    /// Nothing was to be written; so many were sent before.
+    OnlyBefore(usize),
 }
 
 impl Kept {
@@ -77,7 +83,10 @@ impl Failure {
 
     pub fn status(&self) -> u8 {
         match self {
-            Failure::Refused(..) | Failure::NoPicture(..) | Failure::NoSound(..) => REFUSED,
+            Failure::Refused(..)
+            | Failure::NoPicture(..)
+            | Failure::NotSent(..)
+            | Failure::NoSound(..) => REFUSED,
             Failure::Closed => CLOSED,
             _ => FAILED,
         }
@@ -106,10 +115,27 @@ impl fmt::Display for Failure {
                 write!(f, "Y4M is not for a terminal: send it to a player (| ffplay -) or a file")
             }
             Failure::Refused(path, refused, kept) => write!(f, "{}: {refused} {kept}", name(path)),
-            Failure::NoPicture(path, 0) => write!(f, "{}: the film sends no picture", name(path)),
+            Failure::NoPicture(path, 0) | Failure::NotSent(path, 0) => {
+                write!(f, "{}: the film sends no picture", name(path))
+            }
             Failure::NoPicture(path, count) => {
                 let (path, last) = (name(path), count - 1);
                 write!(f, "{path}: the film sends pictures 0 to {last} only: give a lower --from")
+            }
+            Failure::NotSent(path, 1) => {
+                write!(f, "{}: the film sends picture 0 only: give 0", name(path))
+            }
+            Failure::NotSent(path, count) => {
+                let (path, last) = (name(path), count - 1);
+                write!(f, "{path}: the film sends pictures 0 to {last} only: give one of these")
+            }
+            Failure::Outside(path, width, height) => {
+                let (path, right, bottom) = (name(path), width - 1, height - 1);
+                write!(
+                    f,
+                    "{path}: the pictures are {width}x{height}: give X from 0 to {right} and "
+                )?;
+                write!(f, "Y from 0 to {bottom}")
             }
             Failure::NoSound(path, stream, others) => no_sound(f, path, *stream, others),
             Failure::SoundTooLong(path) => {
@@ -144,6 +170,9 @@ impl fmt::Display for Kept {
         match self {
             Kept::Nothing => write!(f, "Nothing is written; --partial keeps what comes before it."),
             Kept::NoPicture => write!(f, "No picture is written."),
+            Kept::OnlyBefore(0) => write!(f, "No picture comes before it."),
+            Kept::OnlyBefore(1) => write!(f, "Picture 0 comes before it."),
+            Kept::OnlyBefore(count) => write!(f, "Pictures 0 to {} come before it.", count - 1),
             Kept::Pictures(1) => write!(f, "The picture before it is written."),
             Kept::Pictures(count) => write!(f, "The {count} pictures before it are written."),
         }

@@ -11,6 +11,7 @@ pub mod kind {
     pub const GRADIENTS: u8 = 0x0B;
     pub const PALETTE: u8 = 0x0C;
     pub const PALETTE_MASKS: u8 = 0x0D;
+    pub const VIDEO: u8 = 0x11;
 }
 
 /// An opcode as it stands in the film.

@@ -52,6 +52,14 @@ pub struct Picture<'a> {
     pub palette: &'a [u8; PALETTE_BYTES],
 }
 
+impl Picture<'_> {
+    /// Red, green and blue of an entry, 0 to 63.
+    pub fn colour(&self, entry: u8) -> [u8; 3] {
+        let at = 3 * usize::from(entry);
+        [self.palette[at], self.palette[at + 1], self.palette[at + 2]]
+    }
+}
+
 impl<'a> Walk<'a> {
     /// Opens a film.
     pub fn open(film: &'a [u8], rules: Rules) -> Result<Walk<'a>, Refused> {

@@ -24,12 +24,14 @@ fn help_and_version() {
         let expected = format!("mve {} (MVE_VERSION {})\n", env!("CARGO_PKG_VERSION"), interface());
         assert_eq!(ran.text(), expected);
     }
-    let all: [(&[&str], &[&str]); 5] = [
-        (&["--help"], &["info", "play", "--version"]),
+    let all: [(&[&str], &[&str]); 7] = [
+        (&["--help"], &["info", "play", "why", "blocks", "--version"]),
         (&["-h"], &["info", "play"]),
         (&["info", "--help"], &["opcode 02", "rate times its subdivision", "--json", "--strict"]),
         (&["play", "--help"], &["BT.601", "4:4:4", "(v << 2) | (v >> 4)", "--stops", "1/100 s"]),
         (&["help", "play"], &["--partial", "--force", "--sound", "--stream", "--from"]),
+        (&["help", "why"], &["<FILM> <PICTURE> <X> <Y>", "ORIGIN", "counted from 0"]),
+        (&["help", "blocks"], &["OUT.png", "--force", "  E  one colour"]),
     ];
     for (words, expected) in all {
         let ran = mve(&folder, words);

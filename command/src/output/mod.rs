@@ -9,6 +9,7 @@ mod y4m;
 use crate::messages::Failure;
 use crate::walk::Picture;
 pub use part::Part;
+pub use png::write_canvas as write_png;
 use std::ffi::OsStr;
 use std::io::{self, IsTerminal};
 use std::path::{Path, PathBuf};

@@ -1,6 +1,7 @@
 //! PNG pictures in a folder: their indices and their palette as in the film.
 
 use super::{Finished, Part, Pictures};
+use crate::canvas::Canvas;
 use crate::colours::widened;
 use crate::messages::Failure;
 use crate::walk::Picture;
@@ -41,6 +42,24 @@ fn write(path: &Path, picture: &Picture<'_>) -> Result<(), EncodingError> {
     encoder.set_filter(FilterType::NoFilter); // neighbours of indices are no differences
     let mut writer = encoder.write_header()?;
     writer.write_image_data(picture.pixels)?;
+    writer.finish()?;
+    Ok(file.flush()?)
+}
+
+/// Writes one picture of red, green and blue, under a temporary name until it is complete.
+pub fn write_canvas(target: &Path, canvas: &Canvas, force: bool) -> Result<(), Failure> {
+    let (part, file) = Part::file(target)?;
+    encode(file, canvas).map_err(|error| Failure::write(target, error.into()))?;
+    part.keep(force)
+}
+
+fn encode(file: File, canvas: &Canvas) -> Result<(), EncodingError> {
+    let mut file = BufWriter::new(file);
+    let mut encoder = Encoder::new(&mut file, canvas.width as u32, canvas.height as u32);
+    encoder.set_color(ColorType::Rgb);
+    encoder.set_depth(BitDepth::Eight);
+    let mut writer = encoder.write_header()?;
+    writer.write_image_data(canvas.bytes())?;
     writer.finish()?;
     Ok(file.flush()?)
 }

@@ -1,2 +1,3 @@
 pub mod Answers
 pub mod Films
+pub mod Traces

@@ -3,6 +3,8 @@ use draw::Allowed;
 use draw::Drawn;
 use opcodes::Stepped;
 use opening::Opened;
+use origin::Origin;
+use origin::Traced;
 use packet::Inspected;
 use packet::Touched;
 use refusal::Refusal;
@@ -27,8 +29,10 @@ ghost use Rattle.packet.specs.Verdict.{default, strict, verdict};
 ghost use Rattle.packet.specs.Rows.{touched, finding, found};
 ghost use Rattle.stores.specs.Stores.{memory};
 ghost use Rattle.draw.specs.Call.{within, request, pictures, leaves, report, said};
+ghost use Rattle.origin.specs.Trace.{refused as tracedRefused, told as tracedAs, traceOf};
 ghost use Rattle.mve.specs.Answer.{answer, ofRows, ofFound, ofReport};
 ghost use Rattle.mve.specs.Film.{spareOf, flagOf, numberOf, soundOf, sounds, ofSound, mapOf, stateOf, numbers, ofState, stepped, ofStep, ofOpening, exported, ofOutcome as ofFilm};
+ghost use Rattle.mve.specs.Trace.{origin, ofOrigin, ofTrace};
 
 // The rows of blocks that a packet touches, counted from 0: touched 1 and the first and the last, or three times 0 where there is none.
 #[repr(C)]
@@ -497,4 +501,85 @@ pub extern "C" fn mve_shown<'a>(state: MveState, a: &'a [u8], b: &'a [u8]) -> us
     let st = state_of(state);
     let s = state::shown(st, a, b);
     s.len()
+}
+
+// Where a pixel comes from. kind: 0 found, 4 refused. number: of a refusal, else 0. block: the pixel's, or that of a refusal. code: the block's. source: 0 a byte of
+// the packet, 1 a pixel of front, 2 one of back as it was lent, 3 one of the new picture. byte: its index in the packet. x, y: the pixel.
+#[repr(C)]
+pub struct MveOrigin {
+    pub kind: usize,
+    pub number: usize,
+    pub block: usize,
+    pub code: usize,
+    pub source: usize,
+    pub byte: usize,
+    pub x: usize,
+    pub y: usize,
+}
+
+fn found_in(block: usize, code: usize, source: usize, byte: usize, x: usize, y: usize) -> MveOrigin
+    ensures { λ r. ⌜ r ≡ origin 0 0 block code source byte x y ⌝ }
+{
+    MveOrigin {
+        kind: 0,
+        number: 0,
+        block,
+        code,
+        source,
+        byte,
+        x,
+        y,
+    }
+}
+
+fn of_origin(block: usize, code: usize, o: Origin) -> MveOrigin
+    ensures { λ r. ⌜ r ≡ ofOrigin block code o ⌝ }
+{
+    match o {
+        Origin::Byte(n) => found_in(block, code, 0, n, 0, 0),
+        Origin::InFront(x, y) => found_in(block, code, 1, 0, x, y),
+        Origin::InBack(x, y) => found_in(block, code, 2, 0, x, y),
+        Origin::InNew(x, y) => found_in(block, code, 3, 0, x, y),
+    }
+}
+
+fn not_found(r: Refusal) -> MveOrigin
+    ensures { λ a. ⌜ a ≡ ofTrace (tracedRefused (refusalNumber r) (block r)) ⌝ }
+{
+    MveOrigin {
+        kind: 4,
+        number: wide(number_of(r)),
+        block: block_of(r),
+        code: 0,
+        source: 0,
+        byte: 0,
+        x: 0,
+        y: 0,
+    }
+}
+
+fn of_trace(t: Traced) -> MveOrigin
+    ensures { λ r. ⌜ r ≡ ofTrace (tracedAs t) ⌝ }
+{
+    match t {
+        Traced::Found(k, code, o) => of_origin(k, wide(code), o),
+        Traced::Refused(r) => not_found(r),
+    }
+}
+
+// Where the value of the pixel at x, y comes from, in the picture that a packet gives with these pictures as they are at place 0.
+#[no_mangle]
+pub extern "C" fn mve_origin(
+    columns: usize,
+    rows: usize,
+    map: &[u8],
+    data: &[u8],
+    front: &[u8],
+    back: &[u8],
+    x: usize,
+    y: usize,
+) -> MveOrigin
+    ensures { λ r. ⌜ r ≡ ofTrace (traceOf columns rows (now (map .entry)) (now («data» .entry)) (length (now (front .entry))) (length (now (back .entry))) x y) ⌝ }
+{
+    of_trace(origin::trace(columns, rows, map, data, front, back, x, y))
 }

@@ -41,6 +41,8 @@ pub enum Refusal {
     SoundLength,
     // The output room is too small.
     Room,
+    // The position lies outside the picture.
+    Position,
 }
 
 pub fn number_of(r: Refusal) -> u8
@@ -66,6 +68,7 @@ pub fn number_of(r: Refusal) -> u8
         Refusal::SoundFormat => 17,
         Refusal::SoundLength => 18,
         Refusal::Room => 19,
+        Refusal::Position => 22,
     }
 }
 
@@ -92,5 +95,6 @@ pub fn block_of(r: Refusal) -> usize
         Refusal::SoundFormat => 0,
         Refusal::SoundLength => 0,
         Refusal::Room => 0,
+        Refusal::Position => 0,
     }
 }

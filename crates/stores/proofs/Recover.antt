@@ -1,11 +1,12 @@
 -- One call on memory that calls have reached from the first picture and place 0 (`Reached`): it leaves what the book leaves, and calls may go on
 -- from there (`going`). A block's values do not read the block, so what an earlier call stored of a block that is begun again does not matter.
--- Also, from any memory: a call cut short and made again (`cut-again`), and what a call leaves alone (`after-off`).
+-- Also, what the blocks make of a pixel of the picture of demand 2 (`stage-off`, `stage-pixel`); and, from any memory, a call cut short and made
+-- again (`cut-again`), and what a call leaves alone (`after-off`).
 use mathlib.Core.Path.{_≡_, refl, sym, ap, _∙_, subst}
 use mathlib.Core.Logic.{_⊎_, inl, inr, ⊎-elim}
 use mathlib.Core.List.{List}
 use Prim.Native.Nat.{ℕ, zero, suc, _-_, _≤_, _<_}
-use native.Mathlib.Nat.{not-suc-le-zero, eq-or-lt-of-le, le-of-suc-le-suc}
+use native.Mathlib.Nat.{eq-or-lt-of-le}
 use native.Mathlib.Omega.{arith}
 use lib.ListN.{length, getD}
 use lib.Seq.{ext-getD}
@@ -19,6 +20,19 @@ stage-length : (d : Plan) (first : List ℕ) (k : ℕ) → length (stage d first
 unfolding stage
 stage-length d first zero = refl
 stage-length d first (suc k) = first-long d k (stage d first k) (d .size k) ∙ stage-length d first k
+
+-- blocks k to n - 1 leave alone what is no pixel of theirs
+pub stage-off : (d : Plan) (first : List ℕ) (k n t : ℕ) → k ≤ n → ((j : ℕ) → k ≤ j → j < n → Off d j t)
+    → getD (stage d first n) t 0 ≡ getD (stage d first k) t 0
+unfolding stage
+stage-off d first k zero t h f = let e : k ≡ 0 = omega arith in rw e
+stage-off d first k (suc n) t h f =
+    ⊎-elim
+    (λ (e : k ≡ suc n). rw e)
+    (λ (l : k < suc n).
+    first-off d n (stage d first n) (d .size n) (omega arith) t (f n (omega arith) (omega arith))
+    ∙ stage-off d first k n t (omega arith) (λ j a b. f j a (omega arith)))
+    (eq-or-lt-of-le h)
 
 -- memory that calls reach: the picture is that of the place's turn, but for pixels of the block that is next
 pub record Reached (d : Plan) (first : List ℕ) (m : Memory) : Type 0 where
@@ -42,18 +56,13 @@ module _ (d : Plan) (first : List ℕ) (laws : Lawful d (length first)) where
   stage-laws : (k : ℕ) → Lawful d (length (stage d first k))
   stage-laws k = subst (Lawful d) (sym (stage-length d first k)) laws
 
-  -- no later block changes a pixel
-  later : (k i : ℕ) → i < d .size k → (m : ℕ) → k < m → m ≤ d .blocks → getD (stage d first m) (d .target k i) 0 ≡ d .value k i (stage d first k)
+  -- a pixel has its block's value, and no later block changes it
+  pub stage-pixel : (k i : ℕ) → i < d .size k → (m : ℕ) → k < m → m ≤ d .blocks → getD (stage d first m) (d .target k i) 0 ≡ d .value k i (stage d first k)
   unfolding stage
-  later k i hi zero km mb = absurd (not-suc-le-zero km)
-  later k i hi (suc m) km mb =
-      ⊎-elim
-      (λ e. rw (← e) (first-own d (stage d first k) (stage-laws k) k (omega arith) (d .size k) (omega arith) i hi))
-      (λ l.
-      first-off d m (stage d first m) (d .size m) (omega arith) (d .target k i)
-      (λ j h q. let z : k ≡ m = laws .distinct k m i j (omega arith) mb hi h q .0 in omega arith)
-      ∙ later k i hi m l (omega arith))
-      (eq-or-lt-of-le (le-of-suc-le-suc km))
+  stage-pixel k i hi m km mb =
+      stage-off d first (suc k) m (d .target k i) km
+      (λ j l h n hn q. let z : k ≡ j = laws .distinct k j i n (omega arith) (omega arith) hi hn q .0 in omega arith)
+      ∙ first-own d (stage d first k) (stage-laws k) k (omega arith) (d .size k) (omega arith) i hi
 
   module _ (b : List ℕ) (k : ℕ) (kb : k < d .blocks) (r : Reached d first (memory b k)) where
     off-block : (t : ℕ) → Off d k t → getD b t 0 ≡ getD (stage d first k) t 0
@@ -67,7 +76,7 @@ module _ (d : Plan) (first : List ℕ) (laws : Lawful d (length first)) where
         (λ i q.
         first-value d (length first) k own b (r .long) i i (omega arith) (omega arith)
         ∙ own i (omega arith) b (stage d first k) (r .long) (stage-length d first k) off-block
-        ∙ sym (later k i (omega arith) (d .blocks) kb (omega arith)))
+        ∙ sym (stage-pixel k i (omega arith) (d .blocks) kb (omega arith)))
 
     -- with all of them stored it is the next block's turn
     whole-block : firstPixels d k b (d .size k) ≡ stage d first (suc k)

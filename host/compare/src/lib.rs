@@ -9,7 +9,7 @@
 //! the case; a [`Tally`] counts what the cases reached.
 //!
 //! [`FromDefault`] is the strict form as it follows from the default one: with it the strict form of a
-//! decoder is compared.
+//! decoder is compared. [`origins`] compares where pixels come from.
 //!
 //! In comments "01" is the scope document, "02" that of the requests; docs/RULES.md has
 //! their rules.
@@ -20,6 +20,7 @@ pub mod decoder;
 pub mod difference;
 mod film;
 pub mod forms;
+pub mod origins;
 pub mod tally;
 
 pub use comparison::{Comparison, Found, Kind};

@@ -9,6 +9,7 @@
 
 use crate::answer::{Answer, Moved, Numbers};
 use crate::form::Form;
+use crate::origin::Numbers as Found;
 
 unsafe extern "C" {
     fn mve_check(
@@ -86,6 +87,21 @@ unsafe extern "C" {
         b: *const u8,
         b_length: usize,
     ) -> usize;
+
+    fn mve_origin(
+        columns: usize,
+        rows: usize,
+        map: *const u8,
+        map_length: usize,
+        data: *const u8,
+        data_length: usize,
+        front: *const u8,
+        front_length: usize,
+        back: *const u8,
+        back_length: usize,
+        x: usize,
+        y: usize,
+    ) -> Found;
 }
 
 pub(crate) fn check(form: Form, columns: usize, rows: usize, map: &[u8], data: &[u8]) -> Answer {
@@ -185,4 +201,35 @@ pub(crate) fn shown(state: Numbers, a: &[u8], b: &[u8]) -> usize {
     // SAFETY: each address and length are those of a slice that lives through the call; that of an
     // empty slice is not null. Both are only read.
     unsafe { mve_shown(state, a.as_ptr(), a.len(), b.as_ptr(), b.len()) }
+}
+
+#[allow(clippy::too_many_arguments)] // those of the library's function
+pub(crate) fn origin(
+    columns: usize,
+    rows: usize,
+    map: &[u8],
+    data: &[u8],
+    front: &[u8],
+    back: &[u8],
+    x: usize,
+    y: usize,
+) -> Found {
+    // SAFETY: each address and length are those of a slice that lives through the call; that of an
+    // empty slice is not null. All are only read.
+    unsafe {
+        mve_origin(
+            columns,
+            rows,
+            map.as_ptr(),
+            map.len(),
+            data.as_ptr(),
+            data.len(),
+            front.as_ptr(),
+            front.len(),
+            back.as_ptr(),
+            back.len(),
+            x,
+            y,
+        )
+    }
 }

@@ -53,7 +53,7 @@
 //! A frame comes as a packet: a map with a code for each 8x8 block, and the blocks' data. [`check`]
 //! tells whether a packet is valid, [`draw`] draws it, at once or in pieces. Both, and [`step`], tell
 //! the [`Rows`] of blocks that the packet touches, so that a display with a slow link need not be sent
-//! the others.
+//! the others. [`origin`] tells which byte or pixel gave a pixel its value.
 //!
 //! Many films pad a packet to an even length, so these calls accept one byte left over behind the
 //! blocks' data. [`check_strict`], [`draw_strict`] and [`step_strict`] accept none: they are for those
@@ -86,6 +86,7 @@ mod answer;
 mod ffi;
 mod film;
 mod form;
+mod origin;
 mod packet;
 mod player;
 mod refusal;
@@ -93,10 +94,11 @@ mod rows;
 
 pub use film::{is_sent, open, shown, step, step_strict, Sound, State, Step};
 pub use film::{NO_STREAM, PALETTE_BYTES, PICTURE_BYTES, ROOM_BYTES};
+pub use origin::{origin, Origin, Traced};
 pub use packet::{check, check_strict, draw, draw_strict, Drawn, ALL_STORES, BLOCK_STORES};
 pub use player::{Event, Memory, Picture, Player, Samples};
 pub use refusal::{Error, Refusal};
 pub use rows::Rows;
 
 /// The version of the interface that this crate is written for: C's `MVE_VERSION`.
-pub const VERSION: usize = 7;
+pub const VERSION: usize = 8;

@@ -13,6 +13,7 @@
 //! | [`frame`] | frame sizes and the grid of 8x8 blocks |
 //! | [`block`] | one block: data length, motion vector, source of each pixel |
 //! | [`packet`] | map and data of one frame: checking and drawing |
+//! | [`origin`] | where the value of a pixel comes from |
 //! | [`book`] | what a list of drawing calls must do, worked out without drawing |
 //! | [`palette`] | opcodes 0B, 0C, 0D |
 //! | [`sound`] | opcodes 03, 08, 09 |
@@ -26,6 +27,7 @@ pub mod book;
 pub mod film;
 pub mod frame;
 pub mod listing;
+pub mod origin;
 pub mod packet;
 pub mod palette;
 pub mod pictures;
@@ -34,5 +36,6 @@ pub mod sound;
 pub mod steps;
 
 pub use block::{source, Source};
+pub use origin::{origin, Origin, Traced};
 pub use packet::{check, check_as, draw, draw_as, CallForm, Drawn, Rows};
 pub use refusal::Refusal;

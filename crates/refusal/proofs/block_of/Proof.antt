@@ -64,6 +64,9 @@ enum-told-15 c = search needs
 enum-told-16 : tie.Need-enum-told-16
 enum-told-16 c = search needs
 
+enum-told-17 : tie.Need-enum-told-17
+enum-told-17 c = search needs
+
 returns : tie.Need-returns
 returns c = sym (ap block (c .before .r .given .1))
 
@@ -121,6 +124,9 @@ returns-18 c = sym (ap block (c .enum-told15 .given .1))
 returns-19 : tie.Need-returns-19
 returns-19 c = sym (ap block (c .enum-told16 .given .1))
 
+returns-20 : tie.Need-returns-20
+returns-20 c = sym (ap block (c .enum-told17 .given .1))
+
 pub block-of-spec : {M : Type 1} → statement M
 block-of-spec =
     tie.close
@@ -144,6 +150,7 @@ block-of-spec =
     enum-told-14
     enum-told-15
     enum-told-16
+    enum-told-17
     returns
     returns-2
     returns-3
@@ -162,4 +169,5 @@ block-of-spec =
     returns-16
     returns-17
     returns-18
-    returns-19)
+    returns-19
+    returns-20)

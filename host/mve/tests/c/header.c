@@ -1,6 +1,6 @@
 /* The film of document 01's listing, stepped over through the C header, with a call that leaves a block begun; a film with
-   sound, in rooms that are too small at first; packets with bytes left over, by the default and the strict forms; and the
-   rows that packets touch. Exits with 0 where every answer is the one that the documents give. */
+   sound, in rooms that are too small at first; packets with bytes left over, by the default and the strict forms; the rows
+   that packets touch; and where pixels come from. Exits with 0 where every answer is the one that the documents give. */
 #include "mve.h"
 
 #include <stdio.h>
@@ -227,7 +227,7 @@ static int padded_film(void) {
 /* The constants, from the rules: 256 entries of three bytes; 80 by 60 blocks of 64 pixels; as many blocks of 65 stores; a
    word of samples, two bytes each. */
 static int constants(void) {
-    EXPECT(MVE_VERSION == 7 && MVE_PALETTE_BYTES == 256 * 3 && MVE_PICTURE_BYTES == 80 * 60 * 64);
+    EXPECT(MVE_VERSION == 8 && MVE_PALETTE_BYTES == 256 * 3 && MVE_PICTURE_BYTES == 80 * 60 * 64);
     EXPECT(MVE_BLOCK_STORES == 64 + 1 && MVE_ALL_STORES == 80 * 60 * MVE_BLOCK_STORES);
     EXPECT(MVE_ROOM_BYTES == 2 * 65535 && MVE_NO_STREAM == 16);
     return 0;
@@ -237,9 +237,9 @@ static int constants(void) {
 static int texts(void) {
     const char *none = mve_refusal_text(0);
     for (size_t number = 0; number <= 30; number += 1) {
-        EXPECT((strcmp(mve_refusal_text(number), none) != 0) == (number >= 1 && number <= 19));
+        EXPECT((strcmp(mve_refusal_text(number), none) != 0) == ((number >= 1 && number <= 19) || number == 22));
         EXPECT((mve_is_of_block(number) != 0) == (number >= 12 && number <= 14));
-        for (size_t other = 1; other < number && number <= 19; other += 1) {
+        for (size_t other = 1; other < number && (number <= 19 || number == 22); other += 1) {
             EXPECT(strcmp(mve_refusal_text(number), mve_refusal_text(other)) != 0);
         }
     }
@@ -283,6 +283,26 @@ static int rows(void) {
     return 0;
 }
 
+/* Three blocks: one colour, a copy from 8 pixels to the left, and one that is kept. */
+static int origins(void) {
+    static const uint8_t map[] = {0x3e, 0x01}, data[] = {7, 0}, picture[192] = {0};
+    struct mve_traced o = mve_origin(3, 1, map, sizeof map, data, sizeof data, picture, sizeof picture, picture,
+                                     sizeof picture, 10, 6);
+    EXPECT(o.kind == MVE_FOUND && o.number == 0 && o.block == 1 && o.code == 3);
+    EXPECT(o.source == MVE_NEW && o.byte == 0 && o.x == 2 && o.y == 6);
+    o = mve_origin(3, 1, map, sizeof map, data, sizeof data, picture, sizeof picture, picture, sizeof picture, o.x, o.y);
+    EXPECT(o.kind == MVE_FOUND && o.block == 0 && o.code == 0x0e && o.source == MVE_DATA && o.byte == 0);
+    o = mve_origin(3, 1, map, sizeof map, data, sizeof data, picture, sizeof picture, picture, sizeof picture, 23, 7);
+    EXPECT(o.block == 2 && o.code == 1 && o.source == MVE_BACK && o.x == 23 && o.y == 7);
+    o = mve_origin(3, 1, map, sizeof map, data, sizeof data, picture, sizeof picture, picture, sizeof picture, 24, 7);
+    EXPECT(o.kind == MVE_REFUSED && o.number == MVE_ERROR_POSITION && o.block == 0);
+    o = mve_origin(3, 1, map, sizeof map, data, 0, picture, sizeof picture, picture, sizeof picture, 24, 7);
+    EXPECT(o.kind == MVE_REFUSED && o.number == MVE_ERROR_DATA_SHORT && o.block == 0);
+    o = mve_origin(3, 1, map, 1, data, 0, picture, sizeof picture, picture, sizeof picture - 1, 24, 7);
+    EXPECT(o.kind == MVE_REFUSED && o.number == MVE_ERROR_LENT_LENGTH);
+    return 0;
+}
+
 int main(void) {
-    return constants() | texts() | pictures() | sound() | padded_packet() | padded_film() | rows();
+    return constants() | texts() | pictures() | sound() | padded_packet() | padded_film() | rows() | origins();
 }

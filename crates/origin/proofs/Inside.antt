@@ -1,0 +1,106 @@
+-- The pixel at x, y of a picture: where its block and it stand, what the rules ask to read it, and that its source is there.
+-- Assumes nothing.
+use mathlib.Core.Path.{_≡_, refl, sym, ap, _∙_}
+use mathlib.Core.List.{List}
+use Prim.Native.Nat.{ℕ, _+_, _-_, _*_, _/_, _%_, _≤_, _<_}
+use native.Mathlib.Omega.{arith}
+use lib.Arith.{digits-div, digits-mod, digits-lt}
+use lib.ListN.{length, drop, length-drop}
+use Rattle.motion.specs.Motion.{rasterIndex}
+use Rattle.block.specs.declared.Source.{Source}
+use Rattle.block.specs.declared.Source.the-variants.{Data}
+use Rattle.block.specs.Block.{kindOf, dataLength, source}
+use Rattle.block.specs.Asked.{Readable, Among}
+use Rattle.pixel.proofs.Sources.{source-among}
+use Rattle.packet.specs.Packet.{Packet, blocks, width, height, left, top, code, start, dataOf, kind}
+use Rattle.packet.specs.Accepted.{Takes}
+use Rattle.packet.proofs.Walk.{code-below, blocks-few}
+use Rattle.packet.proofs.Exactly.{is-copy}
+use Rattle.origin.specs.Trace.{blockAt, pixelAt, sourceAt}
+use Rattle.origin.specs.Asked.{Traceable}
+
+-- ---- where it stands
+
+pub pixel-few : (x y : ℕ) → pixelAt x y < 64
+unfolding pixelAt
+pixel-few x y = omega arith
+
+module _ (columns rows x y : ℕ) (across : x < 8 * columns) (down : y < 8 * rows) where
+  pub column-is : blockAt columns x y % columns ≡ x / 8
+  unfolding blockAt
+  column-is = let l : x / 8 < columns = omega arith in digits-mod (y / 8) l
+
+  pub row-is : blockAt columns x y / columns ≡ y / 8
+  unfolding blockAt
+  row-is = let l : x / 8 < columns = omega arith in digits-div (y / 8) l
+
+  pub block-below : blockAt columns x y < columns * rows
+  unfolding blockAt
+  block-below =
+      let l : x / 8 < columns = omega arith in
+      let m : y / 8 < rows = omega arith in
+      omega (arith, digits-lt m l)
+
+  -- its index, counted from its block's corner
+  pub index-is : rasterIndex (8 * columns) (8 * (blockAt columns x y % columns)) (8 * (blockAt columns x y / columns)) (pixelAt x y) ≡ y * (8 * columns) + x
+  unfolding rasterIndex pixelAt
+  index-is =
+      let a : 8 * (y / 8) + (8 * (y % 8) + x % 8) / 8 ≡ y = omega arith in
+      let b : 8 * (x / 8) + (8 * (y % 8) + x % 8) % 8 ≡ x = omega arith in
+      rw (column-is, row-is, a, b)
+
+-- ---- what is asked to read it
+
+module _ (p : Packet) (x y : ℕ) (t : Traceable p x y) where
+  pub inside : blockAt (p .columns) x y < blocks p
+  inside = block-below (p .columns) (p .rows) x y (t .across) (t .down)
+
+  pub block-few : blockAt (p .columns) x y < 4800
+  block-few = omega (arith, inside, blocks-few p (t .sized))
+
+  takes : Takes p (blockAt (p .columns) x y)
+  takes = t .taken (blockAt (p .columns) x y) inside
+
+  -- the code, the position and the data of its block, as code found them
+  module _ (c at : ℕ) (s : List ℕ) (ec : c ≡ code p (blockAt (p .columns) x y)) (ea : at ≡ start p (blockAt (p .columns) x y)) (es : s ≡ drop at (p .bytes)) where
+    data-is : s ≡ dataOf p (blockAt (p .columns) x y)
+    data-is = es ∙ ap (λ (n : ℕ). drop n (p .bytes)) ea
+
+    kind-is : kindOf c s ≡ kind p (blockAt (p .columns) x y)
+    kind-is = rw (ec, data-is)
+
+    long-is : length s ≡ length (p .bytes) - at
+    long-is = ap length es ∙ length-drop at (p .bytes)
+
+    pub readable : Readable c s (width p) (height p) (8 * (x / 8)) (8 * (y / 8)) (pixelAt x y)
+    readable =
+        let l : dataLength (kindOf c s) ≡ dataLength (kind p (blockAt (p .columns) x y)) = ap dataLength kind-is in
+        record {
+          known = rw ec (code-below (p .map) (blockAt (p .columns) x y));
+          there = omega (arith, l, long-is, ea, takes .there);
+          inside =
+              rw (kind-is, ← column-is (p .columns) (p .rows) x y (t .across) (t .down), ← row-is (p .columns) (p .rows) x y (t .across) (t .down))
+              (is-copy (kind p (blockAt (p .columns) x y)) (width p) (height p) (left p (blockAt (p .columns) x y)) (top p (blockAt (p .columns) x y)) (takes .inside));
+          at =
+              record {
+                width = omega (arith, t .sized .columns);
+                across = omega (arith, t .across);
+                down = omega (arith, t .down, t .sized .rows);
+                pixel = omega (arith, pixel-few x y);
+              };
+          high = omega (arith, t .sized .rows);
+        }
+
+    module _ (u : Source) (eu : u ≡ source (kindOf c s) s (width p) (8 * (x / 8)) (8 * (y / 8)) (pixelAt x y)) where
+      pub source-is : u ≡ sourceAt p (blockAt (p .columns) x y) (pixelAt x y)
+      source-is = eu ∙ rw (kind-is, data-is, column-is (p .columns) (p .rows) x y (t .across) (t .down), row-is (p .columns) (p .rows) x y (t .across) (t .down))
+
+      pub among : Among u (length s) (height p * width p) (height p * width p)
+      among =
+          source-among s (width p) (height p) (8 * (x / 8)) (8 * (y / 8)) (pixelAt x y) (height p * width p) (height p * width p)
+          (omega (arith, t .across)) (omega (arith, t .down)) (pixel-few x y) (omega arith) (omega arith) c u readable
+          (λ q. takes .known (sym ec ∙ q)) eu
+
+      -- a byte of its block's data is one of the packet's
+      pub byte-there : (j : ℕ) → u ≡ Data j → at + j < length (p .bytes)
+      byte-there j e = let l : j < length s = rw e at among in omega (arith, l, long-is)

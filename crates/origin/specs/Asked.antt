@@ -1,0 +1,13 @@
+-- What the functions of a trace ask of their callers.
+-- Assumes nothing.
+use Prim.Native.Nat.{ℕ, _<_}
+use Rattle.packet.specs.Packet.{Packet, width, height}
+use Rattle.packet.specs.Asked.{Sized}
+use Rattle.packet.specs.Accepted.{Whole}
+
+-- a packet whose blocks are all taken, and a position inside its picture
+pub record Traceable (p : Packet) (x y : ℕ) : Type 0 where
+  pub sized : Sized p
+  pub taken : Whole p
+  pub across : x < width p
+  pub down : y < height p
