@@ -4,35 +4,36 @@ SYNOPSIS
 
 The text of examples/synopsis.c, a whole program:
 
-    // Plays the film on standard input: counts its pictures and the bytes of its sound, or says why it is refused.
+    // Plays the pictures of the film on standard input: counts them, or says why the film is refused.
     #include "mve.h"
     #include <stdio.h>
 
     static uint8_t film[1 << 24]; // 16 MiB; a longer film is cut there
-    static uint8_t palette[MVE_PALETTE_BYTES], a[MVE_PICTURE_BYTES], b[MVE_PICTURE_BYTES], room[MVE_ROOM_BYTES];
+    static uint8_t palette[MVE_PALETTE_BYTES], a[MVE_PICTURE_BYTES], b[MVE_PICTURE_BYTES], room[1];
 
     int main(void) {
-        size_t length = fread(film, 1, sizeof film, stdin), place = 0, pictures = 0, sound = 0;
-        struct mve_stepped s = mve_open(film, length, 0);
+        size_t length = fread(film, 1, sizeof film, stdin), place = 0, pictures = 0;
+        struct mve_stepped s = mve_begin(film, length, MVE_NO_STREAM, palette, sizeof palette, &place);
+        size_t width = 8 * s.state.columns, height = 8 * s.state.rows;
         while (s.kind != MVE_ENDED && s.kind != MVE_REFUSED) {
             struct mve_state before = s.state;
             s = mve_step(film, length, before, palette, sizeof palette, a, sizeof a, b, sizeof b, &place,
                          room, sizeof room, MVE_ALL_STORES);
             if (mve_is_sent(before, s.state)) {
-                pictures += 1; // show (s.state.front == 0 ? a : b), mve_shown(..) bytes, by the palette
+                pictures += 1; // show (s.state.front == 0 ? a : b), width * height bytes, by the palette
             }
-            sound += s.bytes; // play the first s.bytes bytes of the room
         }
         if (s.kind == MVE_REFUSED) {
             fprintf(stderr, "refused by %zu at byte %zu: %s\n", s.number, s.state.position, mve_refusal_text(s.number));
             return 1;
         }
-        printf("%zu pictures, %zu bytes of sound\n", pictures, sound);
+        printf("%zu pictures of %zu by %zu pixels\n", pictures, width, height);
         return 0;
     }
 
     cc -I include examples/synopsis.c target/staticlib/libmve.a -o synopsis && ./synopsis < film.mve
 
+mve_begin   opens a film and steps until its size is known: the state just after opcode 05
 mve_open    the first state of a film, for one stream of its sound or for none
 mve_step    one step: a chunk's head, or one opcode with its palette change, its drawing or its samples
 mve_shown   how many bytes of the front picture are shown
@@ -45,6 +46,10 @@ mve_is_sent tells whether a step sent a picture to the display. mve_refusal_text
 mve_is_of_block tells whether a refusal names a block.
 
 examples/play.c is a whole player, which is stopped again and again and goes on. docs/RULES.md has all rules in full.
+
+mve_begin opens a film and steps until its size is known. A film that it refuses is one that mve_open or a step of mve_step
+refuses, or that has no size. It drops the samples before the size and tells nothing of the opcodes that it passes, so a
+host that wants these samples, or reads opcodes 02 and 03 for timing and rate, calls mve_open and steps from there on.
 
 MEMORY
 
@@ -63,7 +68,7 @@ until a film sets a colour or draws a block, the host's bytes are used as they a
 it has not drawn yet.
 
 A refused call changes nothing that is lent. A step that is refused, ended or unfinished gives back the state that it
-was given.
+was given. A refused mve_begin gives back the state that the refused step was given, so that the byte can be named.
 
 STOPS
 
@@ -80,6 +85,11 @@ A step that was stopped while it changed the palette stores the same entries aga
 wrote samples writes the same samples again, because the state holds the last samples before them. So the room need not
 outlive the stop. To play no sample twice, count the samples of a step as played when its new state is saved, and not
 before. (examples/play.c keeps the length of its sound file with the state, and cuts the file back to it after a stop.)
+
+mve_begin may be stopped, too. It has then changed some bytes of the palette, or the place, which were lent before the film's
+first picture. Open again: call it anew, with palette and place as the stop left them or as they were before. The answer,
+the palette and the place are then those of a call that was not stopped. A call that is refused makes no store, so a stop
+inside it changes nothing.
 
 All this holds on a machine that keeps two rules:
 
@@ -99,13 +109,14 @@ libmve.a is one object for x86-64 and the System V ABI. It needs no operating sy
 undefined below. Every function has a section of its own, so that the linker's --gc-sections leaves out those that are not
 called. All relocations are relative: code and constants may be loaded at any address, as long as they stay together.
 
-    code                        42,204 bytes
-    constants                   1,377 bytes
+    code                        48,677 bytes
+    constants                   1,949 bytes
     memory of its own           0 bytes
     undefined symbols           memset
     relocations                 R_X86_64_PC32, R_X86_64_PLT32
     vector registers            xmm0 to xmm15
     below the stack pointer     40 bytes
+    stack of mve_begin          568 bytes
     stack of mve_check          176 bytes
     stack of mve_check_strict   176 bytes
     stack of mve_draw           496 bytes
@@ -113,7 +124,7 @@ called. All relocations are relative: code and constants may be loaded at any ad
     stack of mve_open           8 bytes
     stack of mve_origin         272 bytes
     stack of mve_shown          8 bytes
-    stack of mve_step_as        832 bytes
+    stack of mve_step_as        896 bytes
 
 The stack of a call is the most that it takes, together with all that it calls: return addresses, pushed registers and
 arguments, locals with the copies of constant tables, and what is used below the stack pointer. Each call takes less than
@@ -262,7 +273,7 @@ extern "C" {
 
 /* The version of this interface. It changes with every change of the calls, of the structs, of the names, of the packets
    that are accepted and of the pictures that they give. CHANGELOG.md says what changed in each. */
-#define MVE_VERSION 8
+#define MVE_VERSION 9
 
 /* The bytes of the palette: 256 entries of red, green and blue. */
 #define MVE_PALETTE_BYTES 768
@@ -286,7 +297,7 @@ extern "C" {
 enum mve_kind {
     MVE_ACCEPTED = 0,   /* mve_check: the packet gives a picture, and no more bytes are left over than may be */
     MVE_FOUND = 0,      /* mve_origin: the byte or the pixel is named */
-    MVE_TAKEN = 0,      /* mve_open, mve_step: done; nothing was drawn */
+    MVE_TAKEN = 0,      /* mve_begin, mve_open, mve_step: done; nothing was drawn */
     MVE_WHOLE = 1,      /* the picture is drawn to its end */
     MVE_UNFINISHED = 2, /* the stores allowed were made; more are due */
     MVE_ENDED = 3,      /* mve_step: the film has ended; nothing is changed */
@@ -299,7 +310,7 @@ enum mve_kind {
 enum mve_refusal {
     MVE_ERROR_STATE = 16,        /* a state with position, chunk end, map, front, size or sound format out of bounds */
     MVE_ERROR_LENT_LENGTH = 8,   /* palette not 768 bytes, or a picture shorter than the frame */
-    MVE_ERROR_HEADER = 1,        /* film header wrong or short (mve_open alone) */
+    MVE_ERROR_HEADER = 1,        /* film header wrong or short (mve_open and mve_begin alone) */
     MVE_ERROR_CHUNK = 2,         /* a chunk or its head passes the end of the film */
     MVE_ERROR_OPCODE = 3,        /* an opcode or its head passes its chunk, or bytes follow 00 or 01 */
     MVE_ERROR_TYPE = 4,          /* opcode type or version not taken */
@@ -317,6 +328,7 @@ enum mve_refusal {
     MVE_ERROR_SOUND_LENGTH = 18, /* data not as long as the count of samples says, a count that is odd in stereo, or
                                     below the channels in the first compressed 08 */
     MVE_ERROR_ROOM = 19,         /* room too small for the samples */
+    MVE_ERROR_NO_SIZE = 21,      /* the film ends without a frame size (mve_begin alone) */
     MVE_ERROR_POSITION = 22      /* a position outside the picture (mve_origin alone) */
 };
 
@@ -342,6 +354,7 @@ static inline const char *mve_refusal_text(size_t number) {
     case MVE_ERROR_SOUND_FORMAT: return "sound comes before its format, or a format is both 8-bit and compressed";
     case MVE_ERROR_SOUND_LENGTH: return "the sound's data or its count of samples has a wrong length";
     case MVE_ERROR_ROOM: return "the room is too small for the samples";
+    case MVE_ERROR_NO_SIZE: return "the film ends without a frame size";
     case MVE_ERROR_POSITION: return "the position lies outside the picture";
     default: return "not a number of refusal";
     }
@@ -430,6 +443,15 @@ struct mve_traced {
 /* The first state of a film, for this stream of its sound: MVE_TAKEN, or MVE_REFUSED by MVE_ERROR_HEADER with a state of
    zeros. Reads the film alone. */
 struct mve_stepped mve_open(const uint8_t *film, size_t film_length, size_t stream);
+
+/* Opens a film and steps until its size is known: MVE_TAKEN, with the state just after opcode 05, and the palette and the
+   place as the steps up to there leave them; or MVE_REFUSED by the first refusal that mve_open and those steps meet (8 for
+   a palette that has not 768 bytes comes right behind 1), or by MVE_ERROR_NO_SIZE. All is judged before the first store, so a
+   refusal leaves palette and place as they were. The state is then that which the refused step was given: of MVE_ERROR_HEADER
+   zeros, of MVE_ERROR_NO_SIZE the film's last one. Sound before the size is decoded for the state and its samples are dropped,
+   so MVE_ERROR_ROOM is not met. No picture is needed before the size. The call reads the film twice, up to the size. */
+struct mve_stepped mve_begin(const uint8_t *film, size_t film_length, size_t stream, uint8_t *palette,
+                             size_t palette_length, size_t *place);
 
 /* One step. MVE_TAKEN: a chunk's head or an opcode other than 11 was taken. MVE_WHOLE, MVE_UNFINISHED: opcode 11 was drawn
    by at most `allowed` stores; while it is unfinished the position stays. a and b are the two pictures; once the size is

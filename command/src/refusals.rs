@@ -14,7 +14,7 @@ pub struct Refused {
 }
 
 /// A sentence for each number.
-const SENTENCES: [(u8, &str); 20] = [
+const SENTENCES: [(u8, &str); 21] = [
     (1, "The file does not begin as an Interplay MVE film does."),
     (2, "The film breaks off: the file ends before the chunk that begins here."),
     (3, "An opcode reaches past the end of its chunk, or bytes follow the chunk's last opcode."),
@@ -34,6 +34,7 @@ const SENTENCES: [(u8, &str); 20] = [
     (17, "Sound comes before its format, or the format is both 8-bit and compressed."),
     (18, "This sound is not as long as its count of samples says, or the count cannot be."),
     (19, "The samples have too little memory, a fault of this program: please report it."),
+    (21, "The film ends before it gives the size of its pictures."),
     (22, "The position lies outside the picture."),
 ];
 

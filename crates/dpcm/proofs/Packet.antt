@@ -96,6 +96,21 @@ module _ (stereo begun : Bool) (l : Last) (bytes room : List ℕ) (r : Last) (ro
   pub first-is-decoded : begun ≡ false → (r ≡ packetLast stereo false l bytes) × (room′ ≡ written (bytesOf (packetSamples stereo false l bytes)) room) → Decoded
   first-is-decoded t e = rw t e
 
+-- where the samples are dropped
+pub channels-most : (stereo : Bool) → channels stereo ≤ 2
+channels-most true = omega arith
+channels-most false = omega arith
+
+module _ (stereo begun : Bool) (l : Last) (bytes : List ℕ) (r : Last) where
+  pub more-passed : begun ≡ true → r ≡ lastOf stereo l bytes → r ≡ packetLast stereo begun l bytes
+  unfolding packetLast
+  more-passed t e = rw t e
+
+  pub first-passed : begun ≡ false → (first : Last) → first ≡ startWords stereo l bytes → (m : ℕ) → m ≡ channels stereo → (rest : List ℕ) → rest ≡ drop (2 * m) bytes
+      → r ≡ lastOf stereo first rest → r ≡ packetLast stereo begun l bytes
+  unfolding packetLast
+  first-passed t first ef m em rest er e = rw t (e ∙ rw (ef, er, em) refl)
+
 -- ---- how many samples, and a packet cut in two: what is carried from one packet to the next is enough
 
 first-count : (stereo : Bool) (l : Last) → length (firstSamples stereo l) ≡ channels stereo

@@ -71,6 +71,20 @@ fn decode(stereo: bool, first: Last, data: &[u8], room: &mut [u8]) -> Last
     last
 }
 
+// The last samples behind data bytes whose samples are dropped.
+fn last_after(stereo: bool, first: Last, data: &[u8]) -> Last
+    ensures { λ r. ⌜ r ≡ lastOf stereo first (now («data» .entry)) ⌝ }
+{
+    let mut last = first;
+    let mut i = 0;
+    while i < data.len() {
+        let sample = sample_after(last.next, data[i]);
+        last = last.turned(stereo, sample);
+        i += 1;
+    }
+    last
+}
+
 pub fn channels_of(stereo: bool) -> usize
     ensures { λ r. ⌜ r ≡ channels stereo ⌝ }
 {
@@ -127,4 +141,16 @@ pub fn decode_packet(stereo: bool, begun: bool, last: Last, data: &[u8], room: &
         return decode(stereo, last, data, room);
     }
     decode_first(stereo, last, data, room)
+}
+
+// The last samples behind a packet whose samples are dropped.
+pub fn last_of_packet(stereo: bool, begun: bool, last: Last, data: &[u8]) -> Last
+    ensures { λ r. ⌜ r ≡ packetLast stereo begun last (now («data» .entry)) ⌝ }
+{
+    if begun {
+        return last_after(stereo, last, data);
+    }
+    let first = start_words(stereo, last, data);
+    let n = 2 * channels_of(stereo);
+    last_after(stereo, first, part_from(data, n))
 }

@@ -103,7 +103,7 @@ fn draw_by(
 }
 
 // 0B, 0C, 0D, after the palette's update.
-fn palette_step(st: State, p: usize, u: Updated) -> Stepped
+pub fn palette_step(st: State, p: usize, u: Updated) -> Stepped
     ensures { λ r. ⌜ steppedAs r ≡ quiet (paletteAnswer st p (told u)) ⌝ }
 {
     match u {

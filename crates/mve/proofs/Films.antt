@@ -27,12 +27,15 @@ use Rattle.opcodes.specs.declared.Stepped.the-variants as step
 use Rattle.opcodes.specs.Opcodes.{Step, steppedAs}
 use Rattle.draw.specs.Call.{within}
 use Rattle.film.specs.Film.{Lent, after, stepOf}
+use Rattle.begin.specs.declared.Begun.{Begun}
+use Rattle.begin.specs.declared.Begun.the-variants as begun
+use Rattle.begin.specs.Begin.{begunAs, Came, came, nowhere}
 use Rattle.mve.specs.declared.MveSound.{MveSound}
 use Rattle.mve.specs.declared.MveState.{MveState}
 use Rattle.mve.specs.declared.MveStep.{MveStep}
 use Rattle.mve.specs.declared.MveRows.{MveRows}
 use Rattle.mve.specs.Answer.{ofRows}
-use Rattle.mve.specs.Film.{spareOf, flagOf, numberOf, soundOf, sounds, withFormat, ofSound, mapOf, stateOf, numbers, withMap, ofState, stepped, ofAnswer, ofStep, ofOpening, exported, ofOutcome}
+use Rattle.mve.specs.Film.{spareOf, flagOf, numberOf, soundOf, sounds, withFormat, ofSound, mapOf, stateOf, numbers, withMap, ofState, stepped, ofAnswer, ofStep, ofOpening, ofBeginning, opening, ofCame, exported, ofOutcome}
 
 pub no-map : (has start long : ℕ) → has ≡ 0 → Missing ≡ mapOf has start long
 unfolding mapOf
@@ -131,6 +134,25 @@ module _ (o : Opening) (x : Opened) (e : openedAs x ≡ o) (a : MveStep) where
   pub not-opened-as : (r : Refusal) → x ≡ opened.Refused r → a ≡ stepped 4 (number r) (block r) 0 0 (ofRows None) (numbers 0 0 0 0 0 0 0 0 0 (sounds 0 0 0 0 0 0 0 0)) → a ≡ ofOpening o
   unfolding ofOpening
   not-opened-as r k q = rw (← e, k) q
+
+-- ---- the opening call
+
+module _ (b : Begun) (a : MveStep) where
+  pub sized-as : (st : State) → b ≡ begun.Sized st → a ≡ stepped 0 0 0 0 0 (ofRows None) (ofState st) → a ≡ ofBeginning (begunAs b)
+  unfolding ofBeginning
+  sized-as st e q = rw e q
+
+  pub stopped-as : (r : Refusal) (st : State) (s : MveState) → b ≡ begun.Refused r st → s ≡ ofState st → a ≡ stepped 4 (number r) (block r) 0 0 (ofRows None) s → a ≡ ofBeginning (begunAs b)
+  unfolding ofBeginning
+  stopped-as r st s e f q = rw (e, ← f) q
+
+-- refusal 1 gives a state of zeros
+pub nowhere-zeros : ofState nowhere ≡ numbers 0 0 0 0 0 0 0 0 0 (sounds 0 0 0 0 0 0 0 0)
+unfolding nowhere withMap withFormat
+nowhere-zeros = refl
+
+pub begin-opens : (b : Begun) (a : MveStep) (q : List ℕ) (k : ℕ) (c : Came) → a ≡ ofBeginning (begunAs b) → came (begunAs b) q k ≡ c → opening a q k ≡ ofCame c
+begin-opens b a q k c e f = rw (← f, e)
 
 -- a step, by what the film's step left
 pub step-exported : (m : MveState) (st : State) (film : List ℕ) (n spare form : ℕ) (l : Lent) (x : Step) (r : MveStep) (l′ : Lent)

@@ -16,6 +16,7 @@ use Rattle.state.specs.declared.State.{State}
 use Rattle.opening.specs.Opening.{Opening, started, refuses}
 use Rattle.opcodes.specs.Opcodes.{Answer, Step, taken, whole, unfinished, ended, refused}
 use Rattle.film.specs.Film.{Lent, Outcome}
+use Rattle.begin.specs.Begin.{Beginning, sized, stopped, Came}
 use Rattle.mve.specs.declared.MveSound.{MveSound}
 use Rattle.mve.specs.declared.MveState.{MveState}
 use Rattle.mve.specs.declared.MveRows.{MveRows}
@@ -105,6 +106,23 @@ ofStep m x = ofAnswer m (x .answer) (x .stores) (x .bytes) (x .rows)
 unfoldable pub ofOpening : Opening → MveStep
 ofOpening (started st) = stepped 0 0 0 0 0 (ofRows None) (ofState st)
 ofOpening (refuses number block) = stepped 4 number block 0 0 (ofRows None) (numbers 0 0 0 0 0 0 0 0 0 (sounds 0 0 0 0 0 0 0 0))
+
+-- kinds: 0 opened, with the state just after 05; 4 refused, with the state that the refused step was given
+unfoldable pub ofBeginning : Beginning → MveStep
+ofBeginning (sized st) = stepped 0 0 0 0 0 (ofRows None) (ofState st)
+ofBeginning (stopped number block st) = stepped 4 number block 0 0 (ofRows None) (ofState st)
+
+-- an answer of the opening call, and the palette and the place afterwards
+pub record Opens : Type 0 where
+  pub answer : MveStep
+  pub palette : List ℕ
+  pub place : ℕ
+
+abbrev pub opening : MveStep → List ℕ → ℕ → Opens
+opening x palette place = record { answer = x; palette = palette; place = place }
+
+abbrev pub ofCame : Came → Opens
+ofCame c = opening (ofBeginning (c .answer)) (c .palette) (c .place)
 
 -- the bytes of a packet that may be left over, by a number that chooses the form: 0 the default, any other the strict one
 unfoldable pub spareOf : ℕ → ℕ

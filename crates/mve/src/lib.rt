@@ -1,4 +1,5 @@
 // The interface for C and Rust. Nothing is done here but to hand on and to write answers as numbers.
+use begin::Begun;
 use draw::Allowed;
 use draw::Drawn;
 use opcodes::Stepped;
@@ -23,6 +24,7 @@ ghost use Rattle.state.specs.State.{shownOf};
 ghost use Rattle.opening.specs.Opening.{openingOf};
 ghost use Rattle.opcodes.specs.Opcodes.{steppedAs};
 ghost use Rattle.film.specs.Film.{lent, stepOf};
+ghost use Rattle.begin.specs.Begin.{Beside, Ample, begunAs, beginOf};
 ghost use Rattle.packet.specs.declared.Touched.the-variants.{None};
 ghost use Rattle.packet.specs.Packet.{packet};
 ghost use Rattle.packet.specs.Verdict.{default, strict, verdict};
@@ -31,7 +33,7 @@ ghost use Rattle.stores.specs.Stores.{memory};
 ghost use Rattle.draw.specs.Call.{within, request, pictures, leaves, report, said};
 ghost use Rattle.origin.specs.Trace.{refused as tracedRefused, told as tracedAs, traceOf};
 ghost use Rattle.mve.specs.Answer.{answer, ofRows, ofFound, ofReport};
-ghost use Rattle.mve.specs.Film.{spareOf, flagOf, numberOf, soundOf, sounds, ofSound, mapOf, stateOf, numbers, ofState, stepped, ofStep, ofOpening, exported, ofOutcome as ofFilm};
+ghost use Rattle.mve.specs.Film.{spareOf, flagOf, numberOf, soundOf, sounds, ofSound, mapOf, stateOf, numbers, ofState, stepped, ofStep, ofOpening, ofBeginning, opening, ofCame, exported, ofOutcome as ofFilm};
 ghost use Rattle.mve.specs.Trace.{origin, ofOrigin, ofTrace};
 
 // The rows of blocks that a packet touches, counted from 0: touched 1 and the first and the last, or three times 0 where there is none.
@@ -447,6 +449,29 @@ pub extern "C" fn mve_open(film: &[u8], stream: usize) -> MveStep
             },
         ),
     }
+}
+
+fn of_begun(b: Begun) -> MveStep
+    ensures { λ r. ⌜ r ≡ ofBeginning (begunAs b) ⌝ }
+{
+    match b {
+        Begun::Sized(st) => stepped_with(0, 0, 0, Touched::None, st),
+        Begun::Refused(r, st) => refused_with(r, of_state(st)),
+    }
+}
+
+// The state just after 05, with the palette and the place as the steps up to there leave them. A refusal leaves both as they were.
+#[no_mangle]
+pub extern "C" fn mve_begin(
+    film: &[u8],
+    stream: usize,
+    palette: &mut [u8],
+    place: &mut usize,
+) -> MveStep
+    ensures { λ r. ⌜ ((x : Beside) → Ample x → opening r (now (palette .exit)) (now (place .exit)) ≡ ofCame (beginOf x (now (film .entry)) stream (now (palette .entry)) (now (place .entry)))) ⌝ }
+{
+    let b = begin::begin(film, stream, palette, place);
+    of_begun(b)
 }
 
 // The bytes of a packet that may be left over: one, or in the strict form none.

@@ -49,8 +49,8 @@ fn chunk_end(film: &[u8], c: Cursor) -> Next
     }
 }
 
-// hears: a stream of sound is chosen.
-fn standing_at(film: &[u8], c: Cursor, hears: bool) -> Next
+// What stands at a cursor. hears: a stream of sound is chosen.
+pub fn standing_at(film: &[u8], c: Cursor, hears: bool) -> Next
     requires { ⌜ (c .position ≤ c .«chunk_end») × (c .«chunk_end» ≤ length (now film)) ⌝ }
     ensures { λ r. ⌜ nextAs r ≡ standingAt hears (now (film .entry)) c ⌝ }
 {

@@ -22,7 +22,7 @@ pub enum Stepped {
 }
 
 // 05.
-fn size_step(st: State, p: usize, columns: usize, rows: usize, colour: usize) -> Stepped
+pub fn size_step(st: State, p: usize, columns: usize, rows: usize, colour: usize) -> Stepped
     ensures { λ r. ⌜ steppedAs r ≡ quiet (sizeAnswer st p columns rows colour) ⌝ }
 {
     if st.columns == 0 {
@@ -37,7 +37,8 @@ fn size_step(st: State, p: usize, columns: usize, rows: usize, colour: usize) ->
     Stepped::Refused(Refusal::Size)
 }
 
-fn colour_of(body: &[u8], version: usize) -> usize
+// The true-colour word of 05, 0 where it has none.
+pub fn colour_of(body: &[u8], version: usize) -> usize
     ensures { λ r. ⌜ r ≡ colourOf (now (body .entry)) version ⌝ }
 {
     if version == 2 {

@@ -5,38 +5,48 @@ use mathlib.Core.Bool.{true, false}
 use mathlib.Core.List.{List}
 use Prim.Native.Nat.{ℕ, _+_, _*_, _≤_, _<_}
 use native.Mathlib.Omega.{arith}
-use borrow.Author.Tests.{eq-eqb, ne-eqb, le-leb, lt-leb, leb-true}
+use borrow.Author.Tests.{eq-eqb, ne-eqb, eqb-true, le-leb, lt-leb, leb-true}
 use lib.ListN.{length}
 use Rattle.refusal.specs.Number.{accept, refuse}
 use Rattle.palette.specs.Store.{applied, bytes, from, Within}
-use Rattle.palette.specs.Update.{legal, verdict}
+use Rattle.palette.specs.declared.Updated.{Updated}
+use Rattle.palette.specs.declared.Updated.the-variants.{Taken}
+use Rattle.palette.specs.Update.{legal, verdict, verdictFor, told}
 use Rattle.palette.proofs.Lists.{within-bytes}
 use Rattle.palette.proofs.Judging.{legal-bytes}
-use Rattle.palette.proofs.Outcome.{Out, refuses-5, refuses-range, refuses-component, takes, accepted}
+use Rattle.palette.proofs.Outcome.{refuses-5, refuses-range, refuses-component, accepts, accepted, taken-on}
 use Rattle.palette.specs.Entries.{start, count, setPalette}
 
-module _ (body p : List ℕ) (h : length p ≡ 768) (s n : ℕ) (x : s ≡ start body) (y : n ≡ count body) where
-  pub wrong-length : (length body ≡ 4 + 3 * n → ⊥) → Out (setPalette body) p (refuse 5 0) p
-  wrong-length f = refuses-5 (setPalette body) p h (rw (← y) (ne-eqb _ _ f))
+module _ (body : List ℕ) (m : ℕ) (h : m ≡ 768) (s n : ℕ) (x : s ≡ start body) (y : n ≡ count body) where
+  pub wrong-length : (length body ≡ 4 + 3 * n → ⊥) → refuse 5 0 ≡ verdictFor (setPalette body) m
+  wrong-length f = refuses-5 (setPalette body) m h (rw (← y) (ne-eqb _ _ f))
 
   module _ (l : length body ≡ 4 + 3 * n) where
     right-length : setPalette body .exact ≡ true
     right-length = rw (← y) (eq-eqb _ _ l)
 
-    pub past-the-last : 256 < s + n → Out (setPalette body) p (refuse 7 0) p
-    past-the-last f = refuses-range (setPalette body) p h right-length (rw (← x, ← y) (lt-leb _ _ f))
+    pub past-the-last : 256 < s + n → refuse 7 0 ≡ verdictFor (setPalette body) m
+    past-the-last f = refuses-range (setPalette body) m h right-length (rw (← x, ← y) (lt-leb _ _ f))
 
     module _ (f : s + n ≤ 256) where
       in-range : setPalette body .inside ≡ true
       in-range = rw (← x, ← y) (le-leb _ _ f)
 
-      pub too-large : legal (bytes 0 (from body 4) (3 * n)) ≡ false → Out (setPalette body) p (refuse 7 0) p
-      too-large e = refuses-component (setPalette body) p h right-length in-range (rw (← y) (legal-bytes _ 0 (from body 4) (3 * n) ∙ e))
+      pub too-large : legal (bytes 0 (from body 4) (3 * n)) ≡ false → refuse 7 0 ≡ verdictFor (setPalette body) m
+      too-large e = refuses-component (setPalette body) m h right-length in-range (rw (← y) (legal-bytes _ 0 (from body 4) (3 * n) ∙ e))
 
-      pub sets-entries : legal (bytes 0 (from body 4) (3 * n)) ≡ true → (q : List ℕ) → q ≡ applied (bytes (3 * s) (from body 4) (3 * n)) p
-          → Out (setPalette body) p accept q
-      sets-entries e q z =
-          takes (setPalette body) p h right-length in-range (rw (← y) (legal-bytes _ 0 (from body 4) (3 * n) ∙ e)) q (rw (← x, ← y) z)
+      pub takes-entries : legal (bytes 0 (from body 4) (3 * n)) ≡ true → accept ≡ verdictFor (setPalette body) m
+      takes-entries e = accepts (setPalette body) m h right-length in-range (rw (← y) (legal-bytes _ 0 (from body 4) (3 * n) ∙ e))
+
+-- what is known of a body that is taken, by the words that code has read
+module _ (body : List ℕ) (m : ℕ) (z : Updated) (v : told z ≡ verdictFor (setPalette body) m) (e : z ≡ Taken) (s n : ℕ) (x : s ≡ start body) (y : n ≡ count body) where
+  pub entries-fit : (m ≡ 768) × (length body ≡ 4 + 3 * n) × (s + n ≤ 256)
+  entries-fit =
+      let a = taken-on (setPalette body) m z v e in
+      (a .0, rw y (eqb-true _ _ (a .1 .exact)), rw (x, y) (leb-true _ _ (a .1 .inside)))
+
+  pub entries-stored : (p q : List ℕ) → q ≡ applied (bytes (3 * s) (from body 4) (3 * n)) p → q ≡ applied (setPalette body .stores) p
+  entries-stored p q f = rw (← x, ← y) f
 
 -- each index is one of the palette's
 pub entries-within : (body : List ℕ) → verdict (setPalette body) ≡ accept → Within 768 (setPalette body .stores)

@@ -13,10 +13,12 @@ use lib.ListN.{length, getD}
 use Rattle.words.proofs.Tests.{first}
 use Rattle.refusal.specs.Number.{accept, refuse}
 use Rattle.palette.specs.Store.{applied, bytes, Within}
-use Rattle.palette.specs.Update.{legal, verdict}
+use Rattle.palette.specs.declared.Updated.{Updated}
+use Rattle.palette.specs.declared.Updated.the-variants.{Taken}
+use Rattle.palette.specs.Update.{legal, verdict, verdictFor, told}
 use Rattle.palette.proofs.Lists.{applied-append, within-append, within-bytes}
 use Rattle.palette.proofs.Judging.{legal-both, legal-each, byte-legal}
-use Rattle.palette.proofs.Outcome.{Out, refuses-range, takes, accepted}
+use Rattle.palette.proofs.Outcome.{refuses-range, accepts, accepted, taken-on}
 use Rattle.palette.specs.Gradient.{Gradient, entries, fits, gradientFits, level, component, gradientStores, gradientAt, redBlue, redGreen, createGradient}
 use Rattle.palette.specs.Asked.{Step, Entry}
 
@@ -133,19 +135,29 @@ gradient-within g e =
 pub both-legal : (body : List ℕ) → legal (createGradient body .stores) ≡ true
 both-legal body = legal-both _ _ (gradient-legal _) (gradient-legal _)
 
-module _ (body p : List ℕ) (h : length p ≡ 768) (e : length body ≡ 6) where
-  pub refuses-first : gradientFits (redBlue body) ≡ false → Out (createGradient body) p (refuse 7 0) p
-  refuses-first a = refuses-range (createGradient body) p h (eq-eqb _ _ e) (rw a)
+module _ (body : List ℕ) (n : ℕ) (h : n ≡ 768) (e : length body ≡ 6) where
+  pub refuses-first : gradientFits (redBlue body) ≡ false → refuse 7 0 ≡ verdictFor (createGradient body) n
+  refuses-first a = refuses-range (createGradient body) n h (eq-eqb _ _ e) (rw a)
 
   module _ (a : gradientFits (redBlue body) ≡ true) where
-    pub refuses-second : gradientFits (redGreen body) ≡ false → Out (createGradient body) p (refuse 7 0) p
-    refuses-second b = refuses-range (createGradient body) p h (eq-eqb _ _ e) (rw a b)
+    pub refuses-second : gradientFits (redGreen body) ≡ false → refuse 7 0 ≡ verdictFor (createGradient body) n
+    refuses-second b = refuses-range (createGradient body) n h (eq-eqb _ _ e) (rw a b)
 
-    pub takes-both : gradientFits (redGreen body) ≡ true → (m q : List ℕ) → m ≡ applied (gradientStores (redBlue body)) p
-        → q ≡ applied (gradientStores (redGreen body)) m → Out (createGradient body) p accept q
-    takes-both b m q x y =
-        takes (createGradient body) p h (eq-eqb _ _ e) (rw a b) (both-legal body) q
-        (y ∙ ap (applied (gradientStores (redGreen body))) x ∙ sym (applied-append (gradientStores (redBlue body)) (gradientStores (redGreen body)) p))
+    pub takes-both : gradientFits (redGreen body) ≡ true → accept ≡ verdictFor (createGradient body) n
+    takes-both b = accepts (createGradient body) n h (eq-eqb _ _ e) (rw a b) (both-legal body)
+
+-- what is known of a body that is taken
+pub both-fit : (body : List ℕ) (n : ℕ) (x : Updated) → told x ≡ verdictFor (createGradient body) n → x ≡ Taken
+    → (n ≡ 768) × (gradientFits (redBlue body) ≡ true) × (gradientFits (redGreen body) ≡ true)
+both-fit body n x v e =
+    let a = taken-on (createGradient body) n x v e in
+    let i = first _ _ _ _ false-true (a .1 .inside) in
+    (a .0, i .0, i .1)
+
+pub both-stored : (body p m q : List ℕ) → m ≡ applied (gradientStores (redBlue body)) p → q ≡ applied (gradientStores (redGreen body)) m
+    → q ≡ applied (createGradient body .stores) p
+both-stored body p m q x y =
+    y ∙ ap (applied (gradientStores (redGreen body))) x ∙ sym (applied-append (gradientStores (redBlue body)) (gradientStores (redGreen body)) p)
 
 -- each index is one of the palette's
 pub gradients-within : (body : List ℕ) → verdict (createGradient body) ≡ accept → Within 768 (createGradient body .stores)

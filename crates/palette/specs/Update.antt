@@ -25,9 +25,12 @@ legal (s ∷ l) = cond (ltb 63 (s .value)) false (legal l)
 unfoldable pub verdict : Update → Verdict
 verdict u = cond (u .exact) (cond (u .inside) (cond (legal (u .stores)) accept (refuse 7 0)) (refuse 7 0)) (refuse 5 0)
 
--- on a lent palette: 8 comes first
-unfoldable pub verdictOn : Update → List ℕ → Verdict
-verdictOn u palette = cond (eqb (length palette) 768) (verdict u) (refuse 8 0)
+-- on a lent palette this long: 8 comes first, and no byte of the palette is read
+unfoldable pub verdictFor : Update → ℕ → Verdict
+verdictFor u n = cond (eqb n 768) (verdict u) (refuse 8 0)
+
+abbrev pub verdictOn : Update → List ℕ → Verdict
+verdictOn u palette = verdictFor u (length palette)
 
 -- the palette that is left: a refusal changes nothing
 unfoldable pub onAccept : Verdict → List ℕ → List ℕ → List ℕ

@@ -1,4 +1,4 @@
-// Opcodes 0B, 0C and 0D: a body is tested whole, and then its stores are made one by one on the lent palette.
+// Opcodes 0B, 0C and 0D: a body is judged whole, by the palette's length alone, and then its stores are made one by one on the lent palette.
 use refusal::Refusal;
 use words::byte_at;
 use words::wide;
@@ -8,7 +8,7 @@ ghost use mathlib.Core.Bool.{true};
 ghost use Prim.Native.Nat.{_+_, _*_, _≤_, _<_};
 ghost use lib.ListN.{length, getD, set};
 ghost use Rattle.palette.specs.Store.{applied, each, bytes, from};
-ghost use Rattle.palette.specs.Update.{told, legal, verdictOn, paletteAfter};
+ghost use Rattle.palette.specs.Update.{told, legal, verdictFor, verdictOn, paletteAfter};
 ghost use Rattle.palette.specs.Gradient.{gradientAt, gradientStores, fits, gradientFits, level, component, createGradient};
 ghost use Rattle.palette.specs.Entries.{setPalette};
 ghost use Rattle.palette.specs.Mask.{ones, groupEnd, groupAt, masked, groupStores, setPaletteCompressed};
@@ -131,12 +131,11 @@ fn put_gradient(palette: &mut [u8], body: &[u8], at: usize, second: usize)
     }
 }
 
-// Opcode 0B, create gradient. Both gradients are tested before either is stored; where they overlap, the second stays.
-pub fn create_gradient(body: &[u8], palette: &mut [u8]) -> Updated
-    ensures { λ r. ⌜ told r ≡ verdictOn (createGradient (now (body .entry))) (now (palette .entry)) ⌝ }
-    ensures { λ _. ⌜ now (palette .exit) ≡ paletteAfter (createGradient (now (body .entry))) (now (palette .entry)) ⌝ }
+// Whether opcode 0B is taken, for a palette of n bytes: both gradients are tested.
+pub fn judge_gradient(body: &[u8], n: usize) -> Updated
+    ensures { λ r. ⌜ told r ≡ verdictFor (createGradient (now (body .entry))) n ⌝ }
 {
-    if palette.len() != 768 {
+    if n != 768 {
         return Updated::Refused(Refusal::Buffer);
     }
     if body.len() != 6 {
@@ -144,20 +143,32 @@ pub fn create_gradient(body: &[u8], palette: &mut [u8]) -> Updated
     }
     if gradient_fits(body, 0) {
         if gradient_fits(body, 3) {
-            put_gradient(palette, body, 0, 2);
-            put_gradient(palette, body, 3, 1);
             return Updated::Taken;
         }
     }
     Updated::Refused(Refusal::Palette)
 }
 
-// Opcode 0C, set palette. A body too short for its two words never has the length that they ask for.
-pub fn set_palette(body: &[u8], palette: &mut [u8]) -> Updated
-    ensures { λ r. ⌜ told r ≡ verdictOn (setPalette (now (body .entry))) (now (palette .entry)) ⌝ }
-    ensures { λ _. ⌜ now (palette .exit) ≡ paletteAfter (setPalette (now (body .entry))) (now (palette .entry)) ⌝ }
+// Opcode 0B, create gradient. Where the two overlap, the second stays.
+pub fn create_gradient(body: &[u8], palette: &mut [u8]) -> Updated
+    ensures { λ r. ⌜ told r ≡ verdictOn (createGradient (now (body .entry))) (now (palette .entry)) ⌝ }
+    ensures { λ _. ⌜ now (palette .exit) ≡ paletteAfter (createGradient (now (body .entry))) (now (palette .entry)) ⌝ }
 {
-    if palette.len() != 768 {
+    match judge_gradient(body, palette.len()) {
+        Updated::Taken => {
+            put_gradient(palette, body, 0, 2);
+            put_gradient(palette, body, 3, 1);
+            Updated::Taken
+        }
+        Updated::Refused(r) => Updated::Refused(r),
+    }
+}
+
+// Whether opcode 0C is taken, for a palette of n bytes. A body too short for its two words never has the length that they ask for.
+pub fn judge_entries(body: &[u8], n: usize) -> Updated
+    ensures { λ r. ⌜ told r ≡ verdictFor (setPalette (now (body .entry))) n ⌝ }
+{
+    if n != 768 {
         return Updated::Refused(Refusal::Buffer);
     }
     let start = word_at(body, 0);
@@ -169,10 +180,25 @@ pub fn set_palette(body: &[u8], palette: &mut [u8]) -> Updated
         return Updated::Refused(Refusal::Palette);
     }
     if are_components(body, 4, 3 * count) {
-        put_bytes(palette, 3 * start, body, 4, 3 * count);
         return Updated::Taken;
     }
     Updated::Refused(Refusal::Palette)
+}
+
+// Opcode 0C, set palette.
+pub fn set_palette(body: &[u8], palette: &mut [u8]) -> Updated
+    ensures { λ r. ⌜ told r ≡ verdictOn (setPalette (now (body .entry))) (now (palette .entry)) ⌝ }
+    ensures { λ _. ⌜ now (palette .exit) ≡ paletteAfter (setPalette (now (body .entry))) (now (palette .entry)) ⌝ }
+{
+    match judge_entries(body, palette.len()) {
+        Updated::Taken => {
+            let start = word_at(body, 0);
+            let count = word_at(body, 2);
+            put_bytes(palette, 3 * start, body, 4, 3 * count);
+            Updated::Taken
+        }
+        Updated::Refused(r) => Updated::Refused(r),
+    }
 }
 
 // How many bits of a mask are one.
@@ -255,20 +281,32 @@ fn put_groups(palette: &mut [u8], body: &[u8])
     }
 }
 
-// Opcode 0D, set palette entries compressed. Groups that lack bytes end behind the body, so one comparison judges its length.
-pub fn set_palette_compressed(body: &[u8], palette: &mut [u8]) -> Updated
-    ensures { λ r. ⌜ told r ≡ verdictOn (setPaletteCompressed (now (body .entry))) (now (palette .entry)) ⌝ }
-    ensures { λ _. ⌜ now (palette .exit) ≡ paletteAfter (setPaletteCompressed (now (body .entry))) (now (palette .entry)) ⌝ }
+// Whether opcode 0D is taken, for a palette of n bytes. Groups that lack bytes end behind the body, so one comparison judges its length.
+pub fn judge_groups(body: &[u8], n: usize) -> Updated
+    ensures { λ r. ⌜ told r ≡ verdictFor (setPaletteCompressed (now (body .entry))) n ⌝ }
 {
-    if palette.len() != 768 {
+    if n != 768 {
         return Updated::Refused(Refusal::Buffer);
     }
     if groups_end(body) != body.len() {
         return Updated::Refused(Refusal::BodyLength);
     }
     if are_group_components(body) {
-        put_groups(palette, body);
         return Updated::Taken;
     }
     Updated::Refused(Refusal::Palette)
+}
+
+// Opcode 0D, set palette entries compressed.
+pub fn set_palette_compressed(body: &[u8], palette: &mut [u8]) -> Updated
+    ensures { λ r. ⌜ told r ≡ verdictOn (setPaletteCompressed (now (body .entry))) (now (palette .entry)) ⌝ }
+    ensures { λ _. ⌜ now (palette .exit) ≡ paletteAfter (setPaletteCompressed (now (body .entry))) (now (palette .entry)) ⌝ }
+{
+    match judge_groups(body, palette.len()) {
+        Updated::Taken => {
+            put_groups(palette, body);
+            Updated::Taken
+        }
+        Updated::Refused(r) => Updated::Refused(r),
+    }
 }

@@ -1,8 +1,8 @@
--- Document 01, "Numbers of refusal", and document 02, W5 (17 to 19) and W9 (22): the number and the block that each refusal carries.
+-- Document 01, "Numbers of refusal", and document 02, W5 (17 to 19), W8 (21) and W9 (22): the number and the block that each refusal carries.
 -- Assumes nothing.
 use Prim.Native.Nat.{ℕ}
 use Rattle.refusal.specs.declared.Refusal.{Refusal}
-use Rattle.refusal.specs.declared.Refusal.the-variants.{Header, FilmEnd, ChunkEnd, Opcode, BodyLength, Size, Palette, Buffer, NoMap, MapLength, Place, Code, DataShort, CopyOutside, LeftOver, State, SoundFormat, SoundLength, Room, Position}
+use Rattle.refusal.specs.declared.Refusal.the-variants.{Header, FilmEnd, ChunkEnd, Opcode, BodyLength, Size, Palette, Buffer, NoMap, MapLength, Place, Code, DataShort, CopyOutside, LeftOver, State, SoundFormat, SoundLength, Room, NoSize, Position}
 
 abbrev pub number : Refusal → ℕ
 number Header = 1
@@ -24,6 +24,7 @@ number State = 16
 number SoundFormat = 17
 number SoundLength = 18
 number Room = 19
+number NoSize = 21
 number Position = 22
 
 -- the block that is drawn, for 12 to 14; else 0
@@ -47,6 +48,7 @@ block State = 0
 block SoundFormat = 0
 block SoundLength = 0
 block Room = 0
+block NoSize = 0
 block Position = 0
 
 -- what a call that only judges comes to: it accepts, or it refuses by a number and a block

@@ -41,6 +41,8 @@ pub enum Refusal {
     SoundLength,
     // The output room is too small.
     Room,
+    // The film ends before a size.
+    NoSize,
     // The position lies outside the picture.
     Position,
 }
@@ -68,6 +70,7 @@ pub fn number_of(r: Refusal) -> u8
         Refusal::SoundFormat => 17,
         Refusal::SoundLength => 18,
         Refusal::Room => 19,
+        Refusal::NoSize => 21,
         Refusal::Position => 22,
     }
 }
@@ -95,6 +98,7 @@ pub fn block_of(r: Refusal) -> usize
         Refusal::SoundFormat => 0,
         Refusal::SoundLength => 0,
         Refusal::Room => 0,
+        Refusal::NoSize => 0,
         Refusal::Position => 0,
     }
 }

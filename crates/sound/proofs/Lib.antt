@@ -3,3 +3,4 @@ pub mod Packets
 pub mod Outcome
 pub mod Row
 pub mod Kept
+pub mod Dropped

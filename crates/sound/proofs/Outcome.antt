@@ -41,18 +41,36 @@ out-nothing s room = out-taken s s [] room room 0 refl refl (written-none room)
 
 -- ---- 08 of a known format
 
+module _ (s : Sound) (stereo wide compressed : Bool) (count : ℕ) (bytes : List ℕ) (t : Bool) (e : t ≡ even stereo count) where
+  pub odd-data : t ≡ false → (room : ℕ) → dataStep s stereo wide compressed count bytes room ≡ refused 18 0
+  unfolding dataStep
+  odd-data f room = rw (sym e ∙ f)
+
+  module _ (f : t ≡ true) (u : Bool) (g : u ≡ exact stereo wide compressed (s .begun) count (length bytes)) where
+    pub inexact-data : u ≡ false → (room : ℕ) → dataStep s stereo wide compressed count bytes room ≡ refused 18 0
+    unfolding dataStep
+    inexact-data h room = rw (sym e ∙ f, sym g ∙ h)
+
+    module _ (h : u ≡ true) (each : ℕ) (k : each ≡ sampleBytes wide compressed) where
+      pub fitting-data : (room : ℕ) → count * each ≤ room → dataStep s stereo wide compressed count bytes room ≡ taken (soundAfter s stereo compressed bytes) (output s stereo compressed bytes)
+      unfolding dataStep within
+      fitting-data room l = let m : count * sampleBytes wide compressed ≤ room = rw k at l in rw (sym e ∙ f, sym g ∙ h, le-ltb _ _ m)
+
+      pub data-bytes : count * each ≡ length (output s stereo compressed bytes)
+      data-bytes =
+          ap (λ (n : ℕ). count * n) k
+          ∙ sym (output-length s stereo wide compressed count bytes (exact-data stereo wide compressed (s .begun) count (length bytes) (sym g ∙ h)))
+
 module _ (s : Sound) (stereo wide compressed : Bool) (count : ℕ) (bytes room : List ℕ) where
   abbrev pub DataOut : Answer → List ℕ → Type 0
   DataOut a room′ = Out (dataStep s stereo wide compressed count bytes (length room)) room a room′
 
   pub data-odd : (t : Bool) → t ≡ even stereo count → t ≡ false → DataOut (refusal 18 0) room
-  unfolding dataStep
-  data-odd t e f = out-is _ _ _ _ _ (rw (sym e ∙ f)) (out-refused 18 room)
+  data-odd t e f = out-is _ _ _ _ _ (odd-data s stereo wide compressed count bytes t e f (length room)) (out-refused 18 room)
 
   module _ (t : Bool) (e : t ≡ even stereo count) (f : t ≡ true) (u : Bool) (g : u ≡ exact stereo wide compressed (s .begun) count (length bytes)) where
     pub data-inexact : u ≡ false → DataOut (refusal 18 0) room
-    unfolding dataStep
-    data-inexact h = out-is _ _ _ _ _ (rw (sym e ∙ f, sym g ∙ h)) (out-refused 18 room)
+    data-inexact h = out-is _ _ _ _ _ (inexact-data s stereo wide compressed count bytes t e f u g h (length room)) (out-refused 18 room)
 
     module _ (h : u ≡ true) (each : ℕ) (k : each ≡ sampleBytes wide compressed) where
       pub data-small : length room < count * each → DataOut (refusal 19 0) room
@@ -61,12 +79,9 @@ module _ (s : Sound) (stereo wide compressed : Bool) (count : ℕ) (bytes room :
 
       pub data-taken : count * each ≤ length room → (r : Sound) (room′ : List ℕ) → r ≡ soundAfter s stereo compressed bytes → room′ ≡ written (output s stereo compressed bytes) room
           → DataOut (heard r (count * each)) room′
-      unfolding dataStep within
       data-taken l r room′ er ew =
-          let m : count * sampleBytes wide compressed ≤ length room = rw k at l in
-          let x = exact-data stereo wide compressed (s .begun) count (length bytes) (sym g ∙ h) in
-          out-is _ _ _ _ _ (rw (sym e ∙ f, sym g ∙ h, le-ltb _ _ m))
-          (out-taken _ r _ room room′ (count * each) er (ap (λ (n : ℕ). count * n) k ∙ sym (output-length s stereo wide compressed count bytes x)) ew)
+          out-is _ _ _ _ _ (fitting-data s stereo wide compressed count bytes t e f u g h each k (length room) l)
+          (out-taken _ r _ room room′ (count * each) er (data-bytes s stereo wide compressed count bytes t e f u g h each k) ew)
 
   -- the count and the data as they are read
   pub data-read : (a : Answer) (room′ : List ℕ) (word : ℕ) (rest : List ℕ) → count ≡ word → bytes ≡ rest → DataOut a room′
@@ -86,6 +101,16 @@ module _ (s : Sound) (stereo compressed : Bool) (bytes room : List ℕ) where
   pub wrote-copy : compressed ≡ false → (room′ : List ℕ) → room′ ≡ written bytes room → Wrote s room′
   unfolding soundAfter output
   wrote-copy t room′ ew = rw t (refl, ew)
+
+-- the sound then, where nothing is written
+module _ (s : Sound) (stereo compressed : Bool) (bytes : List ℕ) where
+  pub passed-samples : compressed ≡ true → (l : Last) (r : Sound) → l ≡ packetLast stereo (s .begun) (carried s) bytes → r ≡ goingOn s l → r ≡ soundAfter s stereo compressed bytes
+  unfolding soundAfter
+  passed-samples t l r el er = rw t (er ∙ ap (goingOn s) el)
+
+  pub passed-copy : compressed ≡ false → s ≡ soundAfter s stereo compressed bytes
+  unfolding soundAfter
+  passed-copy t = rw t
 
 -- ---- 09 of a known format
 

@@ -49,6 +49,10 @@ output s stereo compressed bytes = cond compressed (bytesOf (packetSamples stere
 unfoldable pub soundAfter : Sound → Bool → Bool → List ℕ → Sound
 soundAfter s stereo compressed bytes = cond compressed (goingOn s (packetLast stereo (s .begun) (carried s) bytes)) s
 
+-- bytes of a room that is always enough: a word counts the samples, each of at most two bytes
+abbrev pub enough : ℕ
+enough = 131070
+
 -- 19 where the room is shorter than what goes out
 unfoldable pub within : ℕ → ℕ → Step → Step
 within bytes room step = cond (ltb room bytes) (refused 19 0) step

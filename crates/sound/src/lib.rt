@@ -2,6 +2,7 @@
 use dpcm::Last;
 use dpcm::channels_of;
 use dpcm::decode_packet;
+use dpcm::last_of_packet;
 use refusal::Refusal;
 use room::put_all;
 use room::put_same;
@@ -9,12 +10,12 @@ use words::part_from;
 use words::word_at;
 ghost use mathlib.Core.Path.{_≡_};
 ghost use mathlib.Core.Bool.{cond};
-ghost use Prim.Native.Nat.{_*_, _≤_, _<_};
+ghost use Prim.Native.Nat.{ℕ, _*_, _≤_, _<_};
 ghost use lib.Dec.{eqb};
 ghost use lib.ListN.{length};
 ghost use Rattle.room.specs.Room.{written};
 ghost use Rattle.sound.specs.Format.{isSet, chosen, masked, formatOf, possibleFormat, possibleSound, firstSound, afresh as afreshAs, goingOn};
-ghost use Rattle.sound.specs.Step.{roomAfter, even, sampleBytes, exact, output, soundAfter, Writable, dataStep, silence, silenceStep};
+ghost use Rattle.sound.specs.Step.{roomAfter, even, sampleBytes, exact, output, soundAfter, enough, Writable, dataStep, silence, silenceStep};
 ghost use Rattle.sound.specs.Sound.{heardAs, answer, initializeAudio, audioData, audioSilence};
 
 // What the last 03 said. wide: 16-bit samples, else 8-bit. compressed: 16-bit samples by steps.
@@ -329,6 +330,98 @@ pub fn audio_silence(sound: Sound, body: &[u8], room: &mut [u8]) -> Heard
                 wide,
                 compressed,
             } => silence_step(sound, stereo, wide, compressed, word_at(body, 4), room),
+        };
+    }
+    Heard::Taken(sound, 0)
+}
+
+// A packet's sound then, where its samples are dropped.
+fn sound_after(sound: Sound, stereo: bool, compressed: bool, data: &[u8]) -> Sound
+    ensures { λ r. ⌜ r ≡ soundAfter sound stereo compressed (now («data» .entry)) ⌝ }
+{
+    if compressed {
+        let last = Last {
+            next: sound.left,
+            other: sound.right,
+        };
+        let then = last_of_packet(stereo, sound.begun, last, data);
+        return sound.going_on(then);
+    }
+    sound
+}
+
+// What `data_step` answers in every room that is always enough.
+fn drop_data(
+    sound: Sound,
+    stereo: bool,
+    wide: bool,
+    compressed: bool,
+    count: usize,
+    data: &[u8],
+) -> Heard
+    requires { ⌜ count < 65536 ⌝ }
+    ensures { λ r. ⌜ ((room : ℕ) → enough ≤ room → heardAs r ≡ answer (dataStep sound stereo wide compressed count (now («data» .entry)) room)) ⌝ }
+{
+    if is_even(stereo, count) {
+        if is_exact(stereo, wide, compressed, sound.begun, count, data.len()) {
+            let bytes = count * sample_bytes(wide, compressed);
+            let next = sound_after(sound, stereo, compressed, data);
+            return Heard::Taken(next, bytes);
+        }
+    }
+    Heard::Refused(Refusal::SoundLength)
+}
+
+// What `silence_step` answers in every room that is always enough.
+fn drop_silence(sound: Sound, stereo: bool, wide: bool, compressed: bool, count: usize) -> Heard
+    requires { ⌜ count < 65536 ⌝ }
+    ensures { λ r. ⌜ ((room : ℕ) → enough ≤ room → heardAs r ≡ answer (silenceStep sound stereo wide compressed count room)) ⌝ }
+{
+    if is_even(stereo, count) {
+        let bytes = count * sample_bytes(wide, compressed);
+        return Heard::Taken(sound, bytes);
+    }
+    Heard::Refused(Refusal::SoundLength)
+}
+
+// Opcode 08 where its samples are dropped: it answers as in every room that is always enough, so 19 is not met.
+pub fn drop_audio_data(sound: Sound, body: &[u8]) -> Heard
+    ensures { λ r. ⌜ ((room : ℕ) → enough ≤ room → heardAs r ≡ answer (audioData sound (now (body .entry)) room)) ⌝ }
+{
+    if is_masked(sound.stream, word_at(body, 2)) {
+        let format = sound.format;
+        return match format {
+            Format::Unknown => Heard::Refused(Refusal::SoundFormat),
+            Format::Known {
+                stereo,
+                wide,
+                compressed,
+            } => drop_data(
+                sound,
+                stereo,
+                wide,
+                compressed,
+                word_at(body, 4),
+                part_from(body, 6),
+            ),
+        };
+    }
+    Heard::Taken(sound, 0)
+}
+
+// Opcode 09 where its samples are dropped.
+pub fn drop_audio_silence(sound: Sound, body: &[u8]) -> Heard
+    ensures { λ r. ⌜ ((room : ℕ) → enough ≤ room → heardAs r ≡ answer (audioSilence sound (now (body .entry)) room)) ⌝ }
+{
+    if is_masked(sound.stream, word_at(body, 2)) {
+        let format = sound.format;
+        return match format {
+            Format::Unknown => Heard::Refused(Refusal::SoundFormat),
+            Format::Known {
+                stereo,
+                wide,
+                compressed,
+            } => drop_silence(sound, stereo, wide, compressed, word_at(body, 4)),
         };
     }
     Heard::Taken(sound, 0)

@@ -15,10 +15,10 @@ use Rattle.paint.specs.Value.{pixelCount, pixelValue}
 use Rattle.draw.specs.Drawing.{sizeAt, targetAt, valueAt}
 use Rattle.draw.specs.Call.{callVerdict, comes}
 use Rattle.palette.specs.Store.{applied, each, byte}
-use Rattle.palette.specs.Update.{legal as legalStores, verdict as paletteVerdict, verdictOn, onAccept, paletteAfter}
+use Rattle.palette.specs.Update.{legal as legalStores, verdict as paletteVerdict, verdictFor, onAccept, paletteAfter}
 use Rattle.palette.specs.Gradient.{fits, level, component}
 use Rattle.worked.specs.Cases.{Case, valuesFrom, pixels, offset, palette, example, answer, twoHalves, cases}
 
 pub worked : map (λ (c : Case). c .given) cases ≡ map (λ (c : Case). c .said) cases
-unfolding falling form7 form8 colours cells partLength patternLength partStart fieldNumber fieldAt patternSource aheadVector nearVector pointsInside rasterIndex copiedIndex codeAt kinds kindOf dataLength isRefused copyInside cellSource source fetched startOf andThen blockVerdict endVerdict verdictFrom blocksVerdict mapFits legal legalSize pixelStores stores following apply run after count answered leave outcome pixelCount pixelValue sizeAt targetAt valueAt callVerdict comes applied each byte legalStores paletteVerdict verdictOn onAccept paletteAfter fits level component valuesFrom pixels offset palette example answer twoHalves cases
+unfolding falling form7 form8 colours cells partLength patternLength partStart fieldNumber fieldAt patternSource aheadVector nearVector pointsInside rasterIndex copiedIndex codeAt kinds kindOf dataLength isRefused copyInside cellSource source fetched startOf andThen blockVerdict endVerdict verdictFrom blocksVerdict mapFits legal legalSize pixelStores stores following apply run after count answered leave outcome pixelCount pixelValue sizeAt targetAt valueAt callVerdict comes applied each byte legalStores paletteVerdict verdictFor onAccept paletteAfter fits level component valuesFrom pixels offset palette example answer twoHalves cases
 worked = refl

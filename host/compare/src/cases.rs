@@ -134,6 +134,33 @@ pub fn sound(seed: u64, number: u64) -> Walk {
     Walk { stream, spare: (0..STEPS).map(spare).collect(), ..walk }
 }
 
+/// A film to open up to its size.
+#[derive(Clone, Debug)]
+pub struct Opening {
+    /// The film.
+    pub film: Vec<u8>,
+    /// The stream of its sound.
+    pub stream: usize,
+    /// The lent palette.
+    pub palette: Vec<u8>,
+    /// The lent place.
+    pub place: usize,
+}
+
+/// The opening of a case: of a film whose 05 stands anywhere or nowhere, for a stream or for none. Half
+/// of the films have a fault, and some palettes a wrong length.
+pub fn opening(seed: u64, number: u64) -> Opening {
+    let rng = &mut chance(seed, number);
+    let stream = if rng.one_in(2) { rng.below(16) } else { rng.pick(&[NO_STREAM, usize::MAX]) };
+    let film = match rng.below(2) {
+        0 => maker::beginning::film(rng, stream).bytes(),
+        _ => maker::beginning::damaged(rng, stream),
+    };
+    let length = if rng.one_in(16) { rng.pick(&[0, 767, 769]) } else { 768 };
+    let (palette, place) = (rng.bytes(length), rng.pick(&[0, 3, usize::MAX]));
+    Opening { film, stream, palette, place }
+}
+
 fn from_opening(rng: &mut Seeded, film: Vec<u8>) -> Walk {
     let size = size(&film);
     let pictures = [(); 2].map(|()| {

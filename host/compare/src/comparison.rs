@@ -73,6 +73,7 @@ impl<A: Decoder, B: Decoder> Comparison<A, B> {
                 Kind::Lists => self.draw(&cases::list(seed, number)),
                 Kind::Films => self.walk(&cases::film(seed, number)),
                 Kind::Sounds => self.walk(&cases::sound(seed, number)),
+                Kind::Openings => self.begin(&cases::opening(seed, number)),
             };
             compared.map_err(|difference| Found {
                 kind,
@@ -96,11 +97,14 @@ pub enum Kind {
     Films,
     /// Films with sound to step over.
     Sounds,
+    /// Films to open up to their size.
+    Openings,
 }
 
 impl Kind {
     /// Every kind.
-    pub const ALL: [Kind; 4] = [Kind::Packets, Kind::Lists, Kind::Films, Kind::Sounds];
+    pub const ALL: [Kind; 5] =
+        [Kind::Packets, Kind::Lists, Kind::Films, Kind::Sounds, Kind::Openings];
 }
 
 impl fmt::Display for Kind {
@@ -110,6 +114,7 @@ impl fmt::Display for Kind {
             Kind::Lists => "lists",
             Kind::Films => "films",
             Kind::Sounds => "sounds",
+            Kind::Openings => "openings",
         })
     }
 }

@@ -2,9 +2,10 @@
 
 use maker::states::Start;
 use maker::Packet;
+use reference::begin::{self, Unbegun};
 use reference::film::{self, Span, State, Stepped};
 use reference::sound::Sound;
-use reference::{CallForm, Drawn, Refusal, Rows};
+use reference::{refusal, CallForm, Drawn, Refusal, Rows};
 
 /// What a check answers: the rows that the packet touches, if any.
 pub type Checked = Result<Option<Rows>, Refusal>;
@@ -14,6 +15,9 @@ pub type Answer = Result<Drawn, Refusal>;
 
 /// What opening a film answers.
 pub type Opened = Result<State, Refusal>;
+
+/// What an opening up to the size answers.
+pub type Begun = Result<State, Unbegun>;
 
 /// What a step answers, beside the state.
 pub type Walked = Result<Step, Refusal>;
@@ -54,6 +58,9 @@ pub trait Decoder {
 
     /// Opens a film for a stream of its sound.
     fn open(&self, film: &[u8], stream: usize) -> Opened;
+
+    /// Opens a film and steps until there is a size.
+    fn begin(&self, film: &[u8], stream: usize, palette: &mut [u8], place: &mut usize) -> Begun;
 
     /// Takes a step over a film, in this form: from the state in `walk`, with what is lent there. The
     /// state that comes back takes its place.
@@ -104,6 +111,10 @@ impl Decoder for Proved {
         mve::open(film, stream).map(common_state).map_err(common_refusal)
     }
 
+    fn begin(&self, film: &[u8], stream: usize, palette: &mut [u8], place: &mut usize) -> Begun {
+        mve::begin(film, stream, palette, place).map(common_state).map_err(common_unbegun)
+    }
+
     fn step(&self, form: CallForm, film: &[u8], walk: &mut Start) -> Walked {
         let Start { state, palette, picture_a, picture_b, place, room, allowed } = walk;
         let (found, allowed) = (own_state(state), *allowed);
@@ -131,6 +142,14 @@ impl Decoder for Proved {
 
 fn common_refusal(refusal: mve::Refusal) -> Refusal {
     Refusal { number: refusal.number(), block: refusal.block }
+}
+
+/// A film that is not opened has no state, for which the library gives zeros.
+fn common_unbegun(unbegun: mve::Unbegun) -> Unbegun {
+    let mve::Unbegun { refusal, state } = unbegun;
+    let unopened = refusal.number() == refusal::HEADER && state == mve::State::default();
+    let state = (!unopened).then(|| common_state(state));
+    Unbegun { refusal: common_refusal(refusal), state }
 }
 
 fn common_drawn(drawn: mve::Drawn) -> Drawn {
@@ -187,6 +206,10 @@ impl Decoder for Second {
 
     fn open(&self, film: &[u8], stream: usize) -> Opened {
         film::open(film, stream)
+    }
+
+    fn begin(&self, film: &[u8], stream: usize, palette: &mut [u8], place: &mut usize) -> Begun {
+        begin::begin(film, stream, palette, place)
     }
 
     fn step(&self, form: CallForm, film: &[u8], walk: &mut Start) -> Walked {

@@ -1,6 +1,6 @@
 //! The two forms of a call (02, W6): what a packet leaves over, and how the forms agree.
 
-use crate::decoder::{Answer, Checked, Decoder, Opened, Step, Walked};
+use crate::decoder::{Answer, Begun, Checked, Decoder, Opened, Step, Walked};
 use maker::states::Start;
 use maker::Packet;
 use reference::film::{opcode, opcode_head, State};
@@ -63,6 +63,10 @@ impl<D: Decoder> Decoder for FromDefault<D> {
 
     fn open(&self, film: &[u8], stream: usize) -> Opened {
         self.0.open(film, stream)
+    }
+
+    fn begin(&self, film: &[u8], stream: usize, palette: &mut [u8], place: &mut usize) -> Begun {
+        self.0.begin(film, stream, palette, place)
     }
 
     fn step(&self, form: CallForm, film: &[u8], walk: &mut Start) -> Walked {

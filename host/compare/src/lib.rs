@@ -8,12 +8,15 @@
 //! calls and steps are of either. The first thing that differs ends it, with the seed and the number of
 //! the case; a [`Tally`] counts what the cases reached.
 //!
+//! Openings up to the size are compared as one call, and [`Separate`] makes them by separate calls.
+//!
 //! [`FromDefault`] is the strict form as it follows from the default one: with it the strict form of a
 //! decoder is compared. [`origins`] compares where pixels come from.
 //!
 //! In comments "01" is the scope document, "02" that of the requests; docs/RULES.md has
 //! their rules.
 
+pub mod begin;
 pub mod cases;
 pub mod comparison;
 pub mod decoder;
@@ -23,8 +26,9 @@ pub mod forms;
 pub mod origins;
 pub mod tally;
 
+pub use begin::Separate;
 pub use comparison::{Comparison, Found, Kind};
-pub use decoder::{Answer, Checked, Decoder, Opened, Proved, Second, Step, Walked};
+pub use decoder::{Answer, Begun, Checked, Decoder, Opened, Proved, Second, Step, Walked};
 pub use difference::{Difference, Part};
 pub use forms::FromDefault;
 pub use tally::{Event, Tally, Touched};

@@ -1,7 +1,8 @@
-//! A long comparison of the proved library with the second decoder, and of its strict form with its
-//! default form, run by hand: `compare SEED COUNT [packets|lists|films|sounds]`.
+//! A long comparison of the proved library with the second decoder, of its strict form with its default
+//! form, and of its opening call with separate calls, run by hand:
+//! `compare SEED COUNT [packets|lists|films|sounds|openings]`.
 
-use compare::{Comparison, Found, FromDefault, Kind, Proved, Second};
+use compare::{Comparison, Found, FromDefault, Kind, Proved, Second, Separate};
 use std::env;
 use std::process::ExitCode;
 use std::time::{Duration, Instant};
@@ -12,7 +13,7 @@ const PROGRESS: Duration = Duration::from_secs(10);
 fn main() -> ExitCode {
     let arguments: Vec<String> = env::args().skip(1).collect();
     let Some((seed, count, kinds)) = parsed(&arguments) else {
-        eprintln!("usage: compare SEED COUNT [packets|lists|films|sounds]");
+        eprintln!("usage: compare SEED COUNT [packets|lists|films|sounds|openings]");
         return ExitCode::from(2);
     };
     match compare(seed, count, &kinds) {
@@ -45,11 +46,15 @@ fn parsed(arguments: &[String]) -> Option<(u64, u64, Vec<Kind>)> {
 fn compare(seed: u64, count: u64, kinds: &[Kind]) -> Result<String, Found> {
     let mut comparison = Comparison::new(Proved, Second);
     let mut forms = Comparison::new(Proved, FromDefault(Proved));
+    let mut calls = Comparison::new(Proved, Separate(Proved));
     let mut told = Instant::now();
     for &kind in kinds {
         for number in 0..count {
             comparison.run(kind, seed, number..number + 1)?;
             forms.run(kind, seed, number..number + 1)?;
+            if kind == Kind::Openings {
+                calls.run(kind, seed, number..number + 1)?;
+            }
             if told.elapsed() >= PROGRESS {
                 told = Instant::now();
                 println!("seed {seed}: case {number} of {count} {kind}; {}", comparison.tally());

@@ -1,12 +1,14 @@
 //! Counts of what the cases reached.
 
-use crate::decoder::{Answer, Checked, Step, Walked};
+use crate::cases::Opening;
+use crate::decoder::{Answer, Begun, Checked, Step, Walked};
 use crate::forms::{left_over, packet_at};
 use maker::calls::Call;
 use maker::sound::Format;
 use maker::states::Start;
 use maker::{Form, Packet};
-use reference::film::{opcode_head, State};
+use reference::begin::Unbegun;
+use reference::film::{chunk_head, opcode_head, State, HEADER};
 use reference::sound::Sound;
 use reference::{CallForm, Drawn, Refusal, Rows};
 use std::collections::BTreeMap;
@@ -44,6 +46,14 @@ pub enum Event {
     Largest,
     /// A film is opened.
     Opened,
+    /// A film is opened up to its size, for a stream of its sound or for none.
+    Begun(bool),
+    /// In a film that is opened up to its size, an opcode of this type stands in front of 05.
+    Before(u8),
+    /// In a film that is opened up to its size, an empty chunk stands in front of 05.
+    EmptyBefore,
+    /// In a film whose opening is refused by this number, an opcode of this type was taken before.
+    RefusedAfter(u8, u8),
     /// A step takes a chunk head or an opcode other than 11.
     Taken,
     /// A step finds the film at its end.
@@ -195,6 +205,41 @@ impl Tally {
         match answer {
             Err(refusal) => self.refused(refusal),
             Ok(_) => self.note(Event::Opened),
+        }
+    }
+
+    /// Counts an opening up to the size, with what the steps up to there took.
+    pub(crate) fn begun(&mut self, opening: &Opening, answer: Begun) {
+        self.films += 1;
+        let Opening { film, stream, .. } = opening;
+        let (end, number) = match answer {
+            Ok(state) => {
+                self.note(Event::Begun(*stream < 16));
+                (state.position, None)
+            }
+            Err(Unbegun { refusal, state }) => {
+                self.refused(refusal);
+                (state.map_or(0, |state| state.position), Some(refusal.number))
+            }
+        };
+        let (mut position, mut chunk_end) = (HEADER.len(), HEADER.len());
+        while position < end {
+            if position == chunk_end {
+                let Ok(head) = chunk_head(film, position) else { return };
+                position = head.body.start;
+                chunk_end = position + head.body.length;
+                if head.body.length == 0 && number.is_none() {
+                    self.note(Event::EmptyBefore);
+                }
+                continue;
+            }
+            let Ok(head) = opcode_head(film, position, chunk_end) else { return };
+            position = head.body.start + head.body.length;
+            match number {
+                None if position < end => self.note(Event::Before(head.kind)),
+                Some(number) => self.note(Event::RefusedAfter(number, head.kind)),
+                None => (),
+            }
         }
     }
 

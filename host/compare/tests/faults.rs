@@ -7,8 +7,8 @@ mod common;
 use common::WRONG_ROWS;
 use compare::forms::left_over;
 use compare::{
-    cases, Answer, Checked, Comparison, Decoder, Found, FromDefault, Kind, Opened, Part, Second,
-    Walked,
+    cases, Answer, Begun, Checked, Comparison, Decoder, Found, FromDefault, Kind, Opened, Part,
+    Second, Walked,
 };
 use maker::states::Start;
 use maker::{Form, Packet};
@@ -74,6 +74,10 @@ impl<C: Fn(MadeCheck<'_>) -> Checked, D: Fn(&mut Made<'_>)> Decoder for Faulty<C
 
     fn open(&self, film: &[u8], stream: usize) -> Opened {
         Second.open(film, stream)
+    }
+
+    fn begin(&self, film: &[u8], stream: usize, palette: &mut [u8], place: &mut usize) -> Begun {
+        Second.begin(film, stream, palette, place)
     }
 
     fn step(&self, form: CallForm, film: &[u8], walk: &mut Start) -> Walked {

@@ -185,7 +185,7 @@ fn frame(rng: &mut Seeded, opcodes: &mut Vec<Opcode>, size: Size, profile: Profi
 
 /// Up to three opcodes that may stand anywhere: passed over, of the palette, or a send, which does
 /// nothing where no frame is finished and unsent.
-fn others(rng: &mut Seeded, opcodes: &mut Vec<Opcode>) {
+pub(crate) fn others(rng: &mut Seeded, opcodes: &mut Vec<Opcode>) {
     for _ in 0..rng.below(4) {
         let opcode = match rng.below(8) {
             0 => gradient(rng),
@@ -210,7 +210,7 @@ pub fn init_video(size: Size) -> Opcode {
 }
 
 /// Opcode 05 in any version. The count word is any number, the true-colour word 0.
-fn any_init_video(rng: &mut Seeded, size: Size) -> Opcode {
+pub(crate) fn any_init_video(rng: &mut Seeded, size: Size) -> Opcode {
     let version = rng.below(3);
     let words = [rng.number() as u16, 0];
     let behind = words[..version].iter().flat_map(|word| word.to_le_bytes());
@@ -219,7 +219,7 @@ fn any_init_video(rng: &mut Seeded, size: Size) -> Opcode {
 }
 
 /// Opcode 07 in either version. Its words are not read.
-fn send(rng: &mut Seeded) -> Opcode {
+pub(crate) fn send(rng: &mut Seeded) -> Opcode {
     let version = rng.below(2);
     Opcode::new(0x07, version as u8, rng.bytes(4 + 2 * version))
 }

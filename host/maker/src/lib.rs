@@ -10,6 +10,7 @@
 //! names for the two forms of a call.) In comments "01" is the scope document, "02" that of the
 //! requests; docs/RULES.md has their rules.
 
+pub mod beginning;
 pub mod calls;
 pub mod demo;
 pub mod encode;

@@ -192,18 +192,22 @@ pub(crate) fn film_of(
     }
     opcodes.extend(sound(rng, 0));
     let mut film = film::of_opcodes(rng, size, stream, opcodes);
-    // A chunk that ends the film has an opcode of any type in front, and no sound of the track.
+    silence_end(&mut film);
+    film
+}
+
+/// A chunk that ends the film has an opcode of any type in front, and no sound of the track.
+pub(crate) fn silence_end(film: &mut Film) {
     match film.chunks.last_mut() {
         Some(chunk) if chunk.opcodes.last().is_some_and(|opcode| opcode.kind == 0x00) => {
             silence(&mut chunk.opcodes);
         }
         _ => (),
     }
-    film
 }
 
 /// Gives opcodes of sound with any bytes a type that is passed over whatever the stream.
-fn silence(opcodes: &mut [Opcode]) {
+pub(crate) fn silence(opcodes: &mut [Opcode]) {
     for opcode in opcodes.iter_mut().filter(|opcode| SOUND.contains(&opcode.kind)) {
         opcode.kind = 0x13;
     }

@@ -62,8 +62,8 @@ pub(crate) struct Moved {
     /// Bytes of samples written to the room's front.
     pub bytes: usize,
     pub rows: Touched,
-    /// The state that comes back: of a refused step the one that went in, of a refused opening
-    /// zeros.
+    /// The state that comes back: of a refused step the one that went in, of a header that is
+    /// refused zeros, of a film that is not begun the one that the refused step was given.
     pub state: Numbers,
 }
 
@@ -141,6 +141,18 @@ impl Moved {
         match self.outcome.read(self.rows) {
             Some(Err(refusal)) if self.state == found && self.bytes == 0 => Err(refusal),
             Some(Ok(taken)) => Ok((self.state.state().unwrap_or_else(|| self.unknown()), taken)),
+            _ => self.unknown(),
+        }
+    }
+
+    /// The state that comes back with the refusal, if it is one, of a film that is opened up to its
+    /// size.
+    pub(crate) fn begun(self) -> (State, Option<Refusal>) {
+        let state = self.state.state().unwrap_or_else(|| self.unknown());
+        match self.outcome.read(self.rows) {
+            _ if self.bytes != 0 => self.unknown(),
+            Some(Err(refusal)) => (state, Some(refusal)),
+            Some(Ok(Taken { kind: kind::ACCEPTED, rows: None, .. })) => (state, None),
             _ => self.unknown(),
         }
     }

@@ -62,6 +62,15 @@ unsafe extern "C" {
 
     fn mve_open(film: *const u8, film_length: usize, stream: usize) -> Moved;
 
+    fn mve_begin(
+        film: *const u8,
+        film_length: usize,
+        stream: usize,
+        palette: *mut u8,
+        palette_length: usize,
+        place: *mut usize,
+    ) -> Moved;
+
     /// `strict` is 0 for the default form, any other number for the strict one.
     fn mve_step_as(
         film: *const u8,
@@ -155,6 +164,15 @@ pub(crate) fn open(film: &[u8], stream: usize) -> Moved {
     // SAFETY: address and length are those of a slice that lives through the call; that of an
     // empty slice is not null. It is only read.
     unsafe { mve_open(film.as_ptr(), film.len(), stream) }
+}
+
+pub(crate) fn begin(film: &[u8], stream: usize, palette: &mut [u8], place: &mut usize) -> Moved {
+    // SAFETY: each address and length are those of a slice that lives through the call; that of an
+    // empty slice is not null. Only the palette and `place` are written; they are borrowed mutably,
+    // so they overlap neither each other nor the film.
+    unsafe {
+        mve_begin(film.as_ptr(), film.len(), stream, palette.as_mut_ptr(), palette.len(), place)
+    }
 }
 
 #[allow(clippy::too_many_arguments)] // those of the library's functions

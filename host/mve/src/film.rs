@@ -23,7 +23,7 @@ pub const NO_STREAM: usize = 16;
 /// It goes into a step, and the next state comes back. Any numbers may stand in it: those that no film
 /// gives are refused by 16. The fields have the names of C's `struct mve_state`. The map's three are one
 /// here, `map`, and those of the sound are in [`Sound`].
-#[derive(Clone, Copy, Debug, PartialEq, Eq, Hash)]
+#[derive(Clone, Copy, Debug, Default, PartialEq, Eq, Hash)]
 pub struct State {
     /// Where the next chunk head or opcode is read.
     pub position: usize,

@@ -29,7 +29,7 @@
 //!     place: &mut place,
 //!     room: &mut room,
 //! };
-//! let mut player = Player::open(&film, 0, memory)?;
+//! let mut player = Player::begin(&film, 0, memory)?;
 //! let mut pictures = 0;
 //! while let Some(event) = player.step()? {
 //!     match event {
@@ -43,12 +43,13 @@
 //!     }
 //! }
 //! assert_eq!(pictures, 1);
-//! # Ok::<(), mve::Refusal>(())
+//! # Ok::<(), Box<dyn std::error::Error>>(())
 //! ```
 //!
-//! Below the player are the library's calls: [`open`] opens a film, [`step`] takes it chunk by chunk and
-//! opcode by opcode, keeping the palette, drawing the pictures and writing the samples to what is lent
-//! to it, [`is_sent`] tells whether a step sent a picture, and [`shown`] is the picture to show.
+//! Below the player are the library's calls: [`begin`] opens a film and steps until its size is known,
+//! [`open`] only opens it, [`step`] takes it chunk by chunk and opcode by opcode, keeping the palette,
+//! drawing the pictures and writing the samples to what is lent to it, [`is_sent`] tells whether a step
+//! sent a picture, and [`shown`] is the picture to show.
 //!
 //! A frame comes as a packet: a map with a code for each 8x8 block, and the blocks' data. [`check`]
 //! tells whether a packet is valid, [`draw`] draws it, at once or in pieces. Both, and [`step`], tell
@@ -83,6 +84,7 @@
 extern crate std;
 
 mod answer;
+mod begin;
 mod ffi;
 mod film;
 mod form;
@@ -92,6 +94,7 @@ mod player;
 mod refusal;
 mod rows;
 
+pub use begin::{begin, Unbegun};
 pub use film::{is_sent, open, shown, step, step_strict, Sound, State, Step};
 pub use film::{NO_STREAM, PALETTE_BYTES, PICTURE_BYTES, ROOM_BYTES};
 pub use origin::{origin, Origin, Traced};
@@ -101,4 +104,4 @@ pub use refusal::{Error, Refusal};
 pub use rows::Rows;
 
 /// The version of the interface that this crate is written for: C's `MVE_VERSION`.
-pub const VERSION: usize = 8;
+pub const VERSION: usize = 9;

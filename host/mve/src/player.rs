@@ -1,5 +1,6 @@
 //! A loop over a film: one step at a time, told as an event.
 
+use crate::begin::{begin, Unbegun};
 use crate::film::{is_sent, open, shown, step, step_strict, State, Step};
 use crate::{Refusal, Rows, ALL_STORES};
 
@@ -81,6 +82,18 @@ pub struct Samples<'p> {
 }
 
 impl<'f, 'm> Player<'f, 'm> {
+    /// Opens a film for a stream of its sound and steps until its size is known, as
+    /// [`begin`](crate::begin()) does. Samples before the size are dropped; [`open`](Player::open) is for
+    /// those who want them.
+    ///
+    /// # Errors
+    ///
+    /// Those of [`begin`](crate::begin()), with the state at which the film is refused.
+    pub fn begin(film: &'f [u8], stream: usize, memory: Memory<'m>) -> Result<Self, Unbegun> {
+        let state = begin(film, stream, memory.palette, memory.place)?;
+        Ok(Player::resume(film, state, memory))
+    }
+
     /// Opens a film for a stream of its sound, as [`open`](crate::open) does.
     ///
     /// # Errors

@@ -125,6 +125,8 @@ errors! {
     SoundLength = 18, "the sound's data or its count of samples has a wrong length";
     /// A room that is too small for the samples.
     Room = 19, "the room is too small for the samples";
+    /// A film that ends without a frame size; only [`begin`](crate::begin()).
+    NoSize = 21, "the film ends without a frame size";
     /// A position outside the picture. Only [`origin`](crate::origin()) meets it.
     Position = 22, "the position lies outside the picture";
 }
@@ -159,12 +161,12 @@ mod tests {
     #[test]
     fn each_number_has_a_text_of_its_own() {
         let numbers = Error::ALL.iter().map(|error| error.number());
-        assert!(numbers.eq((1..=19).chain([22])));
+        assert!(numbers.eq((1..=19).chain([21, 22])));
         let texts: BTreeSet<_> = Error::ALL.iter().map(|error| error.text()).collect();
-        assert_eq!(texts.len(), 20);
+        assert_eq!(texts.len(), 21);
         for number in 0..=600 {
             let named = Error::from_number(number).map(|error| usize::from(error.number()));
-            let is_number = (1..=19).contains(&number) || number == 22;
+            let is_number = (1..=19).contains(&number) || number == 21 || number == 22;
             assert_eq!(named, is_number.then_some(number));
         }
     }

@@ -3,7 +3,7 @@
 //! hand from its bytes, with fields from the low end of each byte (document 02, W3). (Those that
 //! stand as examples in the documentation are run there.)
 
-use mve::{check, draw, open, step, Error, Refusal, Step, NO_STREAM};
+use mve::{begin, check, draw, Error, Refusal, NO_STREAM};
 
 /// The picture that a single block of this code and data gives.
 fn block(code: u8, data: &[u8]) -> [u8; 64] {
@@ -80,18 +80,16 @@ fn motion_vectors() {
     assert_eq!(copied(0x4, 0xff), ("front", 7, 7));
 }
 
-/// A palette whose bytes are all AA, after a film of one opcode of this type and body.
+/// A palette whose bytes are all AA, after a film of an opcode of this type and body and a size of
+/// one block is opened.
 fn palette_after(kind: u8, body: &[u8]) -> [u8; 768] {
     let length = body.len() as u8;
-    let heads = [length + 4, 0, 0, 0, length, 0, kind, 0];
-    let film = [b"Interplay MVE File\x1A\0\x1A\0\0\x01\x33\x11", &heads[..], body].concat();
+    let heads = [length + 12, 0, 0, 0, length, 0, kind, 0];
+    let size = [4, 0, 0x05, 0, 1, 0, 1, 0];
+    let film = [b"Interplay MVE File\x1A\0\x1A\0\0\x01\x33\x11", &heads[..], body, &size].concat();
     let mut palette = [0xAA; 768];
-    let mut state = open(&film, NO_STREAM).expect("a header");
-    while state.position < film.len() {
-        let stepped = step(&film, state, &mut palette, &mut [], &mut [], &mut 0, &mut [], 0);
-        let Ok(Step::Taken { state: next, bytes: 0 }) = stepped else { panic!("{stepped:?}") };
-        state = next;
-    }
+    let state = begin(&film, NO_STREAM, &mut palette, &mut 0).expect("a size");
+    assert_eq!(state.position, film.len());
     palette
 }
 

@@ -2,7 +2,7 @@
 //! worked out by hand from the documents.
 
 use mve::{
-    check, check_strict, draw, draw_strict, open, step, step_strict, Drawn, Error, Refusal, Rows,
+    begin, check, check_strict, draw, draw_strict, step, step_strict, Drawn, Error, Refusal, Rows,
     State, Step, NO_STREAM,
 };
 
@@ -66,10 +66,8 @@ impl Form {
             let (palette, room) = (&mut [0; 768], &mut []);
             (self.step)(&film, state, palette, &mut a, &mut b, &mut place, room, 312_000)
         };
-        let mut state = open(&film, NO_STREAM).expect("a header");
-        for _ in ["chunk", "05", "0F"] {
-            state = take(state).expect("nothing is drawn yet").state();
-        }
+        let sized = begin(&film, NO_STREAM, &mut [0; 768], &mut 0).expect("a size");
+        let state = take(sized).expect("0F").state();
         let answer = take(state).map(|step| match step {
             Step::Whole { state: next, stores, rows } => {
                 assert_eq!(next, State { position: film.len(), map: None, unsent: true, ..state });

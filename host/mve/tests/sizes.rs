@@ -1,7 +1,7 @@
 //! The sentences of document 02's W1, run on the proved library. The expected values are worked out
 //! by hand from the documents.
 
-use mve::{check, draw, open, shown, step, Error, Refusal, State, Step, NO_STREAM};
+use mve::{begin, check, draw, shown, step, Error, Refusal, State, Step, NO_STREAM};
 
 /// The pixels of a picture of 640 by 480.
 const LARGEST: usize = 640 * 480;
@@ -22,9 +22,7 @@ fn step_with(film: &[u8], state: State, pixels: usize) -> Result<Step, Refusal> 
 
 /// The state behind the 05 of a film, which is its first opcode.
 fn sized(film: &[u8]) -> Result<State, Refusal> {
-    let opened = open(film, NO_STREAM)?;
-    let entered = step_with(film, opened, 0)?.state();
-    step_with(film, entered, 0).map(Step::state)
+    begin(film, NO_STREAM, &mut [0; 768], &mut 0).map_err(|unbegun| unbegun.refusal)
 }
 
 fn refused<T>(number: usize) -> Result<T, Refusal> {

@@ -108,8 +108,8 @@ fn a_program_against_what_is_installed() {
     assert!(compiled.status.success(), "{}", String::from_utf8_lossy(&compiled.stderr));
     let film = File::open(folder.join("film.mve")).expect("the film");
     let played = Command::new(folder.join("synopsis")).stdin(film).output().expect("it runs");
-    let sound = 2 * demo::SAMPLES * demo::FRAMES;
-    let expected = format!("{} pictures, {sound} bytes of sound\n", demo::FRAMES);
+    let (width, height) = (8 * demo::SIZE.columns, 8 * demo::SIZE.rows);
+    let expected = format!("{} pictures of {width} by {height} pixels\n", demo::FRAMES);
     assert_eq!(String::from_utf8_lossy(&played.stdout), expected);
 
     let installed = prefix.join("bin/mve");

@@ -19,9 +19,11 @@
 //! | [`sound`] | opcodes 03, 08, 09 |
 //! | [`steps`] | the table of compressed sound |
 //! | [`film`] | header, chunks, opcodes, one step, the shown picture |
+//! | [`begin`] | opening, and stepping until there is a size |
 //! | [`listing`] | the text that the listing program writes |
 //! | [`pictures`] | the pictures that a film sends, as the example players write them |
 
+pub mod begin;
 pub mod block;
 pub mod book;
 pub mod film;

@@ -1,4 +1,4 @@
-//! The numbers of refusal (01, "Numbers of refusal"; 17 to 19: 02, W5; 22: 02, W9).
+//! The numbers of refusal (01, "Numbers of refusal"; 17 to 19: 02, W5; 21: W8; 22: W9).
 
 use std::fmt;
 
@@ -40,13 +40,15 @@ pub const SOUND_FORMAT: u8 = 17;
 pub const SOUND_LENGTH: u8 = 18;
 /// Room too small for what is to be written.
 pub const ROOM: u8 = 19;
+/// The film ends without a size.
+pub const NO_SIZE: u8 = 21;
 /// A position outside the picture.
 pub const POSITION: u8 = 22;
 
 /// Why a call was refused. Nothing lent to the call was changed.
 #[derive(Clone, Copy, Debug, PartialEq, Eq, PartialOrd, Ord, Hash)]
 pub struct Refusal {
-    /// The documents' number, 1 to 19 or 22.
+    /// The documents' number, 1 to 19, 21 or 22.
     pub number: u8,
     /// The block that met 12, 13 or 14; else 0.
     pub block: usize,
@@ -85,6 +87,7 @@ impl Refusal {
             SOUND_FORMAT => "sound before its format, or a format both 8-bit and compressed",
             SOUND_LENGTH => "sound data or sample count of a wrong length",
             ROOM => "room too small for the samples",
+            NO_SIZE => "film ends without a frame size",
             POSITION => "position outside the picture",
             _ => "unknown number of refusal",
         }

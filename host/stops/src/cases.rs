@@ -315,7 +315,7 @@ impl Case for Walk {
 }
 
 /// Whether memory is as it is when nothing stops the call.
-fn same(memory: &Memory, undisturbed: &Memory) -> Result<(), String> {
+pub(crate) fn same(memory: &Memory, undisturbed: &Memory) -> Result<(), String> {
     let Memory { palette, pictures: [a, b], place, state } = undisturbed;
     let differs = [
         (memory.palette != *palette, "palette"),
@@ -344,7 +344,7 @@ pub fn form_named(word: &str) -> CallForm {
 }
 
 /// Bytes as an argument.
-fn hex(bytes: &[u8]) -> String {
+pub(crate) fn hex(bytes: &[u8]) -> String {
     bytes.iter().map(|byte| format!("{byte:02x}")).collect()
 }
 

@@ -1,8 +1,8 @@
 //! The proved library stopped in its compiled code, as a watchdog stops it: between any two machine
 //! instructions.
 //!
-//! What is lent to the library lies in memory that two processes share. One calls `mve_draw` or walks
-//! over a film by `mve_step`, or uses their strict forms. The other one steps it, machine instruction by
+//! What is lent to the library lies in memory that two processes share. One calls `mve_draw`, opens a
+//! film by `mve_begin` or walks over one by `mve_step`, or uses their strict forms. The other one steps it, machine instruction by
 //! machine instruction, and looks at the memory after each ([`watch`]): it must be as a prefix of the
 //! listed stores leaves it, and the call made anew on a copy of it must end as if nothing had been
 //! stopped. The list and what the calls end with are the second decoder's ([`list`], [`cases`]). Or it
@@ -18,6 +18,7 @@ pub mod kept;
 pub mod kills;
 pub mod list;
 pub mod made;
+pub mod opening;
 pub mod state;
 pub mod stopped;
 pub mod watch;

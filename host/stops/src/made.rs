@@ -2,11 +2,12 @@
 
 use crate::cases::{Drawing, Walk, NO_STATE};
 use crate::kept::Memory;
+use crate::opening::Opening;
 use crate::stopped::LENT;
 use maker::calls::allowance;
 use maker::film::{init_video, packet_opcodes, Chunk, Film, Opcode};
 use maker::packet::Draft;
-use maker::sound::Format;
+use maker::sound::{Format, Track};
 use maker::{Form, Profile, Seeded, Size};
 use mve::NO_STREAM;
 use reference::CallForm;
@@ -87,6 +88,25 @@ pub fn sound_walk(rng: &mut Seeded, format: Format) -> Walk {
         opcodes.push(Opcode::new(kind, 0, [front, rng.bytes(length)].concat()));
     }
     Walk::new(CallForm::Default, film_of(stream, opcodes), stream, memory(rng, LENT), 0)
+}
+
+/// The opening of a film that has all of it before the size: the palette's three opcodes, a map,
+/// compressed sound and opcodes that are passed over. A film whose opening is refused has a component
+/// above 63 behind them.
+pub fn opening(rng: &mut Seeded, refused: bool) -> Opening {
+    let stream = rng.below(16);
+    let mut track = Track::new(stream);
+    let format = Format { stereo: rng.one_in(2), wide: true, compressed: true };
+    let mut opcodes = vec![gradients(rng), track.start(rng, format), set_palette(rng)];
+    opcodes.push(Opcode::new(0x0F, 0, vec![0x11]));
+    opcodes.extend([track.data(rng, format), set_palette_compressed(rng), gradients(rng)]);
+    opcodes.push(Opcode::new(0x02, 0, rng.bytes(6)));
+    if refused {
+        opcodes.push(Opcode::new(0x0C, 0, vec![0, 0, 1, 0, 1, 2, 64]));
+    }
+    opcodes.push(init_video(Size::new(1, 1)));
+    let memory = Memory { place: 7, ..memory(rng, LENT) };
+    Opening::new(film_of(stream, opcodes), stream, memory)
 }
 
 /// A film of one chunk of these opcodes.

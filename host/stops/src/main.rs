@@ -1,5 +1,6 @@
 //! A long run by hand, `stops SEED COUNT`: steps so many drawings, walks over films, changes of the
-//! palette and films with sound, and kills a player so often. With other arguments it is the process that is stopped.
+//! palette, openings and films with sound, and kills a player so often. With other arguments it is the
+//! process that is stopped.
 
 use maker::calls::allowance;
 use maker::sound::Format;
@@ -54,18 +55,21 @@ fn usage() -> ExitCode {
 fn long(seed: u64, count: usize) -> io::Result<String> {
     let program = env::current_exe()?;
     let rng = &mut Seeded::new(seed);
-    let (mut drawings, mut walks) = (Counts::default(), Counts::default());
+    let [mut drawings, mut walks, mut openings] = [Counts::default(); 3];
     for number in 0..count {
         let (profile, allowed) = (rng.pick(&Profile::MANY), allowance(rng, 2).max(65));
         drawings += stepped(&program, &made::drawing(rng), number)?;
         let form = rng.pick(&CallForm::ALL);
         walks += stepped(&program, &made::walk(rng, form, profile, allowed), number)?;
         walks += stepped(&program, &made::palette_walk(rng), number)?;
+        openings += stepped(&program, &made::opening(rng, number % 4 == 0), number)?;
         let format = rng.pick(&Format::ALL);
         walks += stepped(&program, &made::sound_walk(rng, format), number)?;
     }
     let killed = kills::kill(&program, Player::Right, seed, count)?;
-    Ok(format!("drawings: {drawings:?}\nwalks: {walks:?}\nkills: {killed:?}\n"))
+    Ok(format!(
+        "drawings: {drawings:?}\nwalks: {walks:?}\nopenings: {openings:?}\nkills: {killed:?}\n"
+    ))
 }
 
 fn stepped(program: &Path, case: &dyn Case, number: usize) -> io::Result<Counts> {

@@ -3,6 +3,7 @@
 use crate::cases::{form_named, hex_bytes};
 use crate::ffi;
 use crate::kept::Kept;
+use crate::opening;
 use crate::state;
 use crate::wrong::{self, Wrong};
 use mve::{Drawn, State, Step, ROOM_BYTES};
@@ -44,6 +45,16 @@ pub fn run(arguments: &[String]) -> io::Result<String> {
             let steps = walk(form, kept, &film, allowed, |_, _| Ok(()))?;
             ffi::stop();
             Ok(format!("ended after {steps} steps\n"))
+        }
+        ["--begin", stream, film] => {
+            let (stream, film) = (number(stream), hex_bytes(film));
+            ffi::stop();
+            kept.enter();
+            let Kept { palette, place, .. } = &mut *kept;
+            let begun = mve::begin(&film, stream, palette, place);
+            kept.leave();
+            ffi::stop();
+            Ok(opening::answer(begun))
         }
         ["--wrong", name, columns, rows, map, data] => {
             let wrong = Wrong::named(name).expect("a wrong program");

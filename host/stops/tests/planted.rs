@@ -7,6 +7,7 @@ use reference::CallForm;
 use std::path::Path;
 use stops::cases::{Case, Drawing, Walk};
 use stops::kills::{kill, Player};
+use stops::list::Store;
 use stops::made;
 use stops::stopped::LENT;
 use stops::watch::{watch, Watched};
@@ -90,4 +91,30 @@ fn a_foreign_state_is_noticed() {
         let noticed = walk.go_on(&left).expect_err("the state is no step's");
         assert!(noticed.starts_with("the saved state is none of the film's"), "{noticed}");
     }
+}
+
+/// An opening that is made again where a byte that the film never stores, or the place, is another one.
+#[test]
+fn wrong_openings_are_noticed() {
+    let opening = made::opening(&mut Seeded::new(1), false);
+    assert_eq!(opening.go_on(opening.found()), Ok(()));
+    let is_stored = |byte: usize| {
+        opening.stores().iter().any(|store| match *store {
+            Store::Palette { index, .. } => index == byte,
+            Store::Black { entry } => entry == byte / 3,
+            _ => false,
+        })
+    };
+    let kept = (0..768).find(|&byte| !is_stored(byte)).expect("a byte that is kept");
+    let mut left = opening.found().clone();
+    left.palette[kept] ^= 1;
+    let noticed = opening.go_on(&left).expect_err("another palette");
+    assert!(noticed.starts_with("the palette is not"), "{noticed}");
+    // The refused opening of a film with the same opcodes stores nothing.
+    let refused = made::opening(&mut Seeded::new(1), true);
+    assert_eq!(refused.go_on(refused.found()), Ok(()));
+    left = refused.found().clone();
+    left.place += 1;
+    let noticed = refused.go_on(&left).expect_err("another place");
+    assert!(noticed.starts_with("the place is not"), "{noticed}");
 }

@@ -12,8 +12,12 @@ fn ends_with_the_counts() {
     let output = run(&["7", "3"]);
     let text = String::from_utf8(output.stdout).expect("text");
     assert!(output.status.success(), "{text}");
-    let starts =
-        ["drawings: Counts { cases: 3, ", "walks: Counts { cases: 9, ", "kills: Killed { "];
+    let starts = [
+        "drawings: Counts { cases: 3, ",
+        "walks: Counts { cases: 9, ",
+        "openings: Counts { cases: 3, ",
+        "kills: Killed { ",
+    ];
     assert!(text.lines().zip(starts).all(|(line, start)| line.starts_with(start)), "{text}");
     assert_eq!(text.lines().count(), starts.len(), "{text}");
 }

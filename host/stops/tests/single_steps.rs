@@ -124,6 +124,25 @@ fn palettes() {
     assert!(all.instructions >= 10_000 && all.changes >= 200 && black >= 2 && twice >= 5);
 }
 
+/// All is judged before the first store, so an opening that is refused stores nothing; one that is
+/// stopped while it stores is made again.
+#[test]
+fn openings() {
+    let (mut all, mut refused) = (Counts::default(), Counts::default());
+    for seed in 0..12 {
+        let is_refused = seed % 4 == 0;
+        let opening = made::opening(&mut Seeded::new(seed), is_refused);
+        assert_eq!(opening.answer().starts_with("refused 7"), is_refused, "{}", opening.answer());
+        let places = opening.stores().iter().filter(|store| matches!(store, Store::Place(0)));
+        assert_eq!(places.count(), usize::from(!is_refused));
+        let counts = stepped(&format!("seed {seed}"), &opening);
+        *(if is_refused { &mut refused } else { &mut all }) += counts;
+    }
+    println!("{all:?}, refused: {refused:?}");
+    assert!(all.instructions >= 50_000 && all.changes >= 200);
+    assert!(refused.instructions >= 5000 && refused.changes == 0);
+}
+
 /// Sound makes no store to what is kept but the state; the step made anew writes the same samples.
 #[test]
 fn sounds_of_every_format() {

@@ -1,58 +1,49 @@
+-- Judged whole before the first store: what is taken fits. Each way out is a law of `Gradients` or `Outcome`.
+use mathlib.Core.Path.{_∙_}
 use native.Mathlib.Omega.{arith}
--- Both gradients fit before the first is stored. Each way out is a law of `Gradients` or `Outcome`.
-use mathlib.Core.Path.{sym, _∙_}
-use borrow.Author.Tests.{ne-eqb}
-use Rattle.palette.proofs.Outcome.{refuses-8, refuses-5}
-use Rattle.palette.proofs.Gradients.{refuses-first, refuses-second, takes-both}
+use Rattle.palette.proofs.Outcome.{keeps, stores-all}
+use Rattle.palette.proofs.Gradients.{both-fit, both-stored}
 use borrow.Author.Needs.{needs}
 use Rattle.palette.proofs.create_gradient.Statement.{statement}
 use Rattle.palette.proofs.create_gradient.Tie as tie
 use Rattle.palette.proofs.create_gradient.Reads as reads
 use Rattle.palette.proofs.create_gradient.Lts as lts
-use Rattle.palette.proofs.gradient_fits.Reads as gradient-fits-reads
+use Rattle.palette.proofs.judge_gradient.Reads as judge-gradient-reads
 use Rattle.palette.proofs.put_gradient.Reads as put-gradient-reads
 
-returns : tie.Need-returns
-returns c = refuses-8 _ _ (c .if1 .taken)
+judge-gradient-requires : tie.Need-judge-gradient-requires
+judge-gradient-requires c κs = search needs
 
-returns-2 : tie.Need-returns-2
-returns-2 c = refuses-5 _ _ (c .before .if1 .left) (ne-eqb _ _ (c .if2 .taken))
-
-gradient-fits-requires : tie.Need-gradient-fits-requires
-gradient-fits-requires c κs = search needs
-
-gradient-fits-requires-2 : tie.Need-gradient-fits-requires-2
-gradient-fits-requires-2 c κs = search needs
+enum-told : tie.Need-enum-told
+enum-told c = search needs
 
 put-gradient-requires : tie.Need-put-gradient-requires
-put-gradient-requires c κs = (omega arith, c .before .before .before .before .before .before .if1 .left, sym (c .before .before .before .before .gradient-fits .ensures) ∙ c .before .before .before .if3 .taken)
+put-gradient-requires c κs = let q = both-fit (c .before .before .before .before .before .before .args .body .now) _ _ (c .before .before .before .judge-gradient .ensures) (c .before .enum-told .given .1) in (omega arith, q .0, q .1)
 
 put-gradient-requires-2 : tie.Need-put-gradient-requires-2
-put-gradient-requires-2 c κs = (omega arith, c .before .before .before .put-gradient .kept .0 ∙ c .before .before .before .before .before .before .before .before .before .before .if1 .left, sym (c .before .before .before .before .before .before .gradient-fits2 .ensures) ∙ c .before .before .before .before .before .if4 .taken)
+put-gradient-requires-2 c κs = let q = both-fit (c .before .before .before .before .before .before .before .before .before .before .args .body .now) _ _ (c .before .before .before .before .before .before .before .judge-gradient .ensures) (c .before .before .before .before .before .enum-told .given .1) in (omega arith, c .before .before .before .put-gradient .kept .0 ∙ q .0, q .2)
+
+enum-known-r : tie.Need-enum-known-r
+enum-known-r c = search needs
 
 same-length : tie.Need-same-length
 same-length c = search needs
 
-returns-3 : tie.Need-returns-3
-returns-3 c = takes-both (c .before .before .before .before .before .before .before .before .before .before .before .before .before .before .before .before .args .body .now) (c .before .before .before .before .before .before .before .before .before .before .before .before .before .before .before .before .args .palette .now) (c .before .before .before .before .before .before .before .before .before .before .before .before .before .if1 .left) (c .before .before .before .before .before .before .before .before .before .before .before .before .if2 .left) (sym (c .before .before .before .before .before .before .before .before .before .before .before .gradient-fits .ensures) ∙ c .before .before .before .before .before .before .before .before .before .before .if3 .taken) (sym (c .before .before .before .before .before .before .before .before .before .gradient-fits2 .ensures) ∙ c .before .before .before .before .before .before .before .before .if4 .taken) _ _ (c .before .before .before .before .before .before .put-gradient .ensures) (c .before .before .put-gradient2 .ensures)
+returns : tie.Need-returns
+returns c = stores-all _ _ _ (c .before .before .before .before .before .before .before .before .before .before .judge-gradient .ensures) (c .before .before .before .before .before .before .before .before .enum-told .given .1) _ (both-stored (c .before .before .before .before .before .before .before .before .before .before .before .before .before .args .body .now) _ _ _ (c .before .before .before .before .before .before .put-gradient .ensures) (c .before .before .put-gradient2 .ensures))
 
-returns-4 : tie.Need-returns-4
-returns-4 c = refuses-second (c .before .before .before .before .before .before .before .before .args .body .now) _ (c .before .before .before .before .before .if1 .left) (c .before .before .before .before .if2 .left) (sym (c .before .before .before .gradient-fits .ensures) ∙ c .before .before .if3 .taken) (sym (c .before .gradient-fits2 .ensures) ∙ c .if4 .left)
-
-returns-5 : tie.Need-returns-5
-returns-5 c = refuses-first (c .before .before .before .before .before .before .args .body .now) _ (c .before .before .before .if1 .left) (c .before .before .if2 .left) (sym (c .before .gradient-fits .ensures) ∙ c .if3 .left)
+returns-2 : tie.Need-returns-2
+returns-2 c = keeps _ _ _ (c .before .before .before .judge-gradient .ensures) _ (c .before .r .given .1)
 
 pub create-gradient-spec : {M : Type 1} → statement M
 create-gradient-spec =
     tie.close
     (tie.spec
-    returns
-    returns-2
-    gradient-fits-requires
-    gradient-fits-requires-2
+    judge-gradient-requires
+    enum-told
     put-gradient-requires
     put-gradient-requires-2
+    enum-known-r
     same-length
-    returns-3
-    returns-4
-    returns-5)
+    returns
+    returns-2)

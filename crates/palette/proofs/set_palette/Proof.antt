@@ -1,46 +1,27 @@
--- Each way out is a law of `Entries` or `Outcome`.
+-- Judged whole before the first store: what is taken fits. Each way out is a law of `Entries` or `Outcome`.
 use native.Mathlib.Omega.{arith}
-use mathlib.Core.Path.{sym, _∙_}
-use Rattle.palette.proofs.Outcome.{refuses-8}
-use Rattle.palette.proofs.Entries.{wrong-length, past-the-last, too-large, sets-entries}
+use Rattle.palette.proofs.Outcome.{keeps, stores-all}
+use Rattle.palette.proofs.Entries.{entries-fit, entries-stored}
 use borrow.Author.Needs.{needs}
 use Rattle.palette.proofs.set_palette.Statement.{statement}
 use Rattle.palette.proofs.set_palette.Tie as tie
 use Rattle.palette.proofs.set_palette.Reads as reads
 use Rattle.palette.proofs.set_palette.Lts as lts
-use Rattle.palette.proofs.are_components.Reads as are-components-reads
+use Rattle.palette.proofs.judge_entries.Reads as judge-entries-reads
 use Rattle.palette.proofs.put_bytes.Reads as put-bytes-reads
 use Rattle.words.proofs.word_at.Reads as word-at-reads
 
-returns : tie.Need-returns
-returns c = refuses-8 _ _ (c .if1 .taken)
+judge-entries-requires : tie.Need-judge-entries-requires
+judge-entries-requires c κs = search needs
+
+enum-told : tie.Need-enum-told
+enum-told c = search needs
 
 word-at-requires : tie.Need-word-at-requires
 word-at-requires c κs = search needs
 
 word-at-requires-2 : tie.Need-word-at-requires-2
 word-at-requires-2 c κs = search needs
-
-mul-if2 : tie.Need-mul-if2
-mul-if2 c = search needs
-
-add-if2 : tie.Need-add-if2
-add-if2 c = search needs
-
-returns-2 : tie.Need-returns-2
-returns-2 c = wrong-length _ _ (c .before .before .before .if1 .left) _ _ (c .before .before .word-at .ensures .0) (c .before .word-at2 .ensures .0) (λ e. omega (arith, c .if2 .taken))
-
-add-if3 : tie.Need-add-if3
-add-if3 c = search needs
-
-returns-3 : tie.Need-returns-3
-returns-3 c = past-the-last _ _ (c .before .before .before .before .if1 .left) _ _ (c .before .before .before .word-at .ensures .0) (c .before .before .word-at2 .ensures .0) (omega (arith, c .before .if2 .left)) (omega (arith, c .if3 .taken))
-
-mul-are-components : tie.Need-mul-are-components
-mul-are-components c = search needs
-
-are-components-requires : tie.Need-are-components-requires
-are-components-requires c κs = search needs
 
 mul-put-bytes : tie.Need-mul-put-bytes
 mul-put-bytes c = search needs
@@ -49,34 +30,32 @@ mul-put-bytes-2 : tie.Need-mul-put-bytes-2
 mul-put-bytes-2 c = search needs
 
 put-bytes-requires : tie.Need-put-bytes-requires
-put-bytes-requires c κs = search needs
+put-bytes-requires c κs = let q = entries-fit _ _ _ (c .before .before .before .before .before .judge-entries .ensures) (c .before .before .before .enum-told .given .1) _ _ (c .before .before .word-at .ensures .0) (c .before .word-at2 .ensures .0) in (omega (arith, q .0, q .1, q .2), omega (arith, q .0, q .1, q .2))
+
+enum-known-r : tie.Need-enum-known-r
+enum-known-r c = search needs
 
 same-length : tie.Need-same-length
 same-length c = search needs
 
-returns-4 : tie.Need-returns-4
-returns-4 c = sets-entries _ _ (c .before .before .before .before .before .before .before .before .before .before .if1 .left) _ _ (c .before .before .before .before .before .before .before .before .before .word-at .ensures .0) (c .before .before .before .before .before .before .before .before .word-at2 .ensures .0) (omega (arith, c .before .before .before .before .before .before .before .if2 .left)) (omega (arith, c .before .before .before .before .before .before .if3 .left)) (sym (c .before .before .before .before .before .are-components .ensures) ∙ c .before .before .before .before .if4 .taken) _ (c .before .before .put-bytes .ensures)
+returns : tie.Need-returns
+returns c = stores-all _ _ _ (c .before .before .before .before .before .before .before .before .judge-entries .ensures) (c .before .before .before .before .before .before .enum-told .given .1) _ (entries-stored _ _ _ (c .before .before .before .before .before .before .before .before .judge-entries .ensures) (c .before .before .before .before .before .before .enum-told .given .1) _ _ (c .before .before .before .before .before .word-at .ensures .0) (c .before .before .before .before .word-at2 .ensures .0) _ _ (c .before .before .put-bytes .ensures))
 
-returns-5 : tie.Need-returns-5
-returns-5 c = too-large _ _ (c .before .before .before .before .before .before .if1 .left) _ _ (c .before .before .before .before .before .word-at .ensures .0) (c .before .before .before .before .word-at2 .ensures .0) (omega (arith, c .before .before .before .if2 .left)) (omega (arith, c .before .before .if3 .left)) (sym (c .before .are-components .ensures) ∙ c .if4 .left)
+returns-2 : tie.Need-returns-2
+returns-2 c = keeps _ _ _ (c .before .before .before .judge-entries .ensures) _ (c .before .r .given .1)
 
 pub set-palette-spec : {M : Type 1} → statement M
 set-palette-spec =
     tie.close
     (tie.spec
-    returns
+    judge-entries-requires
+    enum-told
     word-at-requires
     word-at-requires-2
-    mul-if2
-    add-if2
-    returns-2
-    add-if3
-    returns-3
-    mul-are-components
-    are-components-requires
     mul-put-bytes
     mul-put-bytes-2
     put-bytes-requires
+    enum-known-r
     same-length
-    returns-4
-    returns-5)
+    returns
+    returns-2)

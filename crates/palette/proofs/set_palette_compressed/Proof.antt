@@ -1,49 +1,43 @@
--- Each way out is a law of `Outcome`.
-use mathlib.Core.Path.{refl, sym, _∙_}
-use borrow.Author.Tests.{eq-eqb, ne-eqb}
-use Rattle.palette.proofs.Outcome.{refuses-8, refuses-5, refuses-component, takes}
+-- Judged whole before the first store: what is taken fits. Each way out is a law of `Outcome`.
+use borrow.Author.Tests.{eqb-true}
+use Rattle.palette.proofs.Outcome.{keeps, stores-all, taken-on}
 use borrow.Author.Needs.{needs}
 use Rattle.palette.proofs.set_palette_compressed.Statement.{statement}
 use Rattle.palette.proofs.set_palette_compressed.Tie as tie
 use Rattle.palette.proofs.set_palette_compressed.Reads as reads
 use Rattle.palette.proofs.set_palette_compressed.Lts as lts
-use Rattle.palette.proofs.are_group_components.Reads as are-group-components-reads
-use Rattle.palette.proofs.groups_end.Reads as groups-end-reads
+use Rattle.palette.proofs.judge_groups.Reads as judge-groups-reads
 use Rattle.palette.proofs.put_groups.Reads as put-groups-reads
 
-returns : tie.Need-returns
-returns c = refuses-8 _ _ (c .if1 .taken)
+judge-groups-requires : tie.Need-judge-groups-requires
+judge-groups-requires c κs = search needs
 
-groups-end-requires : tie.Need-groups-end-requires
-groups-end-requires c κs = search needs
-
-returns-2 : tie.Need-returns-2
-returns-2 c = refuses-5 _ _ (c .before .before .if1 .left) (ne-eqb _ _ (λ e. c .if2 .taken (c .before .groups-end .ensures ∙ e)))
-
-are-group-components-requires : tie.Need-are-group-components-requires
-are-group-components-requires c κs = search needs
+enum-told : tie.Need-enum-told
+enum-told c = search needs
 
 put-groups-requires : tie.Need-put-groups-requires
-put-groups-requires c κs = search needs
+put-groups-requires c κs = let q = taken-on _ _ _ (c .before .before .before .judge-groups .ensures) (c .before .enum-told .given .1) in (eqb-true _ _ (q .1 .exact), q .0)
+
+enum-known-r : tie.Need-enum-known-r
+enum-known-r c = search needs
 
 same-length : tie.Need-same-length
 same-length c = search needs
 
-returns-3 : tie.Need-returns-3
-returns-3 c = takes _ _ (c .before .before .before .before .before .before .before .before .if1 .left) (eq-eqb _ _ (sym (c .before .before .before .before .before .before .before .groups-end .ensures) ∙ c .before .before .before .before .before .before .if2 .left)) refl (sym (c .before .before .before .before .before .are-group-components .ensures) ∙ c .before .before .before .before .if3 .taken) _ (c .before .before .put-groups .ensures)
+returns : tie.Need-returns
+returns c = stores-all _ _ _ (c .before .before .before .before .before .before .judge-groups .ensures) (c .before .before .before .before .enum-told .given .1) _ (c .before .before .put-groups .ensures)
 
-returns-4 : tie.Need-returns-4
-returns-4 c = refuses-component _ _ (c .before .before .before .before .if1 .left) (eq-eqb _ _ (sym (c .before .before .before .groups-end .ensures) ∙ c .before .before .if2 .left)) refl (sym (c .before .are-group-components .ensures) ∙ c .if3 .left)
+returns-2 : tie.Need-returns-2
+returns-2 c = keeps _ _ _ (c .before .before .before .judge-groups .ensures) _ (c .before .r .given .1)
 
 pub set-palette-compressed-spec : {M : Type 1} → statement M
 set-palette-compressed-spec =
     tie.close
     (tie.spec
-    returns
-    groups-end-requires
-    returns-2
-    are-group-components-requires
+    judge-groups-requires
+    enum-told
     put-groups-requires
+    enum-known-r
     same-length
-    returns-3
-    returns-4)
+    returns
+    returns-2)

@@ -67,6 +67,9 @@ enum-told-16 c = search needs
 enum-told-17 : tie.Need-enum-told-17
 enum-told-17 c = search needs
 
+enum-told-18 : tie.Need-enum-told-18
+enum-told-18 c = search needs
+
 returns : tie.Need-returns
 returns c = sym (ap block (c .before .r .given .1))
 
@@ -127,6 +130,9 @@ returns-19 c = sym (ap block (c .enum-told16 .given .1))
 returns-20 : tie.Need-returns-20
 returns-20 c = sym (ap block (c .enum-told17 .given .1))
 
+returns-21 : tie.Need-returns-21
+returns-21 c = sym (ap block (c .enum-told18 .given .1))
+
 pub block-of-spec : {M : Type 1} → statement M
 block-of-spec =
     tie.close
@@ -151,6 +157,7 @@ block-of-spec =
     enum-told-15
     enum-told-16
     enum-told-17
+    enum-told-18
     returns
     returns-2
     returns-3
@@ -170,4 +177,5 @@ block-of-spec =
     returns-17
     returns-18
     returns-19
-    returns-20)
+    returns-20
+    returns-21)

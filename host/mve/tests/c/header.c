@@ -1,4 +1,4 @@
-/* The film of document 01's listing, stepped over through the C header, with a call that leaves a block begun; a film with
+/* The film of document 01's listing, opened and stepped over through the C header, with a call that leaves a block begun; a film with
    sound, in rooms that are too small at first; packets with bytes left over, by the default and the strict forms; the rows
    that packets touch; and where pixels come from. Exits with 0 where every answer is the one that the documents give. */
 #include "mve.h"
@@ -94,9 +94,9 @@ static int pictures(void) {
     memset(drawn, 0x2a, sizeof drawn);
     EXPECT(sizeof film == 82);
 
-    struct mve_stepped s = mve_open(film, sizeof film, 0);
-    EXPECT(s.kind == MVE_TAKEN && s.state.position == 26 && s.state.chunk_end == 26);
-    EXPECT(mve_shown(s.state, a, sizeof a, b, sizeof b) == 0);
+    struct mve_stepped s = mve_begin(film, sizeof film, 0, palette, sizeof palette, &place);
+    EXPECT(s.kind == MVE_TAKEN && s.state.position == 38 && s.state.chunk_end == 42 && s.stores == 0 && s.bytes == 0);
+    EXPECT(s.state.columns == 1 && s.state.rows == 1 && mve_shown(s.state, a, sizeof a, b, sizeof b) == 64);
     while (s.kind != MVE_ENDED) {
         /* 40 is too few for the block: as a stop, it leaves a block begun. */
         size_t allowed = unfinished == 0 ? 40 : 70;
@@ -136,6 +136,18 @@ static int pictures(void) {
     EXPECT(short_palette.kind == MVE_REFUSED && short_palette.number == MVE_ERROR_LENT_LENGTH);
     EXPECT(short_palette.state.position == 82);
     EXPECT(mve_open(film, 25, 0).number == MVE_ERROR_HEADER);
+
+    /* A film that is not opened up to its size: where it was refused. Nothing is changed. */
+    struct mve_state zeros;
+    memset(&zeros, 0, sizeof zeros);
+    struct mve_stepped unbegun = mve_begin(film, 25, 0, palette, sizeof palette, &place);
+    EXPECT(unbegun.kind == MVE_REFUSED && unbegun.number == MVE_ERROR_HEADER && is_same(unbegun.state, zeros));
+    unbegun = mve_begin(film, 26, 0, palette, 767, &place);
+    EXPECT(unbegun.kind == MVE_REFUSED && unbegun.number == MVE_ERROR_LENT_LENGTH && unbegun.state.position == 26);
+    unbegun = mve_begin(film, 26, 0, palette, sizeof palette, &place);
+    EXPECT(unbegun.kind == MVE_REFUSED && unbegun.number == MVE_ERROR_NO_SIZE && unbegun.state.position == 26);
+    unbegun = mve_begin(film, 34, 0, palette, sizeof palette, &place);
+    EXPECT(unbegun.kind == MVE_REFUSED && unbegun.number == MVE_ERROR_CHUNK && unbegun.state.position == 26 && place == 1);
 
     /* Two blocks in a row, code 1 and then code 6, which is refused in block 1. */
     const uint8_t map[] = {0x61}, none[] = {0};
@@ -227,7 +239,7 @@ static int padded_film(void) {
 /* The constants, from the rules: 256 entries of three bytes; 80 by 60 blocks of 64 pixels; as many blocks of 65 stores; a
    word of samples, two bytes each. */
 static int constants(void) {
-    EXPECT(MVE_VERSION == 8 && MVE_PALETTE_BYTES == 256 * 3 && MVE_PICTURE_BYTES == 80 * 60 * 64);
+    EXPECT(MVE_VERSION == 9 && MVE_PALETTE_BYTES == 256 * 3 && MVE_PICTURE_BYTES == 80 * 60 * 64);
     EXPECT(MVE_BLOCK_STORES == 64 + 1 && MVE_ALL_STORES == 80 * 60 * MVE_BLOCK_STORES);
     EXPECT(MVE_ROOM_BYTES == 2 * 65535 && MVE_NO_STREAM == 16);
     return 0;
@@ -237,9 +249,10 @@ static int constants(void) {
 static int texts(void) {
     const char *none = mve_refusal_text(0);
     for (size_t number = 0; number <= 30; number += 1) {
-        EXPECT((strcmp(mve_refusal_text(number), none) != 0) == ((number >= 1 && number <= 19) || number == 22));
+        int known = (number >= 1 && number <= 19) || number == 21 || number == 22;
+        EXPECT((strcmp(mve_refusal_text(number), none) != 0) == known);
         EXPECT((mve_is_of_block(number) != 0) == (number >= 12 && number <= 14));
-        for (size_t other = 1; other < number && (number <= 19 || number == 22); other += 1) {
+        for (size_t other = 1; other < number && known; other += 1) {
             EXPECT(strcmp(mve_refusal_text(number), mve_refusal_text(other)) != 0);
         }
     }

@@ -1,0 +1,5 @@
+pub mod Before
+pub mod Twin
+pub mod Possible
+pub mod Until
+pub mod Separate

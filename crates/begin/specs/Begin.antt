@@ -1,0 +1,121 @@
+-- One opening call (document 02, W8): open a film, then step until a size appears. It is told by the definitions of opening and of a step, for whatever
+-- pictures, room and allowance are lent to the steps.
+-- Assumes nothing.
+use mathlib.Core.Path.{_≡_}
+use mathlib.Core.Bool.{Bool, true, false, cond}
+use mathlib.Core.List.{List}
+use Prim.Native.Nat.{ℕ, zero, suc, _≤_}
+use lib.Dec.{eqb}
+use lib.ListN.{length}
+use Rattle.refusal.specs.Number.{accept, number, block}
+use Rattle.draw.specs.declared.Allowed.{Allowed}
+use Rattle.sound.specs.Step.{enough}
+use Rattle.sound.specs.Format.{firstSound}
+use Rattle.state.specs.declared.Map.the-variants.{Missing}
+use Rattle.state.specs.declared.State.{State}
+use Rattle.state.specs.State.{stateVerdict}
+use Rattle.opening.specs.Opening.{Opening, started, refuses, openingOf}
+use Rattle.opcodes.specs.Opcodes.{Answer, taken, whole, unfinished, ended, refused}
+use Rattle.film.specs.Film.{Lent, lent, Outcome, stepOf}
+use Rattle.begin.specs.declared.Turn.{Turn}
+use Rattle.begin.specs.declared.Turn.the-variants.{On, Off}
+use Rattle.begin.specs.declared.Begun.{Begun}
+use Rattle.begin.specs.declared.Begun.the-variants.{Sized, Refused}
+
+-- ---- a step
+
+-- what is lent to a step beside the palette and the place, and the stores that it is allowed
+pub record Beside : Type 0 where
+  pub first : List ℕ
+  pub second : List ℕ
+  pub room : List ℕ
+  pub allowed : Allowed
+
+-- the room is one that is always enough
+abbrev pub Ample : Beside → Type 0
+Ample x = enough ≤ length (x .room)
+
+abbrev pub stepBeside : Beside → List ℕ → State → List ℕ → ℕ → Outcome
+stepBeside x film st palette place = stepOf film st (x .allowed) (lent palette (x .first) (x .second) place (x .room))
+
+-- what a step leads to: on with a state, or the walk stops, by a refusal's number and block
+pub data Course : Type 0 where
+  goes : State → Course
+  stops : ℕ → ℕ → Course
+
+-- 21 at the film's end. (A step that is unfinished is called again; before a size none is.)
+unfoldable pub courseOf : Answer → Course
+courseOf (taken st) = goes st
+courseOf (whole st) = goes st
+courseOf (unfinished st) = goes st
+courseOf (ended st) = stops 21 0
+courseOf (refused n k) = stops n k
+
+-- a state before a size, of a film this long: none that 16 refuses
+pub record Early (film : ℕ) (st : State) : Type 0 where
+  pub unsized : st .columns ≡ 0
+  pub possible : stateVerdict st film ≡ accept
+
+-- document 01's values
+abbrev pub turnAs : Turn → Course
+turnAs (On st) = goes st
+turnAs (Off r) = stops (number r) (block r)
+
+-- ---- steps until a size appears
+
+-- sized: the state that has the size. stopped: a refusal's number and block, and the state that the refused step was given
+pub data Beginning : Type 0 where
+  sized : State → Beginning
+  stopped : ℕ → ℕ → State → Beginning
+
+abbrev pub begunAs : Begun → Beginning
+begunAs (Sized st) = sized st
+begunAs (Refused r st) = stopped (number r) (block r) st
+
+-- an answer, and the palette and the place that are left
+pub record Came : Type 0 where
+  pub answer : Beginning
+  pub palette : List ℕ
+  pub place : ℕ
+
+abbrev pub came : Beginning → List ℕ → ℕ → Came
+came answer palette place = record { answer = answer; palette = palette; place = place }
+
+-- on from a step that was given this state, palette and place
+unfoldable pub follow : (State → List ℕ → ℕ → Came) → State → List ℕ → ℕ → Course → Outcome → Came
+follow on st palette place (goes t) o = on t (o .lent .palette) (o .lent .place)
+follow on st palette place (stops n k) o = came (stopped n k st) palette place
+
+-- at most so many steps
+unfoldable pub until : Beside → List ℕ → ℕ → State → List ℕ → ℕ → Came
+until x film zero st palette place = came (stopped 21 0 st) palette place
+until x film (suc n) st palette place =
+    cond (eqb (st .columns) 0)
+    (follow (until x film n) st palette place (courseOf (stepBeside x film st palette place .step .answer)) (stepBeside x film st palette place))
+    (came (sized st) palette place)
+
+-- one more than the film has bytes: every step that goes on passes four of them, so the steps never run out
+abbrev pub toSize : Beside → List ℕ → State → List ℕ → ℕ → Came
+toSize x film st palette place = until x film (suc (length film)) st palette place
+
+-- ---- opening
+
+-- a refusal leaves palette and place as they were
+unfoldable pub keptBy : Beginning → List ℕ → ℕ → Came → Came
+keptBy (sized st) palette place c = c
+keptBy (stopped n k st) palette place c = came (stopped n k st) palette place
+
+abbrev pub kept : List ℕ → ℕ → Came → Came
+kept palette place c = keptBy (c .answer) palette place c
+
+-- a state of zeros
+unfoldable pub nowhere : State
+nowhere =
+    record { cursor = record { position = 0; «chunk_end» = 0 }; columns = 0; rows = 0; front = 0; map = Missing; unsent = false; sound = firstSound 0 }
+
+unfoldable pub beginAt : Opening → Beside → List ℕ → List ℕ → ℕ → Came
+beginAt (started st) x film palette place = kept palette place (toSize x film st palette place)
+beginAt (refuses n k) x film palette place = came (stopped n k nowhere) palette place
+
+abbrev pub beginOf : Beside → List ℕ → ℕ → List ℕ → ℕ → Came
+beginOf x film stream palette place = beginAt (openingOf film stream) x film palette place

@@ -1,0 +1,94 @@
+//! The opening call, stopped: a film is opened up to its size, with stores to the palette and the place
+//! alone. To go on is to open again.
+
+use crate::cases::{hex, same, Case};
+use crate::kept::Memory;
+use crate::list::{self, Store};
+use mve::ROOM_BYTES;
+use reference::film::{Lent, State, Stepped};
+
+/// A call of `mve_begin`.
+#[derive(Clone, Debug)]
+pub struct Opening {
+    film: Vec<u8>,
+    stream: usize,
+    found: Memory,
+    stores: Vec<Store>,
+    answer: String,
+    end: Memory,
+}
+
+impl Opening {
+    /// The opening of a film, for a stream of its sound. Its stores are those of the second decoder's
+    /// steps up to the size; a film whose opening is refused has none.
+    pub fn new(film: Vec<u8>, stream: usize, found: Memory) -> Opening {
+        let mut end = found.clone();
+        let begun = reference::begin::begin(&film, stream, &mut end.palette, &mut end.place);
+        let (answer, stores) = match begun {
+            Ok(state) => {
+                let stores = stores(&film, stream, state, found.clone());
+                (format!("begun at byte {}\n", state.position), stores)
+            }
+            Err(unbegun) => {
+                let at = unbegun.state.map_or(0, |state| state.position);
+                (format!("refused {} at byte {at}\n", unbegun.refusal.number), Vec::new())
+            }
+        };
+        Opening { film, stream, found, stores, answer, end }
+    }
+}
+
+/// The stores of the steps up to a state.
+fn stores(film: &[u8], stream: usize, end: State, mut memory: Memory) -> Vec<Store> {
+    let mut state = reference::film::open(film, stream).expect("a film that is opened");
+    let (mut stores, mut room) = (Vec::new(), vec![0; ROOM_BYTES]);
+    while state != end {
+        let listed = list::step(film, &state, &memory).expect("a step that is taken");
+        let Memory { palette, pictures: [picture_a, picture_b], place, .. } = &mut memory;
+        let lent = Lent { palette, picture_a, picture_b, place, room: &mut room };
+        state = match reference::film::step(film, state, lent, 0) {
+            Stepped::Taken(next, _) => next,
+            other => panic!("a step up to the size is answered {other:?}"),
+        };
+        stores.extend(listed);
+    }
+    stores
+}
+
+/// What the library answers, as the process writes it.
+pub fn answer(begun: Result<mve::State, mve::Unbegun>) -> String {
+    match begun {
+        Ok(state) => format!("begun at byte {}\n", state.position),
+        Err(mve::Unbegun { refusal, state }) => {
+            format!("refused {} at byte {}\n", refusal.number(), state.position)
+        }
+    }
+}
+
+impl Case for Opening {
+    fn arguments(&self) -> Vec<String> {
+        vec!["--begin".to_string(), self.stream.to_string(), hex(&self.film)]
+    }
+
+    fn found(&self) -> &Memory {
+        &self.found
+    }
+
+    fn stores(&self) -> &[Store] {
+        &self.stores
+    }
+
+    fn answer(&self) -> &str {
+        &self.answer
+    }
+
+    fn go_on(&self, left: &Memory) -> Result<(), String> {
+        let mut memory = left.clone();
+        let Memory { palette, place, .. } = &mut memory;
+        let again = answer(mve::begin(&self.film, self.stream, palette, place));
+        if again != self.answer {
+            return Err(format!("the new call answers {again:?}, not {:?}", self.answer));
+        }
+        same(&memory, &self.end)
+    }
+}
