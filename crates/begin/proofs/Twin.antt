@@ -98,9 +98,6 @@ pub record Twin (x y : Outcome) : Type 0 where
 twin-of : {x y : Outcome} (a b : Outcome) → x ≡ a → y ≡ b → Twin x y → Twin a b
 twin-of {x} {y} a b e f t = subst (λ (o : Outcome). Twin o b) e (subst (λ (o : Outcome). Twin x o) f t)
 
-alike : (x : Outcome) → Twin x x
-alike x = record { answer = refl; palette = refl; place = refl }
-
 -- a word of a part of a film of bytes
 byte-part : (film : List ℕ) (s n i : ℕ) → Bytes film → getD (take n (drop s film)) i 0 < 256
 byte-part film s n i h = by (decLt i n)
