@@ -109,22 +109,22 @@ libmve.a is one object for x86-64 and the System V ABI. It needs no operating sy
 undefined below. Every function has a section of its own, so that the linker's --gc-sections leaves out those that are not
 called. All relocations are relative: code and constants may be loaded at any address, as long as they stay together.
 
-    code                        48,677 bytes
+    code                        46,315 bytes
     constants                   1,949 bytes
     memory of its own           0 bytes
     undefined symbols           memset
     relocations                 R_X86_64_PC32, R_X86_64_PLT32
     vector registers            xmm0 to xmm15
-    below the stack pointer     40 bytes
-    stack of mve_begin          568 bytes
-    stack of mve_check          176 bytes
-    stack of mve_check_strict   176 bytes
-    stack of mve_draw           496 bytes
-    stack of mve_draw_strict    496 bytes
+    below the stack pointer     56 bytes
+    stack of mve_begin          696 bytes
+    stack of mve_check          192 bytes
+    stack of mve_check_strict   192 bytes
+    stack of mve_draw           560 bytes
+    stack of mve_draw_strict    560 bytes
     stack of mve_open           8 bytes
-    stack of mve_origin         272 bytes
+    stack of mve_origin         288 bytes
     stack of mve_shown          8 bytes
-    stack of mve_step_as        896 bytes
+    stack of mve_step_as        960 bytes
 
 The stack of a call is the most that it takes, together with all that it calls: return addresses, pushed registers and
 arguments, locals with the copies of constant tables, and what is used below the stack pointer. Each call takes less than

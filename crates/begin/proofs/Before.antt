@@ -1,16 +1,16 @@
 -- A step where there is no size, by what code found: it draws nothing, whatever is lent.
 -- Assumes nothing.
 use mathlib.Core.Path.{_≡_, refl, sym, ap, _∙_}
-use mathlib.Core.Bool.{Bool, true, false, cond}
-use mathlib.Core.List.{List}
+use mathlib.Core.Bool.{Bool, true, false}
+use mathlib.Core.List.{List, [], _∷_, _++_}
 use Prim.Native.Nat.{ℕ, _+_, _-_, _≤_, _<_, zero-le}
 use native.Mathlib.Decide.{ℕ-discrete}
+use native.Mathlib.Nat.{not-suc-le-zero}
 use native.Mathlib.Omega.{arith}
 use borrow.Author.Tests.{le-ltb, ne-eqb}
-use lib.Dec.{eqb, ltb}
 use lib.ListN.{length}
 use Rattle.refusal.specs.declared.Refusal.{Refusal}
-use Rattle.refusal.specs.Number.{Verdict, accept, refuse, number, block}
+use Rattle.refusal.specs.Number.{number, block}
 use Rattle.packet.specs.Verdict.{legal, legalSize}
 use Rattle.draw.specs.declared.Allowed.{Allowed}
 use Rattle.palette.specs.declared.Updated.{Updated}
@@ -34,8 +34,8 @@ use Rattle.next.specs.declared.Next.the-variants as found
 use Rattle.next.specs.Next.{nextAs, on, standingAt, nextOf, Ready}
 use Rattle.next.specs.Next as found′
 use Rattle.opcodes.specs.declared.Stepped.{Stepped}
-use Rattle.opcodes.specs.Opcodes.{Step, taken, ended, refused, quiet, steppedAs, quietAnswer, heardStep, paletteAnswer}
-use Rattle.film.specs.Film.{Lent, withPictures, withRoom, Outcome, after, part, drawBy, act, actOn, hear, takeOn, stepOf}
+use Rattle.opcodes.specs.Opcodes.{Step, taken, refused, quiet, steppedAs, quietAnswer, heardStep, paletteAnswer}
+use Rattle.film.specs.Film.{Lent, withPictures, Outcome, after, part, drawBy, act, actOn, hear, takeOn, stepOf}
 use Rattle.film.proofs.Steps as laws
 use Rattle.begin.specs.Begin.{Course, goes, stops, courseOf, Early}
 
@@ -223,3 +223,8 @@ module _ (film : List ℕ) (st : State) (y : Early (length film) st) (b : Bool) 
 
     pub leaves-opcode : c ≡ false → (q : List ℕ) (k : ℕ) → q ≡ actOn film st o allowed l .lent .palette → k ≡ actOn film st o allowed l .lent .place → Kept q k
     leaves-opcode t q k j m = let y = keeps _ (step-is _ (laws.takes-other film st o allowed l b c h i _ t refl)) in (j ∙ y .0, m ∙ y .1)
+
+-- what was lent of no bytes comes back so
+pub nothing-lent : (part l : List ℕ) → length part ≡ 0 → part ++ l ≡ l
+nothing-lent [] l e = refl
+nothing-lent (x ∷ part) l e = let z : 1 ≤ 0 = omega arith in absurd (not-suc-le-zero z)

@@ -20,12 +20,12 @@ use Rattle.palette.specs.Mask.{setPaletteCompressed}
 use Rattle.sound.specs.declared.Format.{Format}
 use Rattle.sound.specs.declared.Format.the-variants.{Unknown, Known}
 use Rattle.sound.specs.declared.Sound.{Sound}
-use Rattle.sound.specs.Format.{chosen, formatOf, possibleFormat, possibleSound, firstSound, afresh, goingOn, masked}
+use Rattle.sound.specs.Format.{chosen, formatOf, possibleFormat, possibleSound, afresh, goingOn, masked}
 use Rattle.sound.specs.Step as sound
 use Rattle.sound.specs.Sound.{answer, initializeAudio, ofFormat, ofMask, audioData, audioSilence}
 use Rattle.state.specs.declared.Cursor.{Cursor}
 use Rattle.state.specs.declared.Map.{Map}
-use Rattle.state.specs.declared.Map.the-variants.{Missing, Part}
+use Rattle.state.specs.declared.Map.the-variants.{Part}
 use Rattle.state.specs.declared.State.{State}
 use Rattle.state.specs.Moves.{at, behind, atEnd, sized, shownNext, sent, mapped, heard}
 use Rattle.state.specs.State.{possibleSize, mapInside, possible, boundsVerdict, stateVerdict}
@@ -34,9 +34,9 @@ use Rattle.heads.specs.Heads.{hears}
 use Rattle.next.specs.Next.{Standing, nextOf, Ready}
 use Rattle.next.specs.Next as found
 use Rattle.next.proofs.Standing.{found-ready}
-use Rattle.opening.specs.Opening.{started, firstState, openingOf, Opening, begins}
+use Rattle.opening.specs.Opening.{started, firstState, openingOf, begins}
 use Rattle.opening.specs.Opening as opening
-use Rattle.opcodes.specs.Opcodes.{Answer, taken, refused, quiet, sizeAnswer, colourOf, quietAnswer, heardStep, paletteAnswer}
+use Rattle.opcodes.specs.Opcodes.{taken, refused, quiet, sizeAnswer, colourOf, quietAnswer, heardStep, paletteAnswer}
 use Rattle.film.specs.Film.{Lent, Outcome, part, act, actOn, heardBy, hear, takeOn, standing, stepOf}
 use Rattle.film.proofs.Steps as laws
 use Rattle.walk.specs.Walk.{Forward}

@@ -1,15 +1,15 @@
 -- The opening call is what the separate calls come to, however they are taken: `separately`.
 -- Assumes nothing.
-use mathlib.Core.Path.{_≡_, refl, sym, ap, _∙_, subst}
+use mathlib.Core.Path.{_≡_, refl, ap, _∙_}
 use mathlib.Core.List.{List}
 use Prim.Native.Nat.{ℕ, zero, suc, _+_, _≤_}
 use native.Mathlib.Decide.{ℕ-discrete}
 use native.Mathlib.Omega.{arith}
 use lib.ListN.{length}
 use Rattle.state.specs.declared.State.{State}
-use Rattle.opening.specs.Opening.{Opening, started, refuses, openingOf}
+use Rattle.opening.specs.Opening.{Opening, started, openingOf}
 use Rattle.walk.specs.Walk.{Forward}
-use Rattle.begin.specs.Begin.{Beside, Ample, stepBeside, Course, goes, stops, courseOf, sized, stopped, Came, came, until, toSize, kept, nowhere, beginAt, beginOf}
+use Rattle.begin.specs.Begin.{Beside, Ample, stepBeside, Course, goes, stops, courseOf, Came, until, toSize, kept, beginAt}
 use Rattle.begin.specs.Separate.{Bytes, Stepping, there, ends, more, Separately}
 use Rattle.begin.proofs.Twin.{same-step}
 use Rattle.begin.proofs.Until.{until-sized, until-goes, until-stops, goes-forward}

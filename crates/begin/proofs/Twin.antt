@@ -3,22 +3,20 @@
 use mathlib.Core.Path.{_≡_, refl, sym, ap, _∙_, subst}
 use mathlib.Core.Bool.{Bool, true, false, cond}
 use mathlib.Core.List.{List}
-use Prim.Native.Nat.{ℕ, _+_, _-_, _*_, _≤_, _<_}
+use Prim.Native.Nat.{ℕ, _+_, _-_, _≤_, _<_}
 use native.Mathlib.Decide.{ℕ-discrete, decLt}
 use native.Mathlib.Omega.{arith}
-use lib.Dec.{eqb}
 use lib.ListN.{length, take, drop, getD, length-take, List·getD-eq-default}
 use lib.Seq.{getD-drop, getD-take}
 use Rattle.words.specs.Word.{wordAt}
 use Rattle.draw.specs.declared.Allowed.{Allowed}
-use Rattle.palette.specs.Update.{verdictFor, paletteAfter}
+use Rattle.palette.specs.Update.{verdictFor}
 use Rattle.palette.specs.Gradient.{createGradient}
 use Rattle.palette.specs.Entries.{setPalette}
 use Rattle.palette.specs.Mask.{setPaletteCompressed}
 use Rattle.palette.proofs.Outcome.{after-length}
 use Rattle.sound.specs.declared.Sound.{Sound}
 use Rattle.sound.specs.Format.{chosen}
-use Rattle.sound.specs.Step.{enough}
 use Rattle.sound.specs.Step as sound
 use Rattle.sound.specs.Sound.{answer}
 use Rattle.sound.proofs.Dropped.{same-data, same-silence}

@@ -27,10 +27,8 @@ use Rattle.walk.specs.Draws.{Drew}
 use Rattle.walk.proofs.Walk.{step-moves}
 use Rattle.walk.proofs.Draws.{draws-exactly}
 use Rattle.begin.specs.declared.Turn.{Turn}
-use Rattle.begin.specs.declared.Turn.the-variants.{On, Off}
-use Rattle.begin.specs.declared.Begun.{Begun}
-use Rattle.begin.specs.declared.Begun.the-variants.{Sized, Refused}
-use Rattle.begin.specs.Begin.{Beside, Ample, stepBeside, Course, goes, stops, courseOf, Early, turnAs, Beginning, sized, stopped, begunAs, Came, came, follow, until, toSize, keptBy, kept, nowhere, beginAt, beginOf}
+use Rattle.begin.specs.declared.Begun.the-variants.{Refused}
+use Rattle.begin.specs.Begin.{Beside, Ample, stepBeside, goes, stops, courseOf, Early, turnAs, Beginning, sized, stopped, Came, came, follow, until, toSize, keptBy, kept, nowhere, beginAt, beginOf}
 use Rattle.begin.proofs.Before.{short-palette}
 use Rattle.begin.proofs.Twin.{step-long}
 use Rattle.begin.proofs.Possible.{first-early, step-possible}
@@ -185,6 +183,10 @@ module _ (film : List ℕ) (first : State) (palette₀ : List ℕ) (place₀ : �
     pub early : Early (length film) first
     pub possible : stateVerdict st (length film) ≡ accept
     pub pass : (x : Beside) → Ample x → Pass storing x st palette place
+
+  -- the same of a palette that a call gave back as it was
+  pub passes-kept : (st : State) (palette palette′ : List ℕ) (place : ℕ) (storing : Bool) → palette′ ≡ palette → Passes st palette place storing → Passes st palette′ place storing
+  passes-kept st palette palette′ place storing e p = subst (λ (l : List ℕ). Passes st l place storing) (sym e) p
 
   pub passes-start : length palette₀ ≡ 768 → Early (length film) first → Passes first palette₀ place₀ false
   unfolding Pass

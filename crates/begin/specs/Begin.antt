@@ -2,7 +2,7 @@
 -- pictures, room and allowance are lent to the steps.
 -- Assumes nothing.
 use mathlib.Core.Path.{_≡_}
-use mathlib.Core.Bool.{Bool, true, false, cond}
+use mathlib.Core.Bool.{false, cond}
 use mathlib.Core.List.{List}
 use Prim.Native.Nat.{ℕ, zero, suc, _≤_}
 use lib.Dec.{eqb}
@@ -16,7 +16,7 @@ use Rattle.state.specs.declared.State.{State}
 use Rattle.state.specs.State.{stateVerdict}
 use Rattle.opening.specs.Opening.{Opening, started, refuses, openingOf}
 use Rattle.opcodes.specs.Opcodes.{Answer, taken, whole, unfinished, ended, refused}
-use Rattle.film.specs.Film.{Lent, lent, Outcome, stepOf}
+use Rattle.film.specs.Film.{lent, Outcome, stepOf}
 use Rattle.begin.specs.declared.Turn.{Turn}
 use Rattle.begin.specs.declared.Turn.the-variants.{On, Off}
 use Rattle.begin.specs.declared.Begun.{Begun}

@@ -7,7 +7,7 @@ use Prim.Native.Nat.{ℕ, _<_}
 use lib.ListN.{getD}
 use Rattle.state.specs.declared.State.{State}
 use Rattle.opening.specs.Opening.{started, refuses, openingOf}
-use Rattle.begin.specs.Begin.{Beside, Ample, stepBeside, goes, stops, courseOf, Beginning, sized, stopped, Came, came, kept, nowhere, beginOf}
+use Rattle.begin.specs.Begin.{Beside, Ample, stepBeside, goes, stops, courseOf, sized, stopped, Came, came, kept, nowhere, beginOf}
 
 -- a film is bytes
 abbrev pub Bytes : List ℕ → Type 0

@@ -49,14 +49,22 @@ pub enum Begun {
     Refused(Refusal, State),
 }
 
-// 03, 08, 09 where a stream is chosen. The samples are dropped.
-fn drop_sound(st: State, kind: usize, version: usize, body: &[u8], p: usize) -> Stepped
+// 03, 08, 09 where a stream is chosen. The samples are dropped: none has no byte.
+fn drop_sound(
+    st: State,
+    kind: usize,
+    version: usize,
+    body: &[u8],
+    p: usize,
+    none: &mut [u8],
+) -> Stepped
+    requires { ⌜ length (now none) ≡ 0 ⌝ }
     ensures { λ r. ⌜ ((l : Lent) → enough ≤ length (l .room) → steppedAs r ≡ hear st kind version (now (body .entry)) p l .step) ⌝ }
 {
     let sound = st.sound;
     match kind {
         3 => heard_step(st, p, initialize_audio(sound, version, body)),
-        8 => heard_step(st, p, drop_audio_data(sound, body)),
+        8 => heard_step(st, p, drop_audio_data(sound, body, none)),
         _ => heard_step(st, p, drop_audio_silence(sound, body)),
     }
 }
@@ -88,16 +96,17 @@ fn act(film: &[u8], st: State, o: Opcode) -> Stepped
 }
 
 // An opcode that is taken.
-fn take(film: &[u8], st: State, o: Opcode) -> Stepped
+fn take(film: &[u8], st: State, o: Opcode, none: &mut [u8]) -> Stepped
     requires { ⌜ Ready (length (now film)) (st .cursor) o ⌝ }
     requires { ⌜ st .columns ≡ 0 ⌝ }
+    requires { ⌜ length (now none) ≡ 0 ⌝ }
     ensures { λ r. ⌜ ((l : Lent) (allowed : Allowed) → length (l .palette) ≡ 768 → enough ≤ length (l .room) → steppedAs r ≡ takeOn (now (film .entry)) st o allowed l .step) ⌝ }
 {
     let sound = st.sound;
     if is_heard(is_chosen(sound.stream), o.kind) {
         let s = o.start;
         let p = s + o.long;
-        return drop_sound(st, o.kind, o.version, &film[s..p], p);
+        return drop_sound(st, o.kind, o.version, &film[s..p], p, none);
     }
     act(film, st, o)
 }
@@ -115,10 +124,11 @@ fn turn_of(x: Stepped) -> Turn
     }
 }
 
-// What a step leads to where there is no size and the palette has 768 bytes. Nothing is lent, so nothing is stored.
-fn foresee(film: &[u8], st: State) -> Turn
+// What a step leads to where there is no size and the palette has 768 bytes. Nothing is stored: the palette lends its part of no bytes to samples that are dropped.
+fn foresee(film: &[u8], st: State, palette: &mut [u8]) -> Turn
     requires { ⌜ Early (length (now film)) st ⌝ }
     ensures { λ r. ⌜ ((l : Lent) (allowed : Allowed) → length (l .palette) ≡ 768 → enough ≤ length (l .room) → turnAs r ≡ courseOf (stepOf (now (film .entry)) st allowed l .step .answer)) ⌝ }
+    ensures { λ _. ⌜ now (palette .exit) ≡ now (palette .entry) ⌝ }
 {
     let c = st.cursor;
     let sound = st.sound;
@@ -126,7 +136,7 @@ fn foresee(film: &[u8], st: State) -> Turn
         Next::Refused(r) => Turn::Off(r),
         Next::Ended => Turn::Off(Refusal::NoSize),
         Next::Chunk(chunk) => Turn::On(st.into_chunk(chunk)),
-        Next::Opcode(o) => turn_of(take(film, st, o)),
+        Next::Opcode(o) => turn_of(take(film, st, o, &mut palette[..0])),
     }
 }
 
@@ -191,7 +201,7 @@ fn begin_from(film: &[u8], first: State, palette: &mut [u8], place: &mut usize) 
     let mut storing = false;
     loop {
         if st.columns == 0 {
-            match foresee(film, st) {
+            match foresee(film, st, palette) {
                 Turn::On(next) => {
                     if storing {
                         store(film, st, palette, place);

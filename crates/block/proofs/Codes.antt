@@ -4,7 +4,8 @@ use mathlib.Core.Path.{_≡_, refl, sym, ap, _∙_, subst}
 use mathlib.Core.Logic.{_⊎_, inl, inr}
 use mathlib.Core.Bool.{Bool, true, false, cond}
 use mathlib.Core.List.{List}
-use Prim.Native.Nat.{ℕ, zero, suc, _+_, _*_, _/_, _%_, _≤_, _<_}
+use Prim.Native.Nat.{ℕ, zero, suc, _+_, _*_, _^_, _/_, _%_, _≤_, _<_}
+use native.Mathlib.Nat.{div-one, not-suc-le-zero, le-of-suc-le-suc}
 use native.Mathlib.Omega.{arith}
 use lib.Dec.{eqb}
 use lib.ListN.{getD}
@@ -290,3 +291,13 @@ length-few (celled four) = omega arith
 length-few (celled eight) = omega arith
 length-few dithered = omega arith
 length-few refused = omega arith
+
+-- ---- the code of a block, by a shift
+
+pub nibble : (b k : ℕ) → b / 2 ^ (4 * (k % 2)) % 16 ≡ cond (eqb (k % 2) 0) (b % 16) (b / 16 % 16)
+nibble b k = by (k % 2) (omega arith)
+  where
+    by : (m : ℕ) → m < 2 → b / 2 ^ (4 * m) % 16 ≡ cond (eqb m 0) (b % 16) (b / 16 % 16)
+    by zero h = ap (λ (n : ℕ). n % 16) (div-one b)
+    by (suc zero) h = refl
+    by (suc (suc m)) h = absurd (not-suc-le-zero (le-of-suc-le-suc (le-of-suc-le-suc h)))

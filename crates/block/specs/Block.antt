@@ -10,7 +10,6 @@ use lib.ListN.{getD}
 use Rattle.pattern.specs.declared.Form.{Form}
 use Rattle.pattern.specs.Form.{shape, form7, form8, form9, formA}
 use Rattle.pattern.specs.Pattern.{patternLength, patternSource}
-use Rattle.motion.specs.declared.Vector.{Vector}
 use Rattle.motion.specs.Motion.{aheadVector, negated, nearVector, farVector, pointsInside, rasterIndex, copiedIndex}
 use Rattle.block.specs.declared.Source.{Source}
 use Rattle.block.specs.declared.Source.the-variants.{Data, Front, Back}

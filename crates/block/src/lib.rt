@@ -27,11 +27,7 @@ pub fn code_at(map: &[u8], k: usize) -> u8
     requires { ⌜ k / 2 < length (now map) ⌝ }
     ensures { λ r. ⌜ (r ≡ codeAt (now (map .entry)) k) × (r < 16) ⌝ }
 {
-    let b = map[k / 2];
-    if k % 2 == 0 {
-        return b % 16;
-    }
-    b / 16
+    (map[k / 2] >> (4 * (k % 2))) % 16
 }
 
 fn choose(test: bool, a: usize, b: usize) -> usize

@@ -2,26 +2,24 @@
 -- that one is copied from, lies within the picture.
 -- Assumes nothing.
 use mathlib.Core.Path.{_≡_, refl, sym, ap, _∙_, subst}
-use mathlib.Core.Bool.{Bool, true, false, cond}
 use mathlib.Core.List.{List}
 use Prim.Native.Nat.{ℕ, _+_, _-_, _*_, _≤_, _<_, min}
 use native.Mathlib.Omega.{arith}
-use lib.Dec.{eqb}
 use lib.ListN.{length, getD, take, drop, length-take}
 use Rattle.refusal.specs.Number.{Verdict, accept, refuse}
 use Rattle.motion.specs.declared.Vector.{Vector}
-use Rattle.motion.specs.Motion.{PointsInside, aheadVector, negated, nearVector, farVector, rasterIndex, copiedIndex}
+use Rattle.motion.specs.Motion.{PointsInside, aheadVector, negated, nearVector, farVector, copiedIndex}
 use Rattle.block.specs.Block.{Kind, same, kept, ahead, behind, near, far, patterned, celled, dithered, refused, source, fetched}
-use Rattle.packet.specs.Packet.{Packet, blocks, width, height, left, top, dataOf, kind}
+use Rattle.packet.specs.Packet.{width, height, left, top, dataOf, kind}
 use Rattle.packet.specs.Accepted.{CopyInside}
-use Rattle.stores.specs.Stores.{Plan, Memory, memory, Off, after, count}
-use Rattle.stores.specs.Calls.{Call, allowed, Outcome, answered, Event, returns, cut, callOf, leave, leaveCut, outcome, happens, reply, step}
+use Rattle.stores.specs.Stores.{Memory, memory, after, count}
+use Rattle.stores.specs.Calls.{allowed, Event, returns, cut, callOf, leave, leaveCut, outcome, happens}
 use Rattle.stores.proofs.Steps.{run-length}
 use Rattle.stores.proofs.Recover.{after-off}
 use Rattle.stores.proofs.Within.{AgreeTo, agree-take, take-agree, take-short, drop-same, Both, after-within, cut-least}
 use Rattle.paint.specs.Value.{pixelValue}
-use Rattle.draw.specs.Drawing.{sizeAt, targetAt, valueAt, plan}
-use Rattle.draw.specs.Call.{Request, packetOf, callVerdict, drawVerdict, Reason, comes, calling, rowsOf}
+use Rattle.draw.specs.Drawing.{valueAt, plan}
+use Rattle.draw.specs.Call.{Request, packetOf, callVerdict, drawVerdict, comes, rowsOf}
 use Rattle.draw.specs.Asked.{Accepted}
 use Rattle.draw.proofs.Judged.{accepted-call}
 use Rattle.book.specs.Beyond.{area, Unwritten, showing, SameTo, SameCalls, Unread}

@@ -2,10 +2,10 @@
 -- which is lawful (proofs/Lawful). Its hypotheses: an accepted packet with its map and size and pictures long enough (`Given`), that along the list
 -- only refused calls bring another packet, map, size or shown picture (`OnlyRefusedDiffer`), and that each cut point is one of its call (`CutsWithin`).
 -- Assumes nothing.
-use mathlib.Core.Path.{_≡_, refl, sym, _∙_}
+use mathlib.Core.Path.{_≡_, refl, _∙_}
 use mathlib.Core.Logic.{_⊎_}
 use mathlib.Core.List.{List, [], _∷_}
-use Prim.Native.Nat.{ℕ, _+_, _*_, _/_, _≤_, _<_}
+use Prim.Native.Nat.{ℕ, _≤_, _<_}
 use native.Mathlib.Omega.{arith}
 use lib.ListN.{length}
 use Rattle.refusal.specs.Number.{Verdict, accept, refuse}
@@ -16,12 +16,11 @@ use Rattle.packet.specs.Asked.{Sized}
 use Rattle.packet.proofs.Sizes.{is-size, is-sized}
 use Rattle.packet.proofs.Exactly.{accepts-more}
 use Rattle.stores.specs.Stores.{Memory, memory, Lawful}
-use Rattle.stores.specs.Calls.{allowed, whole, step, reply, Event, returns, cut, callOf, happens, Returning, CutWithin, Each, Fair, AsBooked}
+use Rattle.stores.specs.Calls.{allowed, whole, step, reply, Event, returns, cut, callOf, happens, Returning, Each, Fair, AsBooked}
 use Rattle.stores.proofs.Calls.{as-booked}
 use Rattle.paint.proofs.Counts.{count-few}
 use Rattle.draw.specs.Drawing.{sizeAt, plan}
 use Rattle.draw.specs.Call.{Request, packetOf, drawVerdict, comes, calling, rowsOf}
-use Rattle.draw.specs.Taken.{DrawAccepts}
 use Rattle.draw.proofs.Exactly.{drawn-exactly}
 use Rattle.book.specs.Demand.{Same, OnlyRefusedDiffer, CutsWithin, Given, leavesAt, Progresses, TellsRows, Demand3}
 use Rattle.book.proofs.Rows.{same-rows, list-unchanged}

@@ -6,12 +6,11 @@ use mathlib.Core.List.{List}
 use Prim.Native.Nat.{ℕ, _+_, _-_, _*_, _/_, _%_, _≤_, _<_}
 use native.Mathlib.Omega.{arith}
 use native.Mathlib.Nat.{mul-le-mul-right}
-use lib.ListN.{length, getD}
+use lib.ListN.{length}
 use Rattle.motion.specs.Motion.{rasterIndex}
 use Rattle.block.specs.declared.Source.{Source}
 use Rattle.block.specs.declared.Source.the-variants.{Data, Front, Back}
 use Rattle.block.specs.Block.{Kind, kept, source, fetched}
-use Rattle.paint.specs.Asked.{Square}
 use Rattle.paint.proofs.Painting.{square-below}
 use Rattle.paint.specs.Value.{pixelCount, pixelValue}
 use Rattle.paint.proofs.Counts.{count-few}

@@ -1,9 +1,9 @@
 -- Rows of blocks that no call touches: `rows-unchanged`, of one call; `list-unchanged`, of a list of calls.
 -- Assumes nothing.
-use mathlib.Core.Path.{_≡_, refl, sym, ap, _∙_, subst}
-use mathlib.Core.Logic.{_⊎_, inl, inr, ⊎-elim}
+use mathlib.Core.Path.{_≡_, refl, sym, _∙_, subst}
+use mathlib.Core.Logic.{_⊎_, ⊎-elim}
 use mathlib.Core.List.{List, [], _∷_}
-use Prim.Native.Nat.{ℕ, _+_, _*_, _/_, _%_, _≤_, _<_, min}
+use Prim.Native.Nat.{ℕ, _+_, _*_, _/_, _≤_, _<_, min}
 use native.Mathlib.Omega.{arith}
 use lib.ListN.{length, getD}
 use Rattle.refusal.specs.Number.{Verdict, accept, refuse}
@@ -13,14 +13,13 @@ use Rattle.packet.specs.Packet.{Packet, packet, blocks, width, left, top, code,
 use Rattle.packet.specs.Rows.{touched, TouchedIn, Spans, Outside}
 use Rattle.packet.proofs.Strip.{touched-spans}
 use Rattle.packet.proofs.Grid.{column-below, raster-row}
-use Rattle.paint.specs.Value.{pixelCount}
 use Rattle.paint.proofs.Counts.{count-0, count-few}
-use Rattle.stores.specs.Stores.{Memory, memory, after}
+use Rattle.stores.specs.Stores.{Memory, after}
 use Rattle.stores.specs.Calls.{Event, returns, cut, callOf, leave, leaveCut, happens, Each, finally}
 use Rattle.stores.proofs.Recover.{after-off}
 use Rattle.stores.proofs.Within.{cut-least}
 use Rattle.draw.specs.Drawing.{sizeAt, targetAt, plan}
-use Rattle.draw.specs.Call.{Request, packetOf, drawVerdict, comes, calling, rowsOf, report}
+use Rattle.draw.specs.Call.{Request, packetOf, drawVerdict, comes, calling, rowsOf}
 use Rattle.draw.proofs.Judged.{accepted-call}
 use Rattle.book.specs.Demand.{Same, OnlyRefusedDiffer}
 use Rattle.book.specs.Rows.{Unchanged}

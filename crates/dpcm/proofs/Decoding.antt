@@ -1,18 +1,20 @@
--- The loop of samples: after i of them the room has their bytes at its front. A law for the start, each turn and the end.
+-- The samples in turn: after i of them the room has their bytes at its front. A law for the start, each sample and the end.
 -- Assumes nothing.
 use mathlib.Core.Path.{_≡_, refl, sym, ap, subst, _∙_}
 use mathlib.Core.Bool.{Bool}
 use mathlib.Core.List.{List, [], _∷_, _++_, append-assoc}
 use Prim.Native.Nat.{ℕ, _+_, _*_, _/_, _%_, _≤_, _<_}
 use native.Mathlib.Omega.{arith}
-use lib.ListN.{length, take, getD, set}
+use native.Mathlib.Nat.{not-suc-le-zero}
+use lib.ListN.{length, take, getD, set, length-set}
 use lib.Seq.{take-all}
 use Rattle.room.specs.Room.{written}
-use Rattle.room.proofs.Written.{Writing, writing-start, writing-more, writing-length}
-use Rattle.dpcm.specs.Steps.{steps}
+use Rattle.room.proofs.Written.{Writing, writing-start, writing-more}
 use Rattle.dpcm.specs.Samples.{sampleAfter, turned, samples, lastOf, bytesOf}
+use Rattle.dpcm.specs.Packet.{HoldsOrNone}
+use Rattle.dpcm.specs.Stride.{putAt}
 use Rattle.dpcm.specs.declared.Last.{Last}
-use Rattle.dpcm.proofs.Samples.{samples-more, last-more, bytes-append}
+use Rattle.dpcm.proofs.Samples.{samples-more, samples-length, last-more, bytes-append, bytes-length}
 
 -- a sample's two bytes
 pub writing-sample : (room₀ w : List ℕ) (at : ℕ) (room : List ℕ) → Writing room₀ w at room → at + 2 ≤ length room₀ → (sample : ℕ) (room′ : List ℕ)
@@ -41,13 +43,12 @@ module _ (stereo : Bool) (first : Last) («data» : List ℕ) where
     pub next-sample : (sample : ℕ) → sample ≡ sampleAfter (last .next) (getD «data» i 0) → sampleAfter (lastOf stereo first (take i «data») .next) (getD «data» i 0) ≡ sample
     next-sample sample e = sym (e ∙ ap (λ (l : Last). sampleAfter (l .next) (getD «data» i 0)) (p .now))
 
-    pub passing-more : i < length «data» → (sample : ℕ) (last′ : Last) → sample ≡ sampleAfter (last .next) (getD «data» i 0) → last′ ≡ turned stereo last sample
-        → Passing last′ (i + 1)
-    passing-more h sample last′ es el =
+    pub passing-more : i < length «data» → (sample : ℕ) → sample ≡ sampleAfter (last .next) (getD «data» i 0) → Passing (turned stereo last sample) (i + 1)
+    passing-more h sample es =
         record {
           within = omega arith;
           now =
-              el ∙ ap (λ (l : Last). turned stereo l sample) (p .now)
+              ap (λ (l : Last). turned stereo l sample) (p .now)
               ∙ ap (turned stereo (lastOf stereo first (take i «data»))) (sym (next-sample sample es))
               ∙ sym (last-more stereo first «data» i h);
         }
@@ -55,35 +56,64 @@ module _ (stereo : Bool) (first : Last) («data» : List ℕ) where
     pub passed : length «data» ≤ i → last ≡ lastOf stereo first «data»
     passed h = p .now ∙ ap (lastOf stereo first) (take-all i «data» h)
 
--- ---- and the samples, written
+-- ---- and the samples, written where there is a room
+
+none-left : (room : List ℕ) → length room ≤ 0 → room ≡ []
+none-left [] h = refl
+none-left (x ∷ xs) h = absurd (not-suc-le-zero h)
+
+pub none-put : (room : List ℕ) (i j v w : ℕ) → length room ≤ 0 → room ≡ set (set room i v) j w
+none-put [] i j v w h = refl
+none-put (x ∷ xs) i j v w h = absurd (not-suc-le-zero h)
+
+-- an empty room stays; a room that holds the bytes has them
+ends : (room₀ w room : List ℕ) → length room ≡ length room₀ → (0 < length room₀ → (room ≡ written w room₀) × (length w ≤ length room₀))
+    → room ≡ written (take (length room₀) w) room₀
+unfolding written
+ends [] w room same e = none-left room (omega (arith, same))
+ends (x ∷ xs) w room same e = let q = e (omega arith) in rw (take-all (length (x ∷ xs)) w (q .1)) (q .0)
+
+-- where it holds them the samples are written whole
+pub held : (stereo : Bool) (first : Last) («data» room room′ : List ℕ) → 2 * length «data» ≤ length room
+    → room′ ≡ written (take (length room) (bytesOf (samples stereo first «data»))) room → room′ ≡ written (bytesOf (samples stereo first «data»)) room
+held stereo first «data» room room′ h e =
+    let l = samples stereo first «data» in
+    e ∙ ap (λ (w : List ℕ). written w room) (take-all (length room) (bytesOf l) (omega (arith, bytes-length l, samples-length stereo first «data»)))
+
+written-fits : (room₀ w : List ℕ) (at : ℕ) (room : List ℕ) → Writing room₀ w at room → length w ≤ length room₀
+written-fits room₀ w at room m = omega (arith, m .end, m .fits)
 
 module _ (stereo : Bool) (first : Last) («data» room₀ : List ℕ) where
   -- i samples are decoded
   pub record Decoding (room : List ℕ) (last : Last) (i : ℕ) : Type 0 where
     pub passing : Passing stereo first «data» last i
-    pub writing : Writing room₀ (bytesOf (samples stereo first (take i «data»))) (2 * i) room
+    pub same : length room ≡ length room₀
+    pub writing : 0 < length room₀ → Writing room₀ (bytesOf (samples stereo first (take i «data»))) (2 * i) room
 
   pub decoding-start : Decoding room₀ first 0
   unfolding samples bytesOf
-  decoding-start = record { passing = passing-start stereo first «data»; writing = writing-start room₀ }
+  decoding-start = record { passing = passing-start stereo first «data»; same = refl; writing = λ h. writing-start room₀ }
 
   module _ (room : List ℕ) (last : Last) (i : ℕ) (d : Decoding room last i) where
-    pub decoding-length : length room ≡ length room₀
-    decoding-length = writing-length _ _ _ _ (d .writing)
-
-    pub decoding-more : 2 * length «data» ≤ length room₀ → i < length «data» → (sample : ℕ) (room′ : List ℕ) (last′ : Last)
-        → sample ≡ sampleAfter (last .next) (getD «data» i 0) → room′ ≡ set (set room (2 * i) (sample % 256)) (2 * i + 1) (sample / 256)
-        → last′ ≡ turned stereo last sample → Decoding room′ last′ (i + 1)
-    decoding-more fits h sample room′ last′ es er el =
-        let n : 2 * i + 2 ≡ 2 * (i + 1) = omega arith in
-        let e : bytesOf (samples stereo first (take (i + 1) «data»)) ≡ bytesOf (samples stereo first (take i «data»)) ++ bytesOf (sample ∷ []) =
+    more-bytes : i < length «data» → (sample : ℕ) → sample ≡ sampleAfter (last .next) (getD «data» i 0)
+        → bytesOf (samples stereo first (take (i + 1) «data»)) ≡ bytesOf (samples stereo first (take i «data»)) ++ bytesOf (sample ∷ [])
+    more-bytes h sample es =
         ap bytesOf (samples-more stereo first «data» i h) ∙ bytes-append (samples stereo first (take i «data»)) _
-        ∙ ap (λ (v : ℕ). bytesOf (samples stereo first (take i «data»)) ++ bytesOf (v ∷ [])) (next-sample stereo first «data» last i (d .passing) sample es) in
+        ∙ ap (λ (v : ℕ). bytesOf (samples stereo first (take i «data»)) ++ bytesOf (v ∷ [])) (next-sample stereo first «data» last i (d .passing) sample es)
+
+    pub decoding-more : HoldsOrNone (2 * length «data») (length room₀) → i < length «data» → (sample : ℕ) (room′ : List ℕ)
+        → sample ≡ sampleAfter (last .next) (getD «data» i 0) → room′ ≡ putAt (2 * i) sample room → Decoding room′ (turned stereo last sample) (i + 1)
+    decoding-more fits h sample room′ es er =
+        let n : 2 * i + 2 ≡ 2 * (i + 1) = omega arith in
         record {
-          passing = passing-more stereo first «data» last i (d .passing) h sample last′ es el;
-          writing = rw (e, ← n) (writing-sample _ _ _ _ (d .writing) (omega arith) sample room′ er);
+          passing = passing-more stereo first «data» last i (d .passing) h sample es;
+          same = ap length er ∙ simp length-set (d .same);
+          writing = λ k. rw (more-bytes h sample es, ← n) (writing-sample _ _ _ _ (d .writing k) (omega (arith, fits k)) sample room′ er);
         }
 
-    pub decoded : length «data» ≤ i → (last ≡ lastOf stereo first «data») × (room ≡ written (bytesOf (samples stereo first «data»)) room₀)
+    pub decoded : length «data» ≤ i → (last ≡ lastOf stereo first «data») × (room ≡ written (take (length room₀) (bytesOf (samples stereo first «data»))) room₀)
     decoded h =
-        (passed stereo first «data» last i (d .passing) h, d .writing .now ∙ ap (λ (l : List ℕ). written (bytesOf (samples stereo first l)) room₀) (take-all i «data» h))
+        let e = take-all i «data» h in (
+          passed stereo first «data» last i (d .passing) h,
+          ends room₀ _ room (d .same) (λ g. (d .writing g .now ∙ ap (λ (l : List ℕ). written (bytesOf (samples stereo first l)) room₀) e, rw e at (written-fits _ _ _ _ (d .writing g)))),
+        )

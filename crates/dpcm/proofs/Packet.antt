@@ -5,16 +5,16 @@ use mathlib.Core.Bool.{Bool, true, false, cond}
 use mathlib.Core.List.{List, [], _∷_, _++_, append-assoc}
 use Prim.Native.Nat.{ℕ, _+_, _*_, _-_, _/_, _%_, _≤_, _<_}
 use native.Mathlib.Omega.{arith}
-use lib.ListN.{length, take, drop, getD, set, length-append, length-take, length-drop, List·getD-append}
+use lib.ListN.{length, take, drop, set, length-append, length-drop, List·getD-append}
 use lib.Seq.{drop-append-le, length-take-le}
 use Rattle.words.specs.Word.{wordAt}
 use Rattle.room.specs.Room.{written}
-use Rattle.room.proofs.Written.{Writing, writing-start, written-behind}
+use Rattle.room.proofs.Written.{Writing, writing-start, written-none, written-behind}
 use Rattle.dpcm.specs.Samples.{last, samples, lastOf, bytesOf}
-use Rattle.dpcm.specs.Packet.{channels, startWords, firstSamples, packetSamples, packetLast, Fits}
+use Rattle.dpcm.specs.Packet.{channels, startWords, firstSamples, startLength, packetFirst, leading, packetSamples, packetLast, Fits, HoldsOrNone}
 use Rattle.dpcm.specs.declared.Last.{Last}
-use Rattle.dpcm.proofs.Samples.{samples-append, last-append, samples-length, bytes-append, bytes-length}
-use Rattle.dpcm.proofs.Decoding.{writing-sample}
+use Rattle.dpcm.proofs.Samples.{samples-append, last-append, samples-length, bytes-append}
+use Rattle.dpcm.proofs.Decoding.{writing-sample, held}
 
 -- ---- start words
 
@@ -57,59 +57,89 @@ module _ (stereo : Bool) (l : Last) (room₀ : List ℕ) (fits : 2 * channels st
       let n : 4 ≤ length room₀ = rw t at fits in
       rw t (writing-sample room₀ (bytesOf (l .next ∷ [])) 2 room (first-written room e) n (l .other) room′ e′ .now)
 
--- ---- a first packet
-
-module _ (stereo : Bool) (l : Last) (bytes room whole : List ℕ) (m : ℕ) (em : m ≡ channels stereo) (rest : List ℕ) (er : rest ≡ drop (2 * m) bytes) where
-  pub first-fits : Fits stereo false (length bytes) (length room) → length whole ≡ length room → 2 * length rest ≤ length (take (length whole - 2 * m) (drop (2 * m) whole))
-  first-fits f ew =
-      let n = length-take-le (length whole - 2 * m) (drop (2 * m) whole) (omega (arith, length-drop (2 * m) whole)) in
-      omega (arith, n, ap length er, length-drop (2 * m) bytes, f .start, f .samples)
-
-  pub first-decoded : (first : Last) → first ≡ startWords stereo l bytes → whole ≡ written (bytesOf (firstSamples stereo first)) room
-      → (r : Last) (part : List ℕ) → r ≡ lastOf stereo first rest → part ≡ written (bytesOf (samples stereo first rest)) (take (length whole - 2 * m) (drop (2 * m) whole))
-      → (r ≡ packetLast stereo false l bytes) × (take (2 * m) whole ++ (part ++ drop (length whole - 2 * m) (drop (2 * m) whole)) ≡ written (bytesOf (packetSamples stereo false l bytes)) room)
-  unfolding packetLast packetSamples
-  first-decoded first ef ew r part el ep =
-      let n : 2 * m ≡ length (bytesOf (firstSamples stereo first)) = ap (λ (k : ℕ). 2 * k) em ∙ sym (start-bytes stereo first) in
-      let d : rest ≡ drop (2 * channels stereo) bytes = er ∙ ap (λ (k : ℕ). drop (2 * k) bytes) em in
-      let w = written-behind (bytesOf (firstSamples stereo first)) (bytesOf (samples stereo first rest)) room whole part (2 * m) ew n ep in (
-        el ∙ rw (ef, d) refl,
-        w ∙ ap (λ (x : List ℕ). written x room) (sym (bytes-append (firstSamples stereo first) (samples stereo first rest)) ∙ rw (ef, d) refl),
-      )
-
 -- ---- a packet, first or not
 
-pub more-fits : (stereo begun : Bool) (bytes room : ℕ) → begun ≡ true → Fits stereo begun bytes room → 2 * bytes ≤ room
-more-fits stereo begun bytes room t f = let g : 2 * (bytes - 0) ≤ room = rw t at (f .samples) in omega arith
-
-pub still-fits : (stereo begun : Bool) (bytes room : ℕ) → begun ≡ false → Fits stereo begun bytes room → Fits stereo false bytes room
-still-fits stereo begun bytes room t f = rw t at f
-
-module _ (stereo begun : Bool) (l : Last) (bytes room : List ℕ) (r : Last) (room′ : List ℕ) where
-  abbrev pub Decoded : Type 0
-  Decoded = (r ≡ packetLast stereo begun l bytes) × (room′ ≡ written (bytesOf (packetSamples stereo begun l bytes)) room)
-
-  pub more-decoded : begun ≡ true → (r ≡ lastOf stereo l bytes) × (room′ ≡ written (bytesOf (samples stereo l bytes)) room) → Decoded
-  unfolding packetLast packetSamples
-  more-decoded t e = rw t e
-
-  pub first-is-decoded : begun ≡ false → (r ≡ packetLast stereo false l bytes) × (room′ ≡ written (bytesOf (packetSamples stereo false l bytes)) room) → Decoded
-  first-is-decoded t e = rw t e
-
--- where the samples are dropped
 pub channels-most : (stereo : Bool) → channels stereo ≤ 2
 channels-most true = omega arith
 channels-most false = omega arith
 
-module _ (stereo begun : Bool) (l : Last) (bytes : List ℕ) (r : Last) where
-  pub more-passed : begun ≡ true → r ≡ lastOf stereo l bytes → r ≡ packetLast stereo begun l bytes
-  unfolding packetLast
-  more-passed t e = rw t e
+pub first-begun : (stereo begun : Bool) (l : Last) (bytes : List ℕ) → begun ≡ true → l ≡ packetFirst stereo begun l bytes
+unfolding packetFirst
+first-begun stereo begun l bytes t = rw t
 
-  pub first-passed : begun ≡ false → (first : Last) → first ≡ startWords stereo l bytes → (m : ℕ) → m ≡ channels stereo → (rest : List ℕ) → rest ≡ drop (2 * m) bytes
-      → r ≡ lastOf stereo first rest → r ≡ packetLast stereo begun l bytes
-  unfolding packetLast
-  first-passed t first ef m em rest er e = rw t (e ∙ rw (ef, er, em) refl)
+pub first-started : (stereo begun : Bool) (l : Last) (bytes : List ℕ) (r : Last) → begun ≡ false → r ≡ startWords stereo l bytes → r ≡ packetFirst stereo begun l bytes
+unfolding packetFirst
+first-started stereo begun l bytes r t e = rw t e
+
+pub length-begun : (stereo begun : Bool) → begun ≡ true → 0 ≡ startLength stereo begun
+length-begun stereo begun t = rw t
+
+pub length-started : (stereo begun : Bool) (m : ℕ) → begun ≡ false → m ≡ channels stereo → 2 * m ≡ startLength stereo begun
+length-started stereo begun m t e = rw (t, e)
+
+pub started-fits : (stereo begun : Bool) (room : ℕ) → begun ≡ false → startLength stereo begun ≤ room → 2 * channels stereo ≤ room
+started-fits stereo begun room t h = rw t at h
+
+pub leads-none : (stereo begun : Bool) (first : Last) (room : List ℕ) → begun ≡ true → room ≡ written (bytesOf (leading stereo begun first)) room
+unfolding leading bytesOf
+leads-none stereo begun first room t = rw t (written-none room)
+
+pub leads-start : (stereo begun : Bool) (first : Last) (room room′ : List ℕ) → begun ≡ false → room′ ≡ written (bytesOf (firstSamples stereo first)) room
+    → room′ ≡ written (bytesOf (leading stereo begun first)) room
+unfolding leading
+leads-start stereo begun first room room′ t e = rw t e
+
+leading-bytes : (stereo begun : Bool) (first : Last) → length (bytesOf (leading stereo begun first)) ≡ startLength stereo begun
+unfolding leading bytesOf
+leading-bytes stereo true first = refl
+leading-bytes stereo false first = start-bytes stereo first
+
+packet-bytes : (stereo begun : Bool) (l : Last) (bytes : List ℕ) → let f = packetFirst stereo begun l bytes in
+    bytesOf (leading stereo begun f) ++ bytesOf (samples stereo f (drop (startLength stereo begun) bytes)) ≡ bytesOf (packetSamples stereo begun l bytes)
+unfolding leading packetFirst packetSamples bytesOf
+packet-bytes stereo true l bytes = refl
+packet-bytes stereo false l bytes = let f = startWords stereo l bytes in sym (bytes-append (firstSamples stereo f) (samples stereo f (drop (2 * channels stereo) bytes)))
+
+packet-ends : (stereo begun : Bool) (l : Last) (bytes : List ℕ)
+    → lastOf stereo (packetFirst stereo begun l bytes) (drop (startLength stereo begun) bytes) ≡ packetLast stereo begun l bytes
+unfolding packetFirst packetLast
+packet-ends stereo true l bytes = refl
+packet-ends stereo false l bytes = refl
+
+-- room for the start words, and behind them for the samples
+pub start-room : (stereo begun : Bool) (bytes room : ℕ) → Fits stereo begun bytes room → startLength stereo begun ≤ room
+start-room stereo true bytes room f = omega arith
+start-room stereo false bytes room f = omega (arith, f .start, f .samples)
+
+rest-room : (stereo begun : Bool) (bytes room : ℕ) → Fits stereo begun bytes room → 2 * (bytes - startLength stereo begun) ≤ room - startLength stereo begun
+rest-room stereo true bytes room f = let g : 2 * (bytes - 0) ≤ room = f .samples in omega (arith, g)
+rest-room stereo false bytes room f = omega (arith, f .start, f .samples)
+
+module _ (stereo begun : Bool) (l : Last) (bytes : List ℕ) (first : Last) (ef : first ≡ packetFirst stereo begun l bytes)
+    (n : ℕ) (en : n ≡ startLength stereo begun) (rest : List ℕ) (er : rest ≡ drop n bytes) where
+  -- the last samples, whether the others are written or dropped
+  pub packet-passed : (r : Last) → r ≡ lastOf stereo first rest → r ≡ packetLast stereo begun l bytes
+  packet-passed r e = e ∙ rw (er, en, ef) refl ∙ packet-ends stereo begun l bytes
+
+  module _ (room whole : List ℕ) (f : Fits stereo begun (length bytes) (length room)) (same : length whole ≡ length room) where
+    pub rest-fits : HoldsOrNone (2 * length rest) (length (take (length whole - n) (drop n whole)))
+    rest-fits h =
+        let k = length-take-le (length whole - n) (drop n whole) (omega (arith, length-drop n whole)) in
+        omega (arith, k, en, ap length er, length-drop n bytes, rest-room stereo begun _ _ f)
+
+    pub packet-decoded : whole ≡ written (bytesOf (leading stereo begun first)) room → (r : Last) (part : List ℕ)
+        → (r ≡ lastOf stereo first rest) × (let behind = take (length whole - n) (drop n whole) in part ≡ written (take (length behind) (bytesOf (samples stereo first rest))) behind)
+        → (r ≡ packetLast stereo begun l bytes) × (take n whole ++ (part ++ drop (length whole - n) (drop n whole)) ≡ written (bytesOf (packetSamples stereo begun l bytes)) room)
+    packet-decoded ew r part e =
+        let m : n ≡ length (bytesOf (leading stereo begun first)) = en ∙ sym (leading-bytes stereo begun first) in
+        let k = length-take-le (length whole - n) (drop n whole) (omega (arith, length-drop n whole)) in
+        let g : 2 * length rest ≤ length (take (length whole - n) (drop n whole)) = omega (arith, k, en, ap length er, length-drop n bytes, rest-room stereo begun _ _ f) in
+        let w = written-behind (bytesOf (leading stereo begun first)) (bytesOf (samples stereo first rest)) room whole part n ew m (held stereo first rest _ part g (e .1)) in
+        (packet-passed r (e .0), w ∙ ap (λ (x : List ℕ). written x room) (rw (er, en, ef) refl ∙ packet-bytes stereo begun l bytes))
+
+-- where the samples are dropped
+pub nothing-held : (bytes room : ℕ) → room ≡ 0 → HoldsOrNone bytes room
+nothing-held bytes room e h = omega arith
 
 -- ---- how many samples, and a packet cut in two: what is carried from one packet to the next is enough
 
@@ -131,7 +161,7 @@ start-kept true l a b h = rw (word-kept a b 0 (omega arith), word-kept a b 2 (om
 start-kept false l a b h = rw (word-kept a b 0 (omega arith))
 
 module _ (stereo : Bool) where
-  pub packet-count : (begun : Bool) (l : Last) (bytes : List ℕ) → cond begun 0 (2 * channels stereo) ≤ length bytes
+  pub packet-count : (begun : Bool) (l : Last) (bytes : List ℕ) → startLength stereo begun ≤ length bytes
       → length (packetSamples stereo begun l bytes) ≡ length bytes - cond begun 0 (channels stereo)
   unfolding packetSamples
   packet-count true l bytes h = omega (arith, samples-length stereo l bytes)
@@ -139,7 +169,7 @@ module _ (stereo : Bool) where
       let f = startWords stereo l bytes in
       omega (arith, length-append (firstSamples stereo f) (samples stereo f (drop (2 * channels stereo) bytes)), first-count stereo f, samples-length stereo f (drop (2 * channels stereo) bytes), length-drop (2 * channels stereo) bytes)
 
-  pub packet-samples-then : (begun : Bool) (l : Last) (a b : List ℕ) → cond begun 0 (2 * channels stereo) ≤ length a
+  pub packet-samples-then : (begun : Bool) (l : Last) (a b : List ℕ) → startLength stereo begun ≤ length a
       → packetSamples stereo begun l (a ++ b) ≡ packetSamples stereo begun l a ++ packetSamples stereo true (packetLast stereo begun l a) b
   unfolding packetSamples packetLast
   packet-samples-then true l a b h = samples-append stereo l a b
@@ -148,7 +178,7 @@ module _ (stereo : Bool) where
       rw (start-kept stereo l a b h, drop-append-le (2 * channels stereo) a b h, samples-append stereo f (drop (2 * channels stereo) a) b)
       (sym (append-assoc (firstSamples stereo f) (samples stereo f (drop (2 * channels stereo) a)) (samples stereo (lastOf stereo f (drop (2 * channels stereo) a)) b)))
 
-  pub packet-last-then : (begun : Bool) (l : Last) (a b : List ℕ) → cond begun 0 (2 * channels stereo) ≤ length a
+  pub packet-last-then : (begun : Bool) (l : Last) (a b : List ℕ) → startLength stereo begun ≤ length a
       → packetLast stereo begun l (a ++ b) ≡ packetLast stereo true (packetLast stereo begun l a) b
   unfolding packetLast
   packet-last-then true l a b h = last-append stereo l a b

@@ -1,4 +1,5 @@
 pub mod Steps
 pub mod Samples
 pub mod Channels
+pub mod Stride
 pub mod Packet

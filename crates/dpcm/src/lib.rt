@@ -8,34 +8,16 @@ use words::part_from;
 use words::word_at;
 ghost use mathlib.Core.Path.{_≡_};
 ghost use Prim.Native.Nat.{_+_, _*_, _/_, _%_, _≤_, _<_};
-ghost use lib.ListN.{length, set};
-ghost use mathlib.Core.Bool.{true, false};
+ghost use lib.ListN.{length, take, set};
 ghost use Rattle.room.specs.Room.{written};
-ghost use Rattle.dpcm.specs.Samples.{sampleAfter, turned as turnedTo, samples, lastOf, bytesOf};
-ghost use Rattle.dpcm.specs.Packet.{channels, startWords, firstSamples, packetSamples, packetLast, Fits};
+ghost use Rattle.dpcm.specs.Samples.{sampleAfter, samples, lastOf, bytesOf};
+ghost use Rattle.dpcm.specs.Stride.{channelLast, channelRoom};
+ghost use Rattle.dpcm.specs.Packet.{channels, startWords, firstSamples, startLength, packetFirst, leading, packetSamples, packetLast, Fits, HoldsOrNone};
 
 // The last sample of the channel whose turn is next, and of the other one. Between packets left is next; mono has no other.
 pub struct Last {
     pub next: u16,
     pub other: u16,
-}
-
-impl Last {
-    // After a sample of the channel whose turn it was.
-    fn turned(self, stereo: bool, sample: u16) -> Last
-        ensures { λ r. ⌜ r ≡ turnedTo stereo self sample ⌝ }
-    {
-        if stereo {
-            return Last {
-                next: self.other,
-                other: sample,
-            };
-        }
-        Last {
-            next: sample,
-            other: self.other,
-        }
-    }
 }
 
 // The sample behind a last one, by a data byte.
@@ -45,44 +27,64 @@ fn sample_after(last: u16, b: u8) -> u16
     wrapping_add_u16(last, step_of(b))
 }
 
-// A sample's two bytes, low first, from index at on.
+// A sample's two bytes, low first, from index at on. An empty room drops it.
 fn put_sample(room: &mut [u8], at: usize, sample: u16)
-    requires { ⌜ at + 1 < length (now room) ⌝ }
+    requires { ⌜ HoldsOrNone (at + 2) (length (now room)) ⌝ }
     ensures { λ _. ⌜ now (room .exit) ≡ set (set (now (room .entry)) at (sample % 256)) (at + 1) (sample / 256) ⌝ }
 {
-    put(room, at, (sample % 256) as u8);
-    put(room, at + 1, (sample / 256) as u8);
+    if 0 < room.len() {
+        put(room, at, (sample % 256) as u8);
+        put(room, at + 1, (sample / 256) as u8);
+    }
 }
 
-// The samples of data bytes, from the last samples on; the last samples then.
+// The samples of one channel: those of data[start], data[start + stride] and so on, each behind the last one. The sample of
+// byte i goes to index 2 * i of the room. An empty room drops them: this is the one caller of sample_after, so that the
+// compiler looks a step up inside the loop.
+fn decode_channel(first: u16, data: &[u8], start: usize, stride: usize, room: &mut [u8]) -> u16
+    requires { ⌜ start < stride ⌝ }
+    requires { ⌜ stride ≤ 2 ⌝ }
+    requires { ⌜ HoldsOrNone (2 * length (now «data»)) (length (now room)) ⌝ }
+    ensures { λ r. ⌜ r ≡ channelLast first (now («data» .entry)) start stride ⌝ }
+    ensures { λ _. ⌜ now (room .exit) ≡ channelRoom first (now («data» .entry)) start stride (now (room .entry)) ⌝ }
+{
+    let mut last = first;
+    let mut i = start;
+    while i < data.len() {
+        last = sample_after(last, data[i]);
+        put_sample(room, 2 * i, last);
+        i += stride;
+    }
+    last
+}
+
+// The samples of data bytes, from the last samples on; the last samples then. One channel after the other: a loop over both
+// would turn them after each sample. An empty room drops them.
 fn decode(stereo: bool, first: Last, data: &[u8], room: &mut [u8]) -> Last
-    requires { ⌜ 2 * length (now «data») ≤ length (now room) ⌝ }
+    requires { ⌜ HoldsOrNone (2 * length (now «data»)) (length (now room)) ⌝ }
     ensures { λ r. ⌜ r ≡ lastOf stereo first (now («data» .entry)) ⌝ }
-    ensures { λ _. ⌜ now (room .exit) ≡ written (bytesOf (samples stereo first (now («data» .entry)))) (now (room .entry)) ⌝ }
+    ensures { λ _. ⌜ now (room .exit) ≡ written (take (length (now (room .entry))) (bytesOf (samples stereo first (now («data» .entry))))) (now (room .entry)) ⌝ }
 {
-    let mut last = first;
-    let mut i = 0;
-    while i < data.len() {
-        let sample = sample_after(last.next, data[i]);
-        put_sample(room, 2 * i, sample);
-        last = last.turned(stereo, sample);
-        i += 1;
+    if stereo {
+        let left = decode_channel(first.next, data, 0, 2, room);
+        let right = decode_channel(first.other, data, 1, 2, room);
+        // behind an odd number of bytes right is next
+        if data.len() % 2 == 0 {
+            return Last {
+                next: left,
+                other: right,
+            };
+        }
+        return Last {
+            next: right,
+            other: left,
+        };
     }
-    last
-}
-
-// The last samples behind data bytes whose samples are dropped.
-fn last_after(stereo: bool, first: Last, data: &[u8]) -> Last
-    ensures { λ r. ⌜ r ≡ lastOf stereo first (now («data» .entry)) ⌝ }
-{
-    let mut last = first;
-    let mut i = 0;
-    while i < data.len() {
-        let sample = sample_after(last.next, data[i]);
-        last = last.turned(stereo, sample);
-        i += 1;
+    let only = decode_channel(first.next, data, 0, 1, room);
+    Last {
+        next: only,
+        other: first.other,
     }
-    last
 }
 
 pub fn channels_of(stereo: bool) -> usize
@@ -119,16 +121,35 @@ fn put_start(stereo: bool, first: Last, room: &mut [u8])
     }
 }
 
-// A first packet: its start words, and then the samples behind them.
-fn decode_first(stereo: bool, last: Last, data: &[u8], room: &mut [u8]) -> Last
-    requires { ⌜ Fits stereo false (length (now «data»)) (length (now room)) ⌝ }
-    ensures { λ r. ⌜ r ≡ packetLast stereo false last (now («data» .entry)) ⌝ }
-    ensures { λ _. ⌜ now (room .exit) ≡ written (bytesOf (packetSamples stereo false last (now («data» .entry)))) (now (room .entry)) ⌝ }
+// The last samples that a packet's data goes on from: its start words, if it is a first one.
+fn packet_first(stereo: bool, begun: bool, last: Last, data: &[u8]) -> Last
+    ensures { λ r. ⌜ r ≡ packetFirst stereo begun last (now («data» .entry)) ⌝ }
 {
-    let first = start_words(stereo, last, data);
+    if begun {
+        return last;
+    }
+    start_words(stereo, last, data)
+}
+
+// The bytes of a packet's start words.
+fn start_length(stereo: bool, begun: bool) -> usize
+    ensures { λ r. ⌜ r ≡ startLength stereo begun ⌝ }
+{
+    if begun {
+        return 0;
+    }
+    2 * channels_of(stereo)
+}
+
+// A packet's start words are its first samples.
+fn put_leading(stereo: bool, begun: bool, first: Last, room: &mut [u8])
+    requires { ⌜ startLength stereo begun ≤ length (now room) ⌝ }
+    ensures { λ _. ⌜ now (room .exit) ≡ written (bytesOf (leading stereo begun first)) (now (room .entry)) ⌝ }
+{
+    if begun {
+        return;
+    }
     put_start(stereo, first, room);
-    let n = 2 * channels_of(stereo);
-    decode(stereo, first, part_from(data, n), &mut room[n..])
 }
 
 // A packet's samples, as bytes at the room's front; the last samples then.
@@ -137,20 +158,18 @@ pub fn decode_packet(stereo: bool, begun: bool, last: Last, data: &[u8], room: &
     ensures { λ r. ⌜ r ≡ packetLast stereo begun last (now («data» .entry)) ⌝ }
     ensures { λ _. ⌜ now (room .exit) ≡ written (bytesOf (packetSamples stereo begun last (now («data» .entry)))) (now (room .entry)) ⌝ }
 {
-    if begun {
-        return decode(stereo, last, data, room);
-    }
-    decode_first(stereo, last, data, room)
+    let first = packet_first(stereo, begun, last, data);
+    put_leading(stereo, begun, first, room);
+    let n = start_length(stereo, begun);
+    decode(stereo, first, part_from(data, n), &mut room[n..])
 }
 
-// The last samples behind a packet whose samples are dropped.
-pub fn last_of_packet(stereo: bool, begun: bool, last: Last, data: &[u8]) -> Last
+// The last samples behind a packet whose samples are dropped: none has no byte.
+pub fn last_of_packet(stereo: bool, begun: bool, last: Last, data: &[u8], none: &mut [u8]) -> Last
+    requires { ⌜ length (now none) ≡ 0 ⌝ }
     ensures { λ r. ⌜ r ≡ packetLast stereo begun last (now («data» .entry)) ⌝ }
 {
-    if begun {
-        return last_after(stereo, last, data);
-    }
-    let first = start_words(stereo, last, data);
-    let n = 2 * channels_of(stereo);
-    last_after(stereo, first, part_from(data, n))
+    let first = packet_first(stereo, begun, last, data);
+    let n = start_length(stereo, begun);
+    decode(stereo, first, part_from(data, n), none)
 }

@@ -1,6 +1,6 @@
 -- What a drawing call leaves and says, by its verdict.
 -- Assumes nothing.
-use mathlib.Core.Path.{_≡_, refl, sym, ap, _∙_}
+use mathlib.Core.Path.{_≡_, sym, ap}
 use mathlib.Core.List.{List}
 use Prim.Native.Nat.{ℕ}
 use Rattle.refusal.specs.Number.{Verdict, accept, refuse}
@@ -9,7 +9,7 @@ use Rattle.packet.specs.declared.Touched.the-variants.{None}
 use Rattle.packet.specs.Packet.{Packet, blocks}
 use Rattle.packet.specs.Rows.{touched}
 use Rattle.stores.specs.Stores.{Memory, memory}
-use Rattle.stores.specs.Calls.{Call, allowed, refused, Outcome, whole, unfinished, refusal, reply}
+use Rattle.stores.specs.Calls.{allowed, refused, Outcome, whole, unfinished, refusal, reply}
 use Rattle.stores.specs.Loop.{Called}
 use Rattle.stores.proofs.Loop.{refused-leaves, refused-answers, called-leaves, called-whole, called-unfinished}
 use Rattle.draw.specs.Drawing.{plan}

@@ -4,7 +4,7 @@ use mathlib.Core.Path.{_≡_, sym}
 use mathlib.Core.List.{List}
 use Prim.Native.Nat.{ℕ}
 use Rattle.refusal.specs.Number.{accept}
-use Rattle.packet.specs.Packet.{packet, pixels}
+use Rattle.packet.specs.Packet.{packet}
 use Rattle.packet.proofs.Sizes.{size-is, is-size}
 use Rattle.packet.proofs.Exactly.{is-whole}
 use Rattle.draw.specs.Call.{callVerdict}

@@ -1,8 +1,7 @@
 -- The two forms of the drawing call: `call-forms`.
 -- Assumes nothing.
-use mathlib.Core.Path.{_≡_, refl, sym, ap, _∙_}
-use mathlib.Core.Logic.{_⊎_, inl, inr}
-use mathlib.Core.Bool.{Bool, true, false, cond}
+use mathlib.Core.Path.{_≡_, sym, ap, _∙_}
+use mathlib.Core.Logic.{inl, inr}
 use mathlib.Core.List.{List}
 use Prim.Native.Nat.{ℕ}
 use native.Mathlib.Omega.{arith}
@@ -14,9 +13,9 @@ use Rattle.packet.specs.Verdict.{default, strict, legalSize, mapFits}
 use Rattle.packet.specs.Forms.{OneOver}
 use Rattle.packet.proofs.Forms.{Differ, differ-if, differ-else, blocks-differ}
 use Rattle.stores.specs.Stores.{Memory}
-use Rattle.stores.specs.Calls.{cut, leave, leaveCut, outcome, happens}
+use Rattle.stores.specs.Calls.{leave, leaveCut, outcome, happens}
 use Rattle.draw.specs.Drawing.{plan}
-use Rattle.draw.specs.Call.{Request, packetOf, callVerdict, drawVerdict, comes, calling, pictures, leaves, reporting, rowsOf}
+use Rattle.draw.specs.Call.{Request, packetOf, callVerdict, drawVerdict, comes, pictures, leaves, reporting, rowsOf}
 use Rattle.draw.specs.Forms.{SameCall, inForm, Odd, Forms}
 use Rattle.draw.proofs.Judged.{accepted-call}
 

@@ -67,6 +67,10 @@ module _ (p : Packet) (front b₀ : List ℕ) (k₀ n : ℕ) (b : List ℕ) (pla
   pub going-length : length b ≡ length b₀
   going-length = made-length (plan p front) (memory b₀ k₀) (n - l) k 0 b (g .made)
 
+  -- the data of block k is there
+  pub at-inside : Accepted p (length front) (length b₀) k₀ → k < blocks p → at ≤ length (p .bytes)
+  at-inside a h = omega (arith, g .found, a .taken k h .there)
+
   -- block k, its code and its data as code found them
   module _ (a : Accepted p (length front) (length b₀) k₀) (h : k < blocks p) (c : ℕ) (s : List ℕ) (ec : c ≡ code p k) (es : s ≡ drop at (p .bytes)) where
     data-is : s ≡ dataOf p k

@@ -2,7 +2,7 @@
 -- Assumes nothing.
 use mathlib.Core.Path.{_≡_, refl, sym, ap, _∙_}
 use mathlib.Core.List.{List}
-use Prim.Native.Nat.{ℕ, _+_, _≤_, _<_}
+use Prim.Native.Nat.{ℕ, _<_}
 use native.Mathlib.Omega.{arith}
 use lib.ListN.{length, take, getD}
 use lib.Seq.{getD-take}
@@ -19,7 +19,7 @@ use Rattle.stores.proofs.Agree.{Alike, leave-agree, outcome-agree, cut-agree}
 use Rattle.paint.specs.Value.{pixelCount, pixelValue}
 use Rattle.paint.proofs.Counts.{count-few}
 use Rattle.draw.specs.Drawing.{sizeAt, targetAt, valueAt, plan}
-use Rattle.draw.specs.Call.{Request, packetOf, drawVerdict, comes, calling, pictures, Reason, reporting, rowsOf}
+use Rattle.draw.specs.Call.{Request, packetOf, drawVerdict, comes, pictures, Reason, reporting, rowsOf}
 use Rattle.draw.specs.Taken.{DrawAccepts}
 use Rattle.draw.specs.Forms.{SameCall, withBytes, OverUnread}
 use Rattle.draw.proofs.Exactly.{drawn-exactly}

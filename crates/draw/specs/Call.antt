@@ -1,7 +1,7 @@
 -- A drawing call: what it brings, whether it is refused at the memory that it finds, and document 01's values of its answer.
 -- Order of its tests: size 6, pictures 8, map 10, place 11, then block by block 12, 13, 14, then 15.
 -- Assumes nothing.
-use mathlib.Core.Bool.{Bool, true, false, cond}
+use mathlib.Core.Bool.{cond}
 use mathlib.Core.List.{List}
 use Prim.Native.Nat.{ℕ}
 use lib.Dec.{ltb}
@@ -13,7 +13,7 @@ use Rattle.packet.specs.declared.Touched.the-variants.{None}
 use Rattle.packet.specs.Rows.{touched}
 use Rattle.packet.specs.Verdict.{legalSize, mapFits, blocksVerdict}
 use Rattle.stores.specs.Stores.{Memory}
-use Rattle.stores.specs.Calls.{Call, refused, allowed, Answer, whole, unfinished, refusal, Outcome, Calling, step, reply}
+use Rattle.stores.specs.Calls.{Call, refused, allowed, whole, unfinished, refusal, Outcome, Calling, step, reply}
 use Rattle.draw.specs.Drawing.{plan}
 use Rattle.draw.specs.declared.Allowed.{Allowed}
 use Rattle.draw.specs.declared.Drawn.{Drawn}

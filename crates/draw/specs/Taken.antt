@@ -1,7 +1,7 @@
 -- Acceptance of a drawing call as a statement: a call is not refused exactly when this holds (`proofs/Exactly`).
 -- Assumes nothing.
 use mathlib.Core.List.{List}
-use Prim.Native.Nat.{ℕ, _≤_, _<_}
+use Prim.Native.Nat.{ℕ, _≤_}
 use Rattle.packet.specs.Packet.{packet, blocks, pixels}
 use Rattle.packet.specs.Accepted.{Accepts}
 

@@ -10,10 +10,9 @@ use paint::paint_part;
 use paint::set_place;
 use refusal::Refusal;
 use whole::paint_whole;
-use words::part_from;
 ghost use mathlib.Core.Path.{_≡_};
-ghost use Prim.Native.Nat.{_<_};
-ghost use lib.ListN.{length};
+ghost use Prim.Native.Nat.{_≤_, _<_};
+ghost use lib.ListN.{length, drop};
 ghost use Rattle.block.specs.Block.{kindOf};
 ghost use Rattle.paint.specs.Value.{pixelCount};
 ghost use Rattle.packet.specs.Packet.{packet};
@@ -47,6 +46,14 @@ fn pixel_count(code: u8, s: &[u8]) -> usize
         return 0;
     }
     64
+}
+
+// A packet's data from byte at on: it is there, so nothing is tested.
+fn data_from(data: &[u8], at: usize) -> &[u8]
+    requires { ⌜ at ≤ length (now «data») ⌝ }
+    ensures { λ r. ⌜ now r ≡ drop at (now («data» .entry)) ⌝ }
+{
+    &data[at..]
 }
 
 // The tests of a call, where so many bytes may be left over and the pictures are front and back bytes long.
@@ -105,7 +112,7 @@ fn draw_blocks(
     let mut y = 8 * (k / columns);
     while k < n {
         let code = code_at(map, k);
-        let s = part_from(data, at);
+        let s = data_from(data, at);
         let due = pixel_count(code, s);
         if left <= due {
             paint_part(code, s, front, back, w, h, x, y, left);

@@ -1,11 +1,10 @@
 -- A step by what code found.
 -- Assumes nothing.
-use mathlib.Core.Path.{_≡_, refl, sym, ap, _∙_, subst}
+use mathlib.Core.Path.{_≡_, refl, sym, ap, _∙_}
 use mathlib.Core.Bool.{Bool, true, false, cond}
 use mathlib.Core.List.{List, []}
 use Prim.Native.Nat.{ℕ, _+_, _-_, _≤_}
 use borrow.Author.Tests.{eq-eqb, ne-eqb, leb-true}
-use lib.Dec.{eqb}
 use lib.ListN.{length}
 use Rattle.refusal.specs.declared.Refusal.{Refusal}
 use Rattle.refusal.specs.Number.{Verdict, number, block}
@@ -15,7 +14,7 @@ use Rattle.draw.specs.declared.Allowed.{Allowed}
 use Rattle.draw.specs.Call.{Request, request, calling, Pictures, pictures, leaves, Report, report}
 use Rattle.palette.specs.declared.Updated.{Updated}
 use Rattle.palette.specs.declared.Updated.the-variants.{Taken, Refused}
-use Rattle.palette.specs.Update.{Update, told, verdictOn, paletteAfter}
+use Rattle.palette.specs.Update.{told, verdictOn, paletteAfter}
 use Rattle.palette.specs.Gradient.{createGradient}
 use Rattle.palette.specs.Entries.{setPalette}
 use Rattle.palette.specs.Mask.{setPaletteCompressed}
@@ -40,7 +39,7 @@ use Rattle.next.specs.declared.Next.the-variants as found
 use Rattle.next.specs.Next.{nextAs, nextOf, Possible, Ready}
 use Rattle.next.proofs.Standing.{found-ready}
 use Rattle.opcodes.specs.Opcodes.{Step, taken, ended, refused, quiet, quietAnswer, heardStep, paletteAnswer, drawnStep}
-use Rattle.film.specs.Film.{Lent, lent, withPalette, withPictures, withRoom, swap, Outcome, after, called, drawSecond, drawOn, part, drawBy, act, actOn, heardBy, hear, takeOn, standing, stepOf}
+use Rattle.film.specs.Film.{Lent, lent, withPalette, withPictures, withRoom, swap, Outcome, after, called, drawOn, part, drawBy, act, actOn, heardBy, hear, takeOn, standing, stepOf}
 
 -- ---- 11
 

@@ -1,11 +1,11 @@
 -- One step over a film (document 01, "Film, chunks, opcodes"): the answer, and everything lent afterwards, for every film, state and lent memory.
 -- Assumes nothing.
-use mathlib.Core.Bool.{Bool, true, false, cond}
+use mathlib.Core.Bool.{cond}
 use mathlib.Core.List.{List}
 use Prim.Native.Nat.{ℕ, _+_, _-_}
 use lib.Dec.{eqb}
 use lib.ListN.{length, take, drop}
-use Rattle.stores.specs.Stores.{Memory, memory}
+use Rattle.stores.specs.Stores.{memory}
 use Rattle.stores.specs.Calls.{step}
 use Rattle.draw.specs.declared.Allowed.{Allowed}
 use Rattle.draw.specs.Call.{Request, request, calling, report}

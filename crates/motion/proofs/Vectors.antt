@@ -1,15 +1,16 @@
--- Laws of motion vectors: their two cases, their size, and the test of pointing inside as a statement.
+-- Laws of motion vectors: their two cases, their size, where that of code 2 leads, and the test of pointing inside as a statement.
 -- Assumes nothing.
-use mathlib.Core.Path.{_≡_, refl, sym, subst, _∙_}
+use mathlib.Core.Path.{_≡_, refl}
+use mathlib.Core.Logic.{inl, inr, ⊎-elim}
 use mathlib.Core.Bool.{Bool, true, false, cond}
 use Prim.Native.Nat.{ℕ, _+_, _-_, _*_, _/_, _%_, _≤_, _<_}
 use native.Mathlib.Omega.{arith}
-use native.Mathlib.Nat.{mul-le-mul}
+use native.Mathlib.Nat.{mul-le-mul, mul-le-mul-right}
 use lib.Dec.{ltb}
-use borrow.Author.Tests.{lt-ltb, le-ltb, ltb-true, ltb-false}
+use borrow.Author.Tests.{lt-ltb, le-ltb, ltb-false}
 use Rattle.words.proofs.Tests.{not-first}
 use Rattle.motion.specs.declared.Vector.{Vector}
-use Rattle.motion.specs.Motion.{vector, aheadVector, negated, nearVector, farVector, pointsInside, PointsInside, rasterIndex, copiedIndex, Short, Inside}
+use Rattle.motion.specs.Motion.{vector, aheadVector, negated, nearVector, farVector, pointsInside, PointsInside, rasterIndex, Short, Onward, Inside}
 
 -- ---- the vectors
 
@@ -55,6 +56,20 @@ pub far-short : (x y : ℕ) → Short (farVector x y)
 unfolding farVector
 far-short x y = omega arith
 
+-- ---- that of code 2 leads on
+
+onward-by : (b : ℕ) (t : Bool) → Onward (cond t (vector (8 + b % 7) 0 (b / 7) 0) (vector ((b - 56) % 29) 14 (8 + (b - 56) / 29) 0))
+onward-by b true = record { far = inl (omega arith); never-up = refl }
+onward-by b false = record { far = inr (omega arith); never-up = refl }
+
+pub ahead-onward : (b : ℕ) → Onward (aheadVector b)
+unfolding aheadVector
+ahead-onward b = onward-by b (ltb b 56)
+
+pub negated-twice : (v : Vector) → negated (negated v) ≡ v
+unfolding negated
+negated-twice v = refl
+
 -- ---- pointing inside
 
 module _ (v : Vector) (w h x y : ℕ) where
@@ -95,3 +110,17 @@ module _ (v : Vector) (w h x y : ℕ) where
 -- the sums that make an index stay small
 pub row-small : (w x y i : ℕ) → Inside w x y i → (y + i / 8) * w ≤ 307200
 row-small w x y i l = let h : y + i / 8 ≤ 480 = omega (arith, l .down, l .pixel) in mul-le-mul h (l .width)
+
+-- the 8x8 that an onward vector points at begins past the first row of the one that it leads from
+pub onward-past : (w x y x′ y′ : ℕ) (v : Vector) → Onward v → x + 8 ≤ w → x′ + v .left ≡ x + v .right → y′ + v .up ≡ y + v .down
+    → rasterIndex w x y 0 + 8 ≤ rasterIndex w x′ y′ 0
+unfolding rasterIndex
+onward-past w x y x′ y′ v on h e f =
+    ⊎-elim
+    (λ right.
+    let a : y ≤ y′ = omega (arith, on .never-up) in
+    omega (arith, mul-le-mul-right w a))
+    (λ down.
+    let a : y + 8 ≤ y′ = omega (arith, on .never-up) in
+    omega (arith, mul-le-mul-right w a))
+    (on .far)

@@ -1,9 +1,11 @@
 -- Motion vectors of codes 2 to 5 (document 01, "Packet, blocks, place"), the 8x8 that one points at, and where a pixel stands in a picture.
 -- No number is negative: a vector is how far right and down, and how far left and up of that, so negating it swaps the two.
 -- Assumes nothing.
-use mathlib.Core.Bool.{Bool, true, false, cond, _&&_}
+use mathlib.Core.Path.{_≡_}
+use mathlib.Core.Logic.{_⊎_}
+use mathlib.Core.Bool.{Bool, true, false, cond}
 use Prim.Native.Nat.{ℕ, _+_, _-_, _*_, _/_, _%_, _≤_}
-use lib.Dec.{ltb, leb}
+use lib.Dec.{ltb}
 use Rattle.motion.specs.declared.Vector.{Vector}
 
 -- right - left pixels along the row, down - up rows
@@ -57,6 +59,11 @@ pub record Short (v : Vector) : Type 0 where
   pub left : v .left ≤ 255
   pub down : v .down ≤ 255
   pub up : v .up ≤ 255
+
+-- as that of code 2, v leads at least a block to the right, or at least a block down; never up, and to the left only with a block down
+pub record Onward (v : Vector) : Type 0 where
+  pub far : (v .left + 8 ≤ v .right) ⊎ (8 ≤ v .down)
+  pub never-up : v .up ≡ 0
 
 -- the 8x8 at x, y and pixel i stand in the largest picture
 pub record Inside (w x y i : ℕ) : Type 0 where

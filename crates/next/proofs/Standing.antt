@@ -3,7 +3,7 @@
 use mathlib.Core.Path.{_≡_, refl, sym, ap, _∙_, subst}
 use mathlib.Core.Bool.{Bool, true, false, cond}
 use mathlib.Core.List.{List}
-use Prim.Native.Nat.{ℕ, _+_, _≤_, _<_}
+use Prim.Native.Nat.{ℕ, _+_, _≤_}
 use native.Mathlib.Omega.{arith}
 use borrow.Author.Tests.{eq-eqb, ne-eqb, ltb-false, eqb-true}
 use lib.Dec.{eqb, ltb}
@@ -11,7 +11,7 @@ use lib.ListN.{length, getD}
 use Rattle.words.specs.Word.{wordAt}
 use Rattle.words.proofs.Tests.{not-first, first}
 use Rattle.refusal.specs.declared.Refusal.{Refusal}
-use Rattle.refusal.specs.Number.{Verdict, accept, refuse, number, block, refusal}
+use Rattle.refusal.specs.Number.{Verdict, accept, refuse, number, block}
 use Rattle.packet.specs.declared.Checked.{Checked}
 use Rattle.packet.specs.declared.Checked.the-variants.{Accepted, Refused}
 use Rattle.packet.specs.Verdict.{told}
@@ -19,7 +19,7 @@ use Rattle.sound.specs.Format.{chosen}
 use Rattle.state.specs.declared.Cursor.{Cursor}
 use Rattle.state.specs.declared.State.{State}
 use Rattle.state.specs.Moves.{cursorInto}
-use Rattle.state.specs.State.{stateVerdict, boundsVerdict, mapInside, possibleSize, area, lentVerdict}
+use Rattle.state.specs.State.{stateVerdict, boundsVerdict, area, lentVerdict}
 use Rattle.heads.specs.declared.Opcode.{Opcode}
 use Rattle.heads.specs.declared.ChunkHead.{ChunkHead}
 use Rattle.heads.specs.declared.ChunkHead.the-variants.{Chunk, BadChunk}

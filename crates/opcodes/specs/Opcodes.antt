@@ -1,6 +1,6 @@
 -- What each opcode that is taken does to the state (document 01, "Film, chunks, opcodes"), and the answer of a step.
 -- Assumes nothing.
-use mathlib.Core.Bool.{Bool, true, false, cond}
+use mathlib.Core.Bool.{cond}
 use mathlib.Core.List.{List}
 use Prim.Native.Nat.{ℕ}
 use lib.Dec.{eqb}

@@ -1,6 +1,6 @@
 -- The loop over the header's bytes, and what opening comes to.
 -- Assumes nothing.
-use mathlib.Core.Path.{_≡_, refl, sym}
+use mathlib.Core.Path.{_≡_, refl}
 use mathlib.Core.Bool.{Bool, true, false, cond}
 use mathlib.Core.List.{List}
 use mathlib.Core.Logic.{_⊎_, ⊎-elim}
@@ -14,7 +14,7 @@ use lib.ListN.{length, getD}
 use Rattle.sound.specs.declared.Sound.{Sound}
 use Rattle.sound.specs.Format.{firstSound}
 use Rattle.state.specs.declared.Map.the-variants.{Missing}
-use Rattle.opening.specs.Opening.{header, begins, firstState, Opening, started, refuses, openingOf}
+use Rattle.opening.specs.Opening.{header, begins, firstState, started, refuses, openingOf}
 
 pub begins-none : (film : List ℕ) → true ≡ begins film 0
 unfolding begins

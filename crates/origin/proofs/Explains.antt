@@ -14,7 +14,8 @@ use lib.ListN.{length, getD, length-drop}
 use lib.Seq.{getD-drop}
 use Rattle.words.proofs.Tests.{not-first}
 use Rattle.refusal.specs.Number.{Verdict, accept, refuse}
-use Rattle.motion.specs.Motion.{aheadVector, negated, nearVector, farVector, rasterIndex, copiedIndex}
+use Rattle.motion.specs.Motion.{aheadVector, negated, copiedIndex}
+use Rattle.motion.proofs.Vectors.{ahead-onward}
 use Rattle.block.specs.declared.Source.{Source}
 use Rattle.block.specs.declared.Source.the-variants.{Data, Front, Back}
 use Rattle.block.specs.Block.{Kind, same, kept, ahead, behind, near, far, patterned, celled, dithered, refused, kinds, kindOf, source, fetched}
@@ -25,17 +26,16 @@ use Rattle.packet.specs.Verdict.{andThen, default}
 use Rattle.packet.specs.Accepted.{CopyInside, Whole}
 use Rattle.packet.specs.Asked.{Sized}
 use Rattle.packet.proofs.Walk.{code-below}
-use Rattle.packet.proofs.Apart.{ahead-onward, later, earlier}
-use Rattle.stores.specs.Stores.{Off, stage, final}
+use Rattle.packet.proofs.Apart.{later, earlier}
+use Rattle.stores.specs.Stores.{Off, stage}
 use Rattle.stores.proofs.Recover.{stage-off, stage-pixel}
 use Rattle.paint.specs.Value.{pixelCount, pixelValue}
 use Rattle.draw.specs.Drawing.{sizeAt, targetAt, valueAt, plan}
-use Rattle.draw.specs.Call.{callVerdict}
 use Rattle.draw.proofs.Judged.{accepted-call}
 use Rattle.book.proofs.Lawful.{few, target-block, plan-lawful}
 use Rattle.origin.specs.declared.Origin.{Origin}
 use Rattle.origin.specs.declared.Origin.the-variants.{Byte, InFront, InBack, InNew}
-use Rattle.origin.specs.Trace.{blockAt, pixelAt, sourceAt, backOrigin, named, originOf, Answer, found, foundAt, positionVerdict, traceVerdict, answered, traceOf}
+use Rattle.origin.specs.Trace.{blockAt, pixelAt, sourceAt, backOrigin, named, originOf, found, foundAt, positionVerdict, traceVerdict, answered, traceOf}
 use Rattle.origin.specs.Asked.{Traceable}
 use Rattle.origin.specs.Explains.{indexAt, newPicture, stands, There, Read, Explains}
 use Rattle.origin.proofs.Inside.{pixel-few, column-is, row-is, index-is, inside, among}

@@ -1,37 +1,22 @@
 -- No block reads a pixel of its own in back: code 2 reads later blocks, code 3 earlier ones, and no other code reads back to draw.
 -- Assumes nothing.
-use mathlib.Core.Path.{_≡_, refl, sym, ap, _∙_, subst}
+use mathlib.Core.Path.{_≡_, refl, ap}
 use mathlib.Core.Logic.{_⊎_, inl, inr, ⊎-elim, _≢_}
-use mathlib.Core.Bool.{Bool, true, false, cond}
-use mathlib.Core.List.{List}
 use Prim.Native.Nat.{ℕ, _+_, _-_, _*_, _/_, _%_, _≤_, _<_}
 use native.Mathlib.Omega.{arith}
 use native.Mathlib.Nat.{div-add-mod', mod-lt, mul-le-mul-right, add-mul}
-use lib.Dec.{ltb}
 use Rattle.motion.specs.declared.Vector.{Vector}
-use Rattle.motion.specs.Motion.{vector, aheadVector, negated, PointsInside, copiedIndex}
+use Rattle.motion.specs.Motion.{aheadVector, negated, PointsInside, copiedIndex, Onward}
+use Rattle.motion.proofs.Vectors.{ahead-onward}
 use Rattle.block.specs.declared.Source.{Source}
-use Rattle.block.specs.declared.Source.the-variants.{Data, Front, Back}
+use Rattle.block.specs.declared.Source.the-variants.{Front, Back}
 use Rattle.block.specs.Block.{Kind, same, kept, ahead, behind, near, far, patterned, celled, dithered, refused, source}
-use Rattle.packet.specs.Packet.{Packet, blocks, width, height, left, top, kind, dataOf, blockOf}
-use Rattle.packet.specs.Accepted.{CopyInside, Takes}
+use Rattle.packet.specs.Packet.{Packet, width, height, left, top, kind, dataOf, blockOf}
+use Rattle.packet.specs.Accepted.{CopyInside}
 use Rattle.packet.proofs.Grid.{raster-block}
 
--- the vector of code 2 leads at least a block to the right, or at least a block down; never up, and to the left only with a block down
-pub record Onward (v : Vector) : Type 0 where
-  pub far : (v .left + 8 ≤ v .right) ⊎ (8 ≤ v .down)
-  pub never-up : v .up ≡ 0
-
-onward-by : (b : ℕ) (t : Bool) → Onward (cond t (vector (8 + b % 7) 0 (b / 7) 0) (vector ((b - 56) % 29) 14 (8 + (b - 56) / 29) 0))
-onward-by b true = record { far = inl (omega arith); never-up = refl }
-onward-by b false = record { far = inr (omega arith); never-up = refl }
-
-pub ahead-onward : (b : ℕ) → Onward (aheadVector b)
-unfolding aheadVector
-ahead-onward b = onward-by b (ltb b 56)
-
 module _ (c : ℕ) (some : 0 < c) (h k : ℕ) (v : Vector) (on : Onward v) (i : ℕ) (hi : i < 64) where
-  -- the 8x8 that such a vector points at lies in later blocks
+  -- the 8x8 that it points at lies in later blocks
   pub later : PointsInside v (8 * c) h (8 * (k % c)) (8 * (k / c)) → k < blockOf c (copiedIndex v (8 * c) (8 * (k % c)) (8 * (k / c)) i)
   unfolding copiedIndex
   later l =

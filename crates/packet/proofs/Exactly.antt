@@ -1,11 +1,11 @@
 -- A packet is accepted exactly when its size is legal, its map has a nibble for each block, every block's code is not 6, its data bytes are there, its
 -- copy lies inside, and all bytes are used up but for those that may be left over: `accepted-exactly`.
 -- Assumes nothing.
-use mathlib.Core.Path.{_≡_, refl, sym, ap, _∙_, subst}
-use mathlib.Core.Bool.{Bool, true, false, cond}
+use mathlib.Core.Path.{_≡_, refl, sym, _∙_, subst}
+use mathlib.Core.Bool.{true, false}
 use mathlib.Core.List.{List}
-use mathlib.Core.Logic.{_⊎_, inl, inr, ⊎-elim}
-use Prim.Native.Nat.{ℕ, zero, suc, _+_, _-_, _*_, _/_, _%_, _≤_, _<_, zero-le}
+use mathlib.Core.Logic.{_⊎_, ⊎-elim}
+use Prim.Native.Nat.{ℕ, zero, suc, _+_, _-_, _≤_, _<_, zero-le}
 use native.Mathlib.Omega.{arith}
 use native.Mathlib.Nat.{eq-or-lt-of-le}
 use borrow.Author.Tests.{le-ltb, le-leb, eq-eqb, ltb-false, leb-true, eqb-true}
@@ -13,9 +13,9 @@ use lib.ListN.{length, length-drop}
 use Rattle.words.proofs.Tests.{not-first, first}
 use Rattle.refusal.specs.Number.{Verdict, accept, refuse}
 use Rattle.motion.proofs.Vectors.{inside-each, inside-all}
-use Rattle.block.specs.Block.{Kind, same, kept, ahead, behind, near, far, patterned, celled, dithered, refused, kindOf, dataLength, copyInside}
+use Rattle.block.specs.Block.{Kind, same, kept, ahead, behind, near, far, patterned, celled, dithered, refused, dataLength, copyInside}
 use Rattle.packet.specs.Packet.{Packet, packet, blocks, width, height, left, top, code, startOf, start, dataOf, kind}
-use Rattle.packet.specs.Verdict.{andThen, blockVerdict, endVerdict, verdictFrom, blocksVerdict, mapFits, legalSize, verdict}
+use Rattle.packet.specs.Verdict.{andThen, blockVerdict, endVerdict, verdictFrom, blocksVerdict, mapFits, verdict}
 use Rattle.packet.specs.Accepted.{CopyInside, Takes, Whole, Accepts}
 use Rattle.block.proofs.Codes.{code-known, code-refused}
 use Rattle.packet.proofs.Walk.{code-below}

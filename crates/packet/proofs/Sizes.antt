@@ -1,15 +1,15 @@
 -- The size and the map: the tests as statements, and the verdict by them.
 -- Assumes nothing.
-use mathlib.Core.Path.{_≡_, refl, sym, _∙_}
-use mathlib.Core.Bool.{Bool, true, false, cond}
+use mathlib.Core.Path.{_≡_}
+use mathlib.Core.Bool.{true, false}
 use mathlib.Core.List.{List}
-use Prim.Native.Nat.{ℕ, _+_, _*_, _/_, _≤_, _<_}
+use Prim.Native.Nat.{ℕ, _+_, _*_, _/_, _≤_}
 use native.Mathlib.Omega.{arith}
 use borrow.Author.Tests.{le-ltb, le-leb, eq-eqb, ne-eqb, ltb-false, leb-true}
 use native.Mathlib.Nat.{mul-le-mul}
 use lib.ListN.{length}
 use Rattle.words.proofs.Tests.{not-first, first}
-use Rattle.refusal.specs.Number.{Verdict, accept, refuse}
+use Rattle.refusal.specs.Number.{Verdict, refuse}
 use Rattle.packet.specs.Packet.{packet, blocks, pixels}
 use Rattle.packet.specs.Verdict.{legal, legalSize, mapFits, blocksVerdict, verdict}
 use Rattle.packet.specs.Accepted.{Legal}

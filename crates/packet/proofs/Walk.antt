@@ -3,7 +3,7 @@
 use mathlib.Core.Path.{_≡_, refl, sym, ap, _∙_, subst}
 use mathlib.Core.Bool.{Bool, true, false, cond}
 use mathlib.Core.List.{List}
-use Prim.Native.Nat.{ℕ, zero, suc, _+_, _-_, _*_, _/_, _%_, _≤_, _<_, zero-le}
+use Prim.Native.Nat.{ℕ, zero, suc, _+_, _-_, _/_, _%_, _≤_, _<_, zero-le}
 use native.Mathlib.Omega.{arith}
 use native.Mathlib.Numerals.{add-one}
 use native.Mathlib.Nat.{mul-le-mul}
@@ -11,7 +11,7 @@ use borrow.Author.Tests.{lt-ltb, le-ltb, lt-leb, le-leb}
 use lib.Dec.{eqb}
 use lib.ListN.{length, take, drop, getD, length-drop}
 use lib.Seq.{take-all}
-use Rattle.refusal.specs.Number.{Verdict, accept, refuse}
+use Rattle.refusal.specs.Number.{accept, refuse}
 use Rattle.block.specs.Block.{Kind, codeAt, kindOf, dataLength, isRefused, copyInside}
 use Rattle.block.proofs.Codes.{length-few, code-known, code-refused, kind-1}
 use Rattle.packet.specs.Packet.{Packet, blocks, width, height, left, top, code, startOf, start, dataOf, kind}

@@ -1,7 +1,7 @@
 -- The verdict on a packet, in document 01's order: 6, 10, then block by block 12, 13, 14, then 15.
 -- Document 02, W6: one byte may be left over; in the strict form none. Both are one definition, over the bytes that may be (`spare`).
 -- Assumes nothing.
-use mathlib.Core.Bool.{Bool, true, false, cond}
+use mathlib.Core.Bool.{Bool, false, cond}
 use mathlib.Core.List.{List}
 use Prim.Native.Nat.{ℕ, zero, suc, _+_, _/_}
 use lib.Dec.{eqb, leb, ltb}

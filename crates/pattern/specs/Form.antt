@@ -2,7 +2,7 @@
 -- A block is cut into parts. A part has 2 or 4 colours and then its fields, of 1 or 2 bits, one for each cell of the part.
 -- Bytes that are missing are read as 0: every form has more bytes than those that choose it, so no short block is taken for it (`proofs/Bounds`, `chosen-inside`).
 -- Assumes nothing.
-use mathlib.Core.Bool.{Bool, true, false, cond}
+use mathlib.Core.Bool.{Bool, cond}
 use mathlib.Core.List.{List}
 use Prim.Native.Nat.{ℕ, _+_}
 use lib.Dec.{ltb}

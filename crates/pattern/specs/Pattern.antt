@@ -4,10 +4,10 @@
 use mathlib.Core.List.{List}
 use mathlib.Core.Path.{_≡_}
 use mathlib.Core.Logic.{_⊎_}
-use Prim.Native.Nat.{ℕ, _+_, _*_, _/_, _%_, _^_, _≤_, _<_}
+use Prim.Native.Nat.{ℕ, _+_, _*_, _/_, _%_, _^_, _<_}
 use lib.ListN.{getD}
 use Rattle.pattern.specs.declared.Form.{Form}
-use Rattle.pattern.specs.Form.{Shape, numbers, shape}
+use Rattle.pattern.specs.Form.{Shape, shape}
 
 -- the five numbers are those of a form
 abbrev pub Shaped : Shape → Type 0

@@ -3,17 +3,17 @@
 use mathlib.Core.Path.{_≡_, refl, ap, subst, _∙_}
 use mathlib.Core.List.{List}
 use Prim.Native.Nat.{ℕ, zero, suc, _+_, _*_, _/_, _%_, _≤_, _<_}
-use native.Mathlib.Nat.{zero-add}
+use native.Mathlib.Nat.{zero-add, mul-le-mul-right}
 use native.Mathlib.Omega.{arith}
 use lib.ListN.{length, getD}
 use Rattle.block.specs.Block.{Side, one, two, four, eight, pixels, cellSource, ditherSource}
+use Rattle.block.specs.Asked.{Sided}
 use Rattle.motion.specs.Motion.{rasterIndex}
 use Rattle.stores.specs.Stores.{firstPixels}
-use Rattle.paint.specs.Asked.{Square}
 use Rattle.paint.specs.Paint.{single, fixedValue}
 use Rattle.paint.proofs.Painting.{Painting, painting-start, painting-length}
-use Rattle.rows.specs.Row.{fromPixel, beside, colours, inTurn, Band}
-use Rattle.rows.proofs.Rows.{Rows, painting-by, row-target, row-inside, rows-beside}
+use Rattle.rows.specs.Row.{beside, stacked, colours, inTurn, Band}
+use Rattle.rows.proofs.Rows.{Rows, painting-by, row-below, row-target, rows-beside}
 
 -- ---- a row
 
@@ -38,6 +38,9 @@ colour-is f a b c d ea eb ec ed (suc (suc (suc zero))) h = ed
 colour-is f a b c d ea eb ec ed (suc (suc (suc (suc k)))) h = absurd (let z : ⊥ = omega arith in z)
 
 -- ---- codes C to E
+
+pub band-of : {side p : ℕ} → Sided side → 1 < side → p % (8 * side) ≡ 0 → p < 64 → Band side p
+band-of z w f b = record { sided = z; wide = w; first = f; below = b }
 
 -- a band begins with a row and ends within the block, and the next begins behind it
 pub record BandRoom (side p : ℕ) : Type 0 where
@@ -108,30 +111,33 @@ band-value {side} {p} z s a b c d q r i even l h k =
     ∙ ap (λ (n : ℕ). getD s n 0) (band-cell z r i even l h))
 
 -- the loop over the rows of a band: after each the picture is as the band's pixels up to there leave it
-pub record Banded (w x y side : ℕ) (s : List ℕ) (p : ℕ) (b₀ b : List ℕ) (r : ℕ) : Type 0 where
+pub record Banded (w to side : ℕ) (s : List ℕ) (p : ℕ) (b₀ b : List ℕ) (at r : ℕ) : Type 0 where
   pub even : r % 8 ≡ 0
-  pub painting : Painting (fromPixel p (single (rasterIndex w x y) (fixedValue (cellSource side) s))) b₀ (8 * side) b r
+  pub place : at ≡ rasterIndex w to 0 r
+  pub painting : Painting (stacked w to p (fixedValue (cellSource side) s)) b₀ (8 * side) b r
 
-pub banded-start : (w x y side : ℕ) (s : List ℕ) (p : ℕ) (b : List ℕ) → Banded w x y side s p b b 0
-banded-start w x y side s p b = record { even = refl; painting = painting-start _ _ _ }
+pub banded-start : (w to side : ℕ) (s : List ℕ) (p : ℕ) (b : List ℕ) → Banded w to side s p b b to 0
+unfolding rasterIndex
+banded-start w to side s p b = record { even = refl; place = omega arith; painting = painting-start _ _ _ }
 
-pub band-below : {side p : ℕ} → Band side p → (r : ℕ) → r < 8 * side → p + r < 64
-band-below z r l = omega (arith, band-room z .room)
+module _ (w to side : ℕ) (s : List ℕ) (p : ℕ) (b₀ b : List ℕ) (at r : ℕ) (g : Banded w to side s p b₀ b at r) (l : r < 8 * side) where
+  pub banded-below : at + w ≤ to + side * w
+  unfolding rasterIndex
+  banded-below =
+      let a : r / 8 + 1 ≤ side = omega arith in
+      omega (arith, g .place, g .even, mul-le-mul-right w a)
 
-module _ (w x y side : ℕ) (s : List ℕ) (p : ℕ) (b₀ b : List ℕ) (r : ℕ) (g : Banded w x y side s p b₀ b r) (z : Band side p) (l : r < 8 * side)
-    (to : ℕ) (e : to ≡ rasterIndex w x y (p + r)) where
-  pub banded-inside : Square w x y (length b₀) → to + 8 ≤ length b
-  banded-inside q =
-      let k : length b ≡ length b₀ = painting-length _ b₀ (8 * side) b r (g .painting) in
-      rw k (row-inside w x y (p + r) to (omega (arith, band-room z .row, g .even)) e (length b₀) q (band-below z r l))
+  pub banded-inside : to + side * w + 8 ≤ length b₀ + w → at + 8 ≤ length b
+  banded-inside h = omega (arith, banded-below, painting-length _ b₀ (8 * side) b r (g .painting))
 
-  pub banded-more : (a₁ a₂ a₃ a₄ : ℕ) → Read side p s a₁ a₂ a₃ a₄ → (b′ : List ℕ)
-      → b′ ≡ firstPixels (beside to 0 (fixedValue (inTurn 2) (colours a₁ a₂ a₃ a₄))) 0 b 8 → Banded w x y side s p b₀ b′ (r + 8)
-  banded-more a₁ a₂ a₃ a₄ q b′ f =
+  pub banded-more : Band side p → (a₁ a₂ a₃ a₄ : ℕ) → Read side p s a₁ a₂ a₃ a₄ → (b′ : List ℕ)
+      → b′ ≡ firstPixels (beside at 0 (fixedValue (inTurn 2) (colours a₁ a₂ a₃ a₄))) 0 b 8 → Banded w to side s p b₀ b′ (at + w) (r + 8)
+  banded-more z a₁ a₂ a₃ a₄ q b′ f =
       record {
         even = omega (arith, g .even);
-        painting = painting-by _ b₀ (8 * side) b r (g .painting) 8 (omega (arith, g .even)) (beside to 0 (fixedValue (inTurn 2) (colours a₁ a₂ a₃ a₄)))
-            (λ i h. row-target w x y (p + r) to (omega (arith, band-room z .row, g .even)) e i (p + (r + i)) h (omega arith))
+        place = row-below w to 0 r at (g .place);
+        painting = painting-by _ b₀ (8 * side) b r (g .painting) 8 (omega (arith, g .even)) (beside at 0 (fixedValue (inTurn 2) (colours a₁ a₂ a₃ a₄)))
+            (λ i h. row-target w to 0 r at (g .even) (g .place) i (r + i) h refl)
             (λ i h k. band-value z s a₁ a₂ a₃ a₄ q r i (g .even) l h k) b′ f;
       }
 

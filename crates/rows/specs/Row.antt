@@ -2,17 +2,25 @@
 -- Assumes nothing.
 use mathlib.Core.Path.{_≡_}
 use mathlib.Core.List.{List, [], _∷_}
-use Prim.Native.Nat.{ℕ, _+_, _-_, _*_, _/_, _%_, _<_}
+use Prim.Native.Nat.{ℕ, _+_, _-_, _*_, _/_, _%_, _≤_, _<_}
 use Rattle.block.specs.Asked.{Sided}
+use Rattle.motion.specs.Motion.{rasterIndex}
 use Rattle.stores.specs.Stores.{Plan}
 
--- the pixels of a block from pixel p on, as a plan of their own (`firstPixels` does not read a plan's sizes)
-abbrev pub fromPixel : ℕ → Plan → Plan
-fromPixel p d = record { blocks = 1; size = λ k. d .size k - p; target = λ k i. d .target k (p + i); value = λ k i b. d .value k (p + i) b }
+-- the element that stands at i
+abbrev pub here : ℕ → ℕ
+here i = i
 
 -- values from pixel p on, stored side by side from index to on
 abbrev pub beside : ℕ → ℕ → (ℕ → List ℕ → ℕ) → Plan
 beside to p value = record { blocks = 1; size = λ k. 8; target = λ k i. to + i; value = λ k i b. value (p + i) b }
+
+-- the same in rows of eight, each w indices behind the last: the 8x8 at to, 0 of a picture w wide
+abbrev pub stacked : ℕ → ℕ → ℕ → (ℕ → List ℕ → ℕ) → Plan
+stacked w to p value = record { blocks = 1; size = λ k. 64; target = λ k i. rasterIndex w to 0 i; value = λ k i b. value (p + i) b }
+
+abbrev pub eight : ℕ → ℕ → ℕ → ℕ → ℕ → ℕ → ℕ → ℕ → List ℕ
+eight a b c d e f g h = a ∷ b ∷ c ∷ d ∷ e ∷ f ∷ g ∷ h ∷ []
 
 abbrev pub colours : ℕ → ℕ → ℕ → ℕ → List ℕ
 colours a b c d = a ∷ b ∷ c ∷ d ∷ []
@@ -20,6 +28,10 @@ colours a b c d = a ∷ b ∷ c ∷ d ∷ []
 -- pixel i of a row of four colours in turn, each for step pixels
 unfoldable pub inTurn : ℕ → ℕ → ℕ
 inTurn step i = i / step % 4
+
+-- the indices differ by eight or more: of the eight elements from the one on, none is one of the eight from the other on
+abbrev pub Apart : ℕ → ℕ → Type 0
+Apart from to = 8 ≤ (from - to) + (to - from)
 
 -- p is the first pixel of a row of cells, each more than one pixel wide and high
 pub record Band (side p : ℕ) : Type 0 where

@@ -1,13 +1,13 @@
 -- Where samples are dropped: what an opcode answers in every room that is always enough, a law for each way out. Two such rooms make no difference.
 -- Assumes nothing.
 use mathlib.Core.Path.{_≡_, refl, sym, ap, _∙_}
-use mathlib.Core.Bool.{Bool, true, false, cond}
+use mathlib.Core.Bool.{Bool, true, false}
 use mathlib.Core.List.{List, []}
 use Prim.Native.Nat.{ℕ, _*_, _≤_, _<_}
 use native.Mathlib.Omega.{arith}
 use native.Mathlib.Nat.{mul-le-mul-left}
 use borrow.Author.Tests.{le-ltb}
-use lib.ListN.{length, drop, length-replicate}
+use lib.ListN.{length, length-replicate}
 use Rattle.words.specs.Word.{wordAt}
 use Rattle.sound.specs.Format.{masked}
 use Rattle.sound.specs.Step.{Step, taken, refused, roomAfter, even, sampleBytes, exact, output, soundAfter, enough, within, dataStep, silence, silenceStep}

@@ -6,13 +6,13 @@ use mathlib.Core.List.{List, []}
 use Prim.Native.Nat.{ℕ, _*_, _≤_}
 use native.Mathlib.Omega.{arith}
 use borrow.Author.Tests.{ltb-false}
-use lib.ListN.{length, drop, replicate, length-replicate}
+use lib.ListN.{length, drop, length-replicate}
 use Rattle.words.specs.Word.{wordAt}
 use Rattle.words.proofs.Tests.{first, not-first}
 use Rattle.room.specs.Room.{written}
 use Rattle.room.proofs.Written.{written-front, written-rest}
 use Rattle.sound.specs.Format.{masked}
-use Rattle.sound.specs.Step.{Step, taken, refused, roomAfter, even, sampleBytes, within, dataStep, silence, silenceStep}
+use Rattle.sound.specs.Step.{Step, taken, roomAfter, even, sampleBytes, within, dataStep, silence, silenceStep}
 use Rattle.sound.specs.Sound.{ofFormat, ofMask, audioData, audioSilence}
 use Rattle.sound.specs.Kept.{Counted, Kept}
 use Rattle.sound.specs.declared.Format.{Format}

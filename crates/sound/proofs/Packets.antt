@@ -2,19 +2,19 @@
 -- Assumes nothing.
 use mathlib.Core.Path.{_≡_, refl, sym, ap, _∙_}
 use mathlib.Core.Bool.{Bool, true, false, cond}
-use mathlib.Core.List.{List, [], _∷_, _++_}
+use mathlib.Core.List.{List, _∷_}
 use Prim.Native.Nat.{ℕ, zero, suc, _+_, _*_, _-_, _≤_, _<_}
 use native.Mathlib.Omega.{arith}
 use borrow.Author.Tests.{le-leb, lt-leb, leb-true, eqb-true}
-use lib.Dec.{eqb, leb}
+use lib.Dec.{eqb}
 use lib.ListN.{length, replicate}
 use Rattle.words.proofs.Tests.{first}
 use Rattle.dpcm.specs.Samples.{bytesOf}
-use Rattle.dpcm.specs.Packet.{channels, packetSamples, Fits}
+use Rattle.dpcm.specs.Packet.{channels, packetSamples}
 use Rattle.dpcm.proofs.Samples.{bytes-length}
 use Rattle.dpcm.proofs.Packet.{packet-count}
 use Rattle.sound.specs.Format.{carried}
-use Rattle.sound.specs.Step.{even, sampleBytes, exact, output, silence, Writable}
+use Rattle.sound.specs.Step.{sampleBytes, exact, output, silence, Writable}
 use Rattle.sound.specs.declared.Sound.{Sound}
 
 pub not-true : false ≡ true → ⊥

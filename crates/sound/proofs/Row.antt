@@ -3,18 +3,17 @@
 use mathlib.Core.Path.{_≡_, refl, sym, ap, subst, _∙_}
 use mathlib.Core.Bool.{Bool, true, false, cond}
 use mathlib.Core.List.{List, [], _∷_, _++_, append-nil}
-use Prim.Native.Nat.{ℕ, _+_, _*_, _-_, _%_, _≤_, _<_}
+use Prim.Native.Nat.{ℕ, _+_, _*_, _-_, _%_, _≤_}
 use native.Mathlib.Omega.{arith}
 use borrow.Author.Tests.{le-ltb, le-leb, eq-eqb, eqb-true, ltb-false}
-use lib.Dec.{eqb, leb, ltb}
 use lib.ListN.{length, length-append}
 use Rattle.words.proofs.Tests.{first, not-first}
 use Rattle.dpcm.specs.Samples.{bytesOf}
-use Rattle.dpcm.specs.Packet.{channels, packetSamples, packetLast}
+use Rattle.dpcm.specs.Packet.{channels, packetSamples}
 use Rattle.dpcm.proofs.Samples.{bytes-append}
 use Rattle.dpcm.proofs.Packet.{packet-samples-then, packet-last-then}
 use Rattle.sound.specs.Format.{carried, goingOn}
-use Rattle.sound.specs.Step.{Step, taken, refused, even, sampleBytes, exact, output, soundAfter, within, dataStep}
+use Rattle.sound.specs.Step.{taken, refused, even, sampleBytes, exact, output, soundAfter, within, dataStep}
 use Rattle.sound.specs.Row.{Packet, Row, none, one, joined}
 use Rattle.sound.specs.declared.Sound.{Sound}
 use Rattle.sound.proofs.Packets.{Exact, later, start, plain, exact-data, output-length}

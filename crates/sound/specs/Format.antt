@@ -1,10 +1,8 @@
 -- Formats of sound (document 02, W5), and which packets are for the chosen stream.
 -- Assumes nothing.
 use mathlib.Core.Bool.{Bool, true, false, cond}
-use mathlib.Core.List.{List}
-use Prim.Native.Nat.{ℕ, _*_, _/_, _%_, _^_}
+use Prim.Native.Nat.{ℕ, _/_, _%_, _^_}
 use lib.Dec.{eqb, ltb}
-use Rattle.words.specs.Word.{wordAt}
 use Rattle.dpcm.specs.declared.Last.{Last}
 use Rattle.dpcm.specs.Samples.{last}
 use Rattle.sound.specs.declared.Format.{Format}

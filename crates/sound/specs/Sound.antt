@@ -1,6 +1,6 @@
 -- Opcodes 03, 08 and 09 (document 02, W5), for the stream that opening was given: what each comes to, and the answer.
 -- Assumes nothing.
-use mathlib.Core.Bool.{Bool, true, false, cond}
+use mathlib.Core.Bool.{Bool, cond}
 use mathlib.Core.List.{List, []}
 use Prim.Native.Nat.{ℕ}
 use lib.ListN.{length, drop}

@@ -15,7 +15,7 @@ ghost use lib.Dec.{eqb};
 ghost use lib.ListN.{length};
 ghost use Rattle.room.specs.Room.{written};
 ghost use Rattle.sound.specs.Format.{isSet, chosen, masked, formatOf, possibleFormat, possibleSound, firstSound, afresh as afreshAs, goingOn};
-ghost use Rattle.sound.specs.Step.{roomAfter, even, sampleBytes, exact, output, soundAfter, enough, Writable, dataStep, silence, silenceStep};
+ghost use Rattle.sound.specs.Step.{roomAfter, even, sampleBytes, exact, output, soundAfter, enough, Writable, dataStep, silenceStep};
 ghost use Rattle.sound.specs.Sound.{heardAs, answer, initializeAudio, audioData, audioSilence};
 
 // What the last 03 said. wide: 16-bit samples, else 8-bit. compressed: 16-bit samples by steps.
@@ -335,8 +335,9 @@ pub fn audio_silence(sound: Sound, body: &[u8], room: &mut [u8]) -> Heard
     Heard::Taken(sound, 0)
 }
 
-// A packet's sound then, where its samples are dropped.
-fn sound_after(sound: Sound, stereo: bool, compressed: bool, data: &[u8]) -> Sound
+// A packet's sound then, where its samples are dropped. none has no byte, here and below.
+fn sound_after(sound: Sound, stereo: bool, compressed: bool, data: &[u8], none: &mut [u8]) -> Sound
+    requires { ⌜ length (now none) ≡ 0 ⌝ }
     ensures { λ r. ⌜ r ≡ soundAfter sound stereo compressed (now («data» .entry)) ⌝ }
 {
     if compressed {
@@ -344,7 +345,7 @@ fn sound_after(sound: Sound, stereo: bool, compressed: bool, data: &[u8]) -> Sou
             next: sound.left,
             other: sound.right,
         };
-        let then = last_of_packet(stereo, sound.begun, last, data);
+        let then = last_of_packet(stereo, sound.begun, last, data, none);
         return sound.going_on(then);
     }
     sound
@@ -358,14 +359,16 @@ fn drop_data(
     compressed: bool,
     count: usize,
     data: &[u8],
+    none: &mut [u8],
 ) -> Heard
     requires { ⌜ count < 65536 ⌝ }
+    requires { ⌜ length (now none) ≡ 0 ⌝ }
     ensures { λ r. ⌜ ((room : ℕ) → enough ≤ room → heardAs r ≡ answer (dataStep sound stereo wide compressed count (now («data» .entry)) room)) ⌝ }
 {
     if is_even(stereo, count) {
         if is_exact(stereo, wide, compressed, sound.begun, count, data.len()) {
             let bytes = count * sample_bytes(wide, compressed);
-            let next = sound_after(sound, stereo, compressed, data);
+            let next = sound_after(sound, stereo, compressed, data, none);
             return Heard::Taken(next, bytes);
         }
     }
@@ -385,7 +388,8 @@ fn drop_silence(sound: Sound, stereo: bool, wide: bool, compressed: bool, count:
 }
 
 // Opcode 08 where its samples are dropped: it answers as in every room that is always enough, so 19 is not met.
-pub fn drop_audio_data(sound: Sound, body: &[u8]) -> Heard
+pub fn drop_audio_data(sound: Sound, body: &[u8], none: &mut [u8]) -> Heard
+    requires { ⌜ length (now none) ≡ 0 ⌝ }
     ensures { λ r. ⌜ ((room : ℕ) → enough ≤ room → heardAs r ≡ answer (audioData sound (now (body .entry)) room)) ⌝ }
 {
     if is_masked(sound.stream, word_at(body, 2)) {
@@ -403,6 +407,7 @@ pub fn drop_audio_data(sound: Sound, body: &[u8]) -> Heard
                 compressed,
                 word_at(body, 4),
                 part_from(body, 6),
+                none,
             ),
         };
     }

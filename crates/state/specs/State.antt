@@ -9,7 +9,6 @@ use Rattle.refusal.specs.Number.{Verdict, accept, refuse}
 use Rattle.packet.specs.Packet.{pixels}
 use Rattle.packet.specs.Verdict.{legalSize}
 use Rattle.sound.specs.Format.{possibleSound}
-use Rattle.state.specs.declared.Cursor.{Cursor}
 use Rattle.state.specs.declared.Map.{Map}
 use Rattle.state.specs.declared.Map.the-variants.{Missing, Part}
 use Rattle.state.specs.declared.State.{State}

@@ -10,7 +10,7 @@ use lib.Dec.{ltb}
 use lib.ListN.{length, getD, set, take, drop, length-set, length-take, length-drop}
 use lib.Seq.{getD-set-same, getD-set-other, getD-take, getD-drop, ext-getD, take-all, take-take}
 use Rattle.stores.specs.Stores.{Plan, due, Memory, memory, run, firstPixels, after}
-use Rattle.stores.specs.Calls.{Call, refused, allowed, leaveCut}
+use Rattle.stores.specs.Calls.{Call, allowed, leaveCut}
 use Rattle.stores.proofs.Steps.{after-end, after-part, after-block, by-blocks}
 use Rattle.stores.proofs.Pixels.{first-none, first-suc}
 

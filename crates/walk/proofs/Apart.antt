@@ -25,11 +25,11 @@ use Rattle.state.specs.declared.Map.the-variants.{Missing, Part}
 use Rattle.state.specs.declared.State.{State}
 use Rattle.heads.specs.declared.Opcode.{Opcode}
 use Rattle.heads.specs.Heads.{hears}
-use Rattle.next.specs.Next.{Standing, nextOf}
+use Rattle.next.specs.Next.{Standing}
 use Rattle.next.specs.Next as found
-use Rattle.opcodes.specs.Opcodes.{heardStep, drawnAs, drawnStep}
+use Rattle.opcodes.specs.Opcodes.{heardStep, drawnAs}
 use Rattle.film.specs.Film.{Lent, withRoom, swap, Outcome, after, called, drawSecond, drawOn, part, drawBy, act, heardBy, hear, takeOn, standing, stepOf}
-use Rattle.walk.specs.Apart.{RoomKept, OthersKept, AtSound, Apart}
+use Rattle.walk.specs.Apart.{RoomKept, OthersKept, Apart}
 
 silent-by : (l : Lent) (b : Bool) {x y : Outcome} → RoomKept l x → RoomKept l y → RoomKept l (cond b x y)
 silent-by l true p q = p

@@ -7,7 +7,6 @@ use mathlib.Core.List.{List}
 use Prim.Native.Nat.{ℕ, _+_}
 use lib.Dec.{eqb}
 use lib.ListN.{length, take, drop}
-use Rattle.refusal.specs.Number.{Verdict, refuse}
 use Rattle.packet.specs.declared.Touched.the-variants.{None}
 use Rattle.packet.specs.Packet.{pixels}
 use Rattle.packet.specs.Verdict.{legalSize}
@@ -31,12 +30,11 @@ use Rattle.state.specs.State.{area, lentVerdict}
 use Rattle.sound.specs.Format.{chosen}
 use Rattle.sound.specs.Step as sound
 use Rattle.sound.specs.Sound.{answer}
-use Rattle.heads.specs.declared.Opcode.{Opcode}
 use Rattle.heads.specs.Heads.{hears}
 use Rattle.next.specs.Next.{Standing, nextOf}
 use Rattle.next.specs.Next as found
 use Rattle.opcodes.specs.Opcodes.{quiet, heardStep, paletteAnswer, drawnStep}
-use Rattle.film.specs.Film.{Lent, withPalette, swap, Outcome, after, called, drawSecond, drawOn, part, drawBy, update, act, actOn, heardBy, hear, takeOn, standing, stepOf}
+use Rattle.film.specs.Film.{Lent, swap, Outcome, after, called, drawSecond, drawOn, part, drawBy, update, act, heardBy, hear, takeOn, standing, stepOf}
 use Rattle.walk.specs.Beyond.{bytes, KeptFrom, Unwritten, SameTo, SameSteps, Unread}
 
 -- ---- a drawing call of any size

@@ -1,9 +1,9 @@
 -- A step answers "whole" or "unfinished" exactly when `Draws` holds: `draws-exactly`.
 -- Assumes nothing.
-use mathlib.Core.Path.{_≡_, refl, sym, ap, _∙_, subst}
+use mathlib.Core.Path.{_≡_, refl, ap, _∙_}
 use mathlib.Core.Bool.{Bool, true, false, cond}
 use mathlib.Core.List.{List}
-use Prim.Native.Nat.{ℕ, _+_, _-_, _*_, _≤_, _<_}
+use Prim.Native.Nat.{ℕ, _+_, _-_, _≤_}
 use native.Mathlib.Omega.{arith}
 use borrow.Author.Tests.{ltb-false, ne-eqb, eqb-true}
 use lib.Dec.{eqb, ltb}
@@ -13,7 +13,6 @@ use Rattle.words.proofs.Tests.{not-first, first}
 use Rattle.refusal.specs.Number.{Verdict, accept, refuse}
 use Rattle.packet.specs.declared.Touched.{Touched}
 use Rattle.packet.specs.Verdict.{legalSize}
-use Rattle.packet.specs.Accepted.{Accepts}
 use Rattle.packet.proofs.Sizes.{is-size}
 use Rattle.stores.specs.Stores.{Memory, memory}
 use Rattle.stores.specs.Calls.{answered, outcome}
@@ -37,9 +36,9 @@ use Rattle.next.specs.Next as found
 use Rattle.palette.specs.Gradient.{createGradient}
 use Rattle.palette.specs.Entries.{setPalette}
 use Rattle.palette.specs.Mask.{setPaletteCompressed}
-use Rattle.opcodes.specs.Opcodes.{Answer, taken, whole, unfinished, ended, refused, quiet, sizeAnswer, colourOf, quietAnswer, heardStep, paletteAnswer, drawnAs, drawnStep}
-use Rattle.film.specs.Film.{Lent, withPictures, swap, Outcome, after, called, drawSecond, drawOn, part, drawBy, update, act, actOn, heardBy, hear, takeOn, standing, stepOf}
-use Rattle.walk.specs.Draws.{bodyOf, packetOf, Draws, Drew}
+use Rattle.opcodes.specs.Opcodes.{Answer, taken, ended, refused, quiet, sizeAnswer, colourOf, quietAnswer, heardStep, paletteAnswer, drawnAs, drawnStep}
+use Rattle.film.specs.Film.{Lent, withPictures, swap, after, called, drawSecond, drawOn, part, drawBy, update, act, actOn, heardBy, hear, takeOn, standing, stepOf}
+use Rattle.walk.specs.Draws.{bodyOf, Draws, Drew}
 
 -- ---- a drawing call that is not refused
 

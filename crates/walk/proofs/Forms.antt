@@ -4,15 +4,14 @@ use mathlib.Core.Path.{_≡_, refl, sym, ap, _∙_, subst}
 use mathlib.Core.Logic.{_⊎_, inl, inr}
 use mathlib.Core.Bool.{Bool, true, false, cond}
 use mathlib.Core.List.{List}
-use Prim.Native.Nat.{ℕ, _+_, _≤_, _<_}
+use Prim.Native.Nat.{ℕ, _+_, _≤_}
 use native.Mathlib.Decide.{decLt}
 use native.Mathlib.Omega.{arith}
 use lib.Dec.{eqb}
 use lib.ListN.{length}
-use Rattle.refusal.specs.Number.{Verdict, accept, refuse}
+use Rattle.refusal.specs.Number.{Verdict}
 use Rattle.packet.specs.Packet.{packet, blocks, start}
 use Rattle.packet.specs.Verdict.{default, strict}
-use Rattle.packet.specs.Accepted.{Accepts}
 use Rattle.packet.specs.Forms.{OneOver}
 use Rattle.stores.specs.Stores.{Memory, memory}
 use Rattle.stores.specs.Calls.{leave, outcome}

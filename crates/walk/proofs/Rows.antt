@@ -5,7 +5,7 @@ use mathlib.Core.Bool.{Bool, true, false, cond}
 use mathlib.Core.List.{List}
 use Prim.Native.Nat.{ℕ, _+_}
 use lib.Dec.{eqb}
-use lib.ListN.{length, getD}
+use lib.ListN.{length}
 use Rattle.refusal.specs.Number.{Verdict, accept, refuse}
 use Rattle.packet.specs.declared.Touched.{Touched}
 use Rattle.packet.specs.Rows.{Outside}
@@ -23,7 +23,7 @@ use Rattle.heads.specs.Heads.{hears}
 use Rattle.next.specs.Next.{Standing, nextOf}
 use Rattle.next.specs.Next as found
 use Rattle.opcodes.specs.Opcodes.{drawnAs, drawnStep}
-use Rattle.film.specs.Film.{Lent, swap, Outcome, after, called, drawSecond, drawOn, part, drawBy, act, hear, takeOn, standing, stepOf}
+use Rattle.film.specs.Film.{Lent, swap, Outcome, called, drawSecond, drawOn, part, drawBy, act, hear, takeOn, standing, stepOf}
 use Rattle.walk.specs.Rows.{PixelKept, Unchanged}
 
 -- what lies outside the rows that an outcome tells stays

@@ -1,9 +1,9 @@
 -- `step-moves`, `step-keeps`: of every step. `walked-far`, `walked-few`: of every walk.
 -- Assumes nothing.
-use mathlib.Core.Path.{_≡_, refl, sym, ap, _∙_, subst}
+use mathlib.Core.Path.{_≡_, refl, ap, subst}
 use mathlib.Core.Bool.{Bool, true, false, cond}
 use mathlib.Core.List.{List}
-use Prim.Native.Nat.{ℕ, zero, suc, _+_, _-_, _*_, _≤_, _<_}
+use Prim.Native.Nat.{ℕ, _+_, _-_, _*_, _≤_}
 use native.Mathlib.Omega.{arith}
 use lib.Dec.{eqb}
 use lib.ListN.{length}
@@ -11,11 +11,11 @@ use Rattle.words.specs.Word.{wordAt}
 use Rattle.refusal.specs.Number.{Verdict, accept, refuse}
 use Rattle.packet.specs.declared.Touched.{Touched}
 use Rattle.packet.specs.Verdict.{legalSize}
-use Rattle.stores.specs.Stores.{Plan, Memory, memory, count, after as afterStores}
-use Rattle.stores.specs.Calls.{Call, allowed as allows, refused as denied, answered, leave, outcome, step, reply}
+use Rattle.stores.specs.Stores.{Plan, memory, count, after as afterStores}
+use Rattle.stores.specs.Calls.{Call, allowed as allows, refused as denied, answered, leave, outcome, step}
 use Rattle.draw.specs.Drawing.{plan}
 use Rattle.draw.specs.declared.Allowed.{Allowed}
-use Rattle.draw.specs.Call.{Request, request, packetOf, drawVerdict, Reason, comes, calling, rowsOf}
+use Rattle.draw.specs.Call.{Request, request, packetOf, drawVerdict, Reason, comes, rowsOf}
 use Rattle.palette.specs.Store.{applied}
 use Rattle.palette.specs.Update.{Update, verdictOn, onAccept, paletteAfter}
 use Rattle.palette.specs.Gradient.{createGradient}
@@ -24,18 +24,17 @@ use Rattle.palette.specs.Mask.{setPaletteCompressed}
 use Rattle.state.specs.declared.Map.{Map}
 use Rattle.state.specs.declared.Map.the-variants.{Missing, Part}
 use Rattle.state.specs.declared.State.{State}
-use Rattle.state.specs.Moves.{cursorBehind, cursorAtEnd, at, behind, into, atEnd, sized, sent, mapped, heard, finished}
+use Rattle.state.specs.Moves.{cursorBehind, cursorAtEnd, at, behind, atEnd, sized, sent, mapped, heard, finished}
 use Rattle.sound.specs.declared.Sound.{Sound}
 use Rattle.sound.specs.Format.{chosen}
 use Rattle.sound.specs.Step as sound
 use Rattle.sound.specs.Sound.{answer}
-use Rattle.heads.specs.declared.Opcode.{Opcode}
 use Rattle.heads.specs.Heads.{hears}
 use Rattle.next.specs.Next.{Standing, nextOf}
 use Rattle.next.specs.Next as found
 use Rattle.next.proofs.Standing.{found-ready, found-chunk}
 use Rattle.opcodes.specs.Opcodes.{Answer, Step, taken, whole, unfinished, ended, refused, quiet, sizeAnswer, colourOf, quietAnswer, heardStep, paletteAnswer, drawnAs}
-use Rattle.film.specs.Film.{Lent, withPalette, withPictures, withRoom, swap, Outcome, after, called, drawSecond, drawOn, part, drawBy, update, act, heardBy, hear, takeOn, standing, stepOf}
+use Rattle.film.specs.Film.{Lent, withPalette, withPictures, withRoom, swap, Outcome, after, called, drawOn, part, drawBy, update, act, heardBy, hear, takeOn, standing, stepOf}
 use Rattle.walk.specs.Walk.{Forward, Moves, Still, Keeps, GoesTo, Walked, none, more}
 
 -- what holds of a step

@@ -2,7 +2,7 @@
 -- and makes no store; what it writes is no longer than the room, and behind it the room stays. Every other step leaves the room and writes no byte.
 -- Assumes nothing.
 use mathlib.Core.Path.{_≡_}
-use mathlib.Core.Bool.{true, false}
+use mathlib.Core.Bool.{true}
 use mathlib.Core.List.{List}
 use Prim.Native.Nat.{ℕ, _≤_}
 use lib.ListN.{length, drop}

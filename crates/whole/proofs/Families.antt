@@ -11,20 +11,21 @@ use Rattle.pattern.specs.declared.Form.{Form}
 use Rattle.pattern.specs.Form.{Shape, shape}
 use Rattle.pattern.specs.Pattern.{patternSource}
 use Rattle.motion.specs.declared.Vector.{Vector}
-use Rattle.motion.specs.Motion.{rasterIndex, copiedIndex, Short}
-use Rattle.motion.proofs.Vectors.{inside-each}
+use Rattle.motion.specs.Motion.{negated, rasterIndex, copiedIndex, Short, Onward}
+use Rattle.motion.proofs.Vectors.{ahead-onward, negated-twice, inside-each, onward-past}
 use Rattle.block.specs.declared.Source.{Source}
 use Rattle.block.specs.declared.Source.the-variants.{Data, Front, Back}
 use Rattle.block.specs.Block.{Side, pixels, Kind, same, patterned, celled, dithered, kindOf, dataLength, cellSource, ditherSource, source, fetched}
 use Rattle.block.specs.Asked.{vectorOf}
-use Rattle.block.proofs.Codes.{kind-0, kind-1, copy-judged}
+use Rattle.block.proofs.Codes.{kind-0, kind-1, kind-back, copy-judged}
 use Rattle.pixel.proofs.Sources.{same-source, back-source, front-source, form-source-is, cell-source-is, dither-source-is}
 use Rattle.stores.specs.Stores.{firstPixels}
 use Rattle.stores.proofs.Pixels.{first-agree}
 use Rattle.paint.specs.Paint.{single, fixedValue, backValue}
 use Rattle.paint.specs.Value.{pixelCount, pixelValue, blockPlan}
 use Rattle.paint.specs.Asked.{Square, Canvas, Drawable}
-use Rattle.whole.specs.Asked.{Pointed}
+use Rattle.rows.specs.Row.{Apart}
+use Rattle.whole.specs.Asked.{Pointed, Clear}
 
 -- ---- the picture
 
@@ -61,6 +62,18 @@ module _ (w h x y front back : ℕ) (c : Canvas w h x y front back) where
           back-room = c .back-room;
         }
 
+    -- none of its rows overlaps the block's
+    pub pointed-apart : Clear v → Apart (rasterIndex w (x + v .right - v .left) (y + v .down - v .up) 0) (rasterIndex w x y 0)
+    unfolding negated
+    pointed-apart clear =
+        let i = inside-each v w h x y (p .inside) in
+        let x′ : ℕ = x + v .right - v .left in
+        let y′ : ℕ = y + v .down - v .up in
+        ⊎-elim
+        (λ on. omega (arith, onward-past w x y x′ y′ v on (c .across) (omega (arith, i .left)) (omega (arith, i .up))))
+        (λ on. omega (arith, onward-past w x′ y′ x y (negated v) on (omega (arith, i .left, i .right)) (omega (arith, i .left)) (omega (arith, i .up))))
+        clear
+
 pub pointed-front : (w h x y front back : ℕ) → Canvas w h x y front back → (v : Vector) → Pointed v w h x y → Square w (x + v .right - v .left) (y + v .down - v .up) front
 pointed-front w h x y front back c v p = front-square _ _ _ _ _ _ (pointed-canvas w h x y front back c v p)
 
@@ -90,6 +103,14 @@ form-painted f g q target s b b′ n e k h =
     subst (λ (x : Shape). b′ ≡ firstPixels (single target (fixedValue (patternSource x s) s)) 0 b n) (sym (ap shape e ∙ k)) h
 
 -- ---- what each kind asks
+
+-- the vector of code 2 or 3 leads on or back
+pub copy-clear : (code : ℕ) (s : List ℕ) (v : Vector) → 1 < code → code < 4 → v ≡ vectorOf (kindOf code s) → Clear v
+unfolding vectorOf
+copy-clear code s v g l e =
+    ⊎-elim (λ k. inl (subst Onward (sym (e ∙ ap vectorOf k)) (ahead-onward _)))
+    (λ k. inr (subst Onward (sym (ap negated (e ∙ ap vectorOf k) ∙ negated-twice _)) (ahead-onward _)))
+    (kind-back s code g l)
 
 module _ (code : ℕ) (s : List ℕ) (w h x y n : ℕ) (d : Drawable code s w h x y n) where
   -- the vector of code 2 to 5 points inside

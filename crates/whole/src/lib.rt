@@ -23,7 +23,7 @@ ghost use Rattle.stores.specs.Stores.{firstPixels};
 ghost use Rattle.paint.specs.Paint.{single, fixedValue, backValue};
 ghost use Rattle.paint.specs.Value.{pixelCount, blockPlan};
 ghost use Rattle.paint.specs.Asked.{Square, Canvas, Drawable};
-ghost use Rattle.whole.specs.Asked.{Pointed};
+ghost use Rattle.whole.specs.Asked.{Pointed, Clear};
 
 // A copy of the 8x8 of front that v points at.
 fn front_by(v: Vector, front: &[u8], back: &mut [u8], w: usize, h: usize, x: usize, y: usize)
@@ -43,7 +43,7 @@ fn front_by(v: Vector, front: &[u8], back: &mut [u8], w: usize, h: usize, x: usi
 
 // A copy of the 8x8 of back that v points at.
 fn back_by(v: Vector, back: &mut [u8], w: usize, h: usize, x: usize, y: usize)
-    requires { ⌜ Pointed v w h x y × Canvas w h x y (length (now back)) (length (now back)) ⌝ }
+    requires { ⌜ Pointed v w h x y × Clear v × Canvas w h x y (length (now back)) (length (now back)) ⌝ }
     ensures { λ _. ⌜ now (back .exit) ≡ firstPixels (single (rasterIndex w x y) (backValue (copiedIndex v w x y))) 0 (now (back .entry)) 64 ⌝ }
 {
     whole_back(back, w, x + v.right - v.left, y + v.down - v.up, x, y)

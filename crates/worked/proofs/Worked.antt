@@ -1,8 +1,7 @@
 -- Every marked case holds: one theorem over one list.
 -- Assumes nothing.
 use mathlib.Core.Path.{_≡_, refl}
-use mathlib.Core.List.{List, map}
-use Prim.Native.Nat.{ℕ}
+use mathlib.Core.List.{map}
 use Rattle.pattern.specs.Form.{falling, form7, form8}
 use Rattle.pattern.specs.Pattern.{colours, cells, partLength, patternLength, partStart, fieldNumber, fieldAt, patternSource}
 use Rattle.motion.specs.Motion.{aheadVector, nearVector, pointsInside, rasterIndex, copiedIndex}

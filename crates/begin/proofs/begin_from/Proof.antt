@@ -3,7 +3,7 @@ use mathlib.Core.Path.{ap}
 use mathlib.Core.Bool.{cond}
 use lib.ListN.{length}
 use Rattle.begin.specs.Begin.{turnAs}
-use Rattle.begin.proofs.Until.{short-stops, Passes, passes-start, passes-early, passes-judged, passes-stored, passes-again, passes-stops, passes-sized, turn-less, again-less}
+use Rattle.begin.proofs.Until.{short-stops, Passes, passes-kept, passes-start, passes-early, passes-judged, passes-stored, passes-again, passes-stops, passes-sized, turn-less, again-less}
 use borrow.Author.Needs.{needs}
 use Rattle.begin.proofs.begin_from.Statement.{statement}
 use Rattle.begin.proofs.begin_from.Tie as tie
@@ -25,34 +25,34 @@ loop-holds : tie.Need-loop-holds Inv-loop μ-loop
 loop-holds c = passes-start _ _ _ _ (c .if1 .left) (c .before .before .before .pre)
 
 foresee-requires : tie.Need-foresee-requires Inv-loop μ-loop
-foresee-requires c κs = passes-early _ _ _ _ _ _ _ _ (c .before .before .loop .inv) (c .if2 .taken)
+foresee-requires c κs = passes-early _ _ _ _ _ _ _ _ (c .before .before .before .loop .inv) (c .before .if2 .taken)
 
 enum-known-next : tie.Need-enum-known-next Inv-loop μ-loop
 enum-known-next c = search needs
 
 store-requires : tie.Need-store-requires Inv-loop μ-loop
-store-requires c κs = (passes-early _ _ _ _ _ _ _ _ (c .before .before .before .before .before .before .before .before .before .loop .inv) (c .before .before .before .before .before .before .before .if2 .taken), c .before .before .before .before .before .before .before .before .before .loop .inv .long)
+store-requires c κs = (passes-early _ _ _ _ _ _ _ _ (c .before .before .before .before .before .before .before .before .before .before .before .before .loop .inv) (c .before .before .before .before .before .before .before .before .before .before .if2 .taken), (passes-kept _ _ _ _ _ _ _ _ _ (c .before .before .before .before .before .before .before .before .foresee .ensures .1) (c .before .before .before .before .before .before .before .before .before .before .before .before .loop .inv)) .long)
 
 loop-less : tie.Need-loop-less Inv-loop μ-loop
-loop-less c = turn-less _ _ _ _ _ _ _ _ (c .before .before .before .before .before .before .before .before .before .before .before .before .loop .inv) (c .before .before .before .before .before .before .before .before .before .before .if2 .taken) (c .before .before .before .before .before .before .before .before .before .foresee .result) (c .before .before .before .before .before .before .before .before .before .foresee .ensures) _ (ap turnAs (c .before .before .before .before .before .before .before .next .given .1)) _
+loop-less c = turn-less _ _ _ _ _ _ _ _ (c .before .before .before .before .before .before .before .before .before .before .before .before .before .before .before .loop .inv) (c .before .before .before .before .before .before .before .before .before .before .before .before .before .if2 .taken) (c .before .before .before .before .before .before .before .before .before .before .before .foresee .result) (c .before .before .before .before .before .before .before .before .before .before .before .foresee .ensures .0) _ (ap turnAs (c .before .before .before .before .before .before .before .next .given .1)) _
 
 loop-again : tie.Need-loop-again Inv-loop μ-loop
-loop-again c = passes-stored _ _ _ _ _ _ _ _ (c .before .before .before .before .before .before .before .before .before .before .before .before .loop .inv) (c .before .before .before .before .before .before .before .before .before .before .if2 .taken) (c .before .before .before .before .before .before .before .before .before .foresee .result) (c .before .before .before .before .before .before .before .before .before .foresee .ensures) _ (ap turnAs (c .before .before .before .before .before .before .before .next .given .1)) (c .before .before .before .before .before .if3 .taken) _ _ (c .before .before .store .ensures .0) (c .before .before .store .ensures .1) (c .before .before .store .kept .1 .1 .0)
+loop-again c = passes-stored _ _ _ _ _ _ _ _ (passes-kept _ _ _ _ _ _ _ _ _ (c .before .before .before .before .before .before .before .before .before .before .before .foresee .ensures .1) (c .before .before .before .before .before .before .before .before .before .before .before .before .before .before .before .loop .inv)) (c .before .before .before .before .before .before .before .before .before .before .before .before .before .if2 .taken) (c .before .before .before .before .before .before .before .before .before .before .before .foresee .result) (c .before .before .before .before .before .before .before .before .before .before .before .foresee .ensures .0) _ (ap turnAs (c .before .before .before .before .before .before .before .next .given .1)) (c .before .before .before .before .before .if3 .taken) _ _ (c .before .before .store .ensures .0) (c .before .before .store .ensures .1) (c .before .before .store .kept .1 .1 .0)
 
 loop-less-2 : tie.Need-loop-less-2 Inv-loop μ-loop
-loop-less-2 c = turn-less _ _ _ _ _ _ _ _ (c .before .before .before .before .before .before .before .loop .inv) (c .before .before .before .before .before .if2 .taken) (c .before .before .before .before .foresee .result) (c .before .before .before .before .foresee .ensures) _ (ap turnAs (c .before .before .next .given .1)) _
+loop-less-2 c = turn-less _ _ _ _ _ _ _ _ (c .before .before .before .before .before .before .before .before .before .before .loop .inv) (c .before .before .before .before .before .before .before .before .if2 .taken) (c .before .before .before .before .before .before .foresee .result) (c .before .before .before .before .before .before .foresee .ensures .0) _ (ap turnAs (c .before .before .next .given .1)) _
 
 loop-again-2 : tie.Need-loop-again-2 Inv-loop μ-loop
-loop-again-2 c = passes-judged _ _ _ _ _ _ _ _ (c .before .before .before .before .before .before .before .loop .inv) (c .before .before .before .before .before .if2 .taken) (c .before .before .before .before .foresee .result) (c .before .before .before .before .foresee .ensures) _ (ap turnAs (c .before .before .next .given .1)) (c .if3 .left)
+loop-again-2 c = passes-judged _ _ _ _ _ _ _ _ (passes-kept _ _ _ _ _ _ _ _ _ (c .before .before .before .before .before .before .foresee .ensures .1) (c .before .before .before .before .before .before .before .before .before .before .loop .inv)) (c .before .before .before .before .before .before .before .before .if2 .taken) (c .before .before .before .before .before .before .foresee .result) (c .before .before .before .before .before .before .foresee .ensures .0) _ (ap turnAs (c .before .before .next .given .1)) (c .if3 .left)
 
 enum-known-r : tie.Need-enum-known-r Inv-loop μ-loop
 enum-known-r c = search needs
 
 same-length : tie.Need-same-length Inv-loop μ-loop
-same-length c = c .before .before .before .before .before .before .loop .inv .same
+same-length c = (passes-kept _ _ _ _ _ _ _ _ _ (c .before .before .before .before .before .foresee .ensures .1) (c .before .before .before .before .before .before .before .before .before .loop .inv)) .same
 
 returns-2 : tie.Need-returns-2 Inv-loop μ-loop
-returns-2 c = passes-stops _ _ _ _ _ _ _ _ (c .before .before .before .before .before .before .loop .inv) (c .before .before .before .before .if2 .taken) (c .before .before .before .foresee .result) (c .before .before .before .foresee .ensures) _ _ (ap turnAs (c .before .r .given .1))
+returns-2 c = passes-stops _ _ _ _ _ _ _ _ (passes-kept _ _ _ _ _ _ _ _ _ (c .before .before .before .before .before .foresee .ensures .1) (c .before .before .before .before .before .before .before .before .before .loop .inv)) (c .before .before .before .before .before .before .before .if2 .taken) (c .before .before .before .before .before .foresee .result) (c .before .before .before .before .before .foresee .ensures .0) _ _ (ap turnAs (c .before .r .given .1))
 
 same-length-2 : tie.Need-same-length-2 Inv-loop μ-loop
 same-length-2 c = c .before .before .before .loop .inv .same

@@ -30,8 +30,11 @@ heard-step-requires-3 c κs = search needs
 returns : tie.Need-returns
 returns c = λ l big. drops-format _ _ _ _ _ _ (c .before .initialize-audio .result) (c .heard-step .ensures) l (c .before .before .match .keys1) (c .before .initialize-audio .ensures)
 
+same-length : tie.Need-same-length
+same-length c = search needs
+
 returns-2 : tie.Need-returns-2
-returns-2 c = λ l big. drops-data _ _ _ _ _ _ (c .before .drop-audio-data .result) (c .heard-step2 .ensures) l (c .before .before .match .keys2) (c .before .drop-audio-data .ensures _ big)
+returns-2 c = λ l big. drops-data _ _ _ _ _ _ (c .before .before .before .drop-audio-data .result) (c .heard-step2 .ensures) l (c .before .before .before .before .before .match .keys2) (c .before .before .before .drop-audio-data .ensures _ big)
 
 returns-3 : tie.Need-returns-3
 returns-3 c = λ l big. drops-silence _ _ _ _ _ _ (c .before .drop-audio-silence .result) (c .heard-step3 .ensures) l (c .before .before .match .rest .0 .1) (c .before .before .match .rest .1) (c .before .drop-audio-silence .ensures _ big)
@@ -47,5 +50,6 @@ drop-sound-spec =
     drop-audio-silence-requires
     heard-step-requires-3
     returns
+    same-length
     returns-2
     returns-3)

@@ -30,8 +30,11 @@ part-drop-sound-end c = search needs
 drop-sound-requires : tie.Need-drop-sound-requires
 drop-sound-requires c κs = search needs
 
+same-length : tie.Need-same-length
+same-length c = search needs
+
 returns : tie.Need-returns
-returns c = λ l allowed g big. takes-dropped _ _ _ _ _ (c .before .before .before .before .before .is-chosen .ensures) (c .before .before .before .before .is-heard .ensures) l allowed (c .before .before .before .if1 .taken) _ (c .drop-sound .ensures l big)
+returns c = λ l allowed g big. takes-dropped _ _ _ _ _ (c .before .before .before .before .before .before .before .before .is-chosen .ensures) (c .before .before .before .before .before .before .before .is-heard .ensures) l allowed (c .before .before .before .before .before .before .if1 .taken) _ (c .before .before .drop-sound .ensures l big)
 
 act-requires : tie.Need-act-requires
 act-requires c κs = search needs
@@ -50,6 +53,7 @@ take-spec =
     part-drop-sound-start
     part-drop-sound-end
     drop-sound-requires
+    same-length
     returns
     act-requires
     returns-2)

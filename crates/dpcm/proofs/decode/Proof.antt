@@ -1,69 +1,49 @@
-use Prim.Native.Nat.{_-_}
 use native.Mathlib.Omega.{arith}
 use borrow.Author.Needs.{needs}
-use lib.ListN.{length}
-use Rattle.dpcm.proofs.Decoding.{Decoding, decoding-start, decoding-more, decoding-length, decoded}
+use Rattle.dpcm.proofs.Passes.{mono-decoded, even-decoded, odd-decoded}
 use Rattle.dpcm.proofs.decode.Statement.{statement}
 use Rattle.dpcm.proofs.decode.Tie as tie
 use Rattle.dpcm.proofs.decode.Reads as reads
 use Rattle.dpcm.proofs.decode.Lts as lts
-use Rattle.dpcm.proofs.Last.turned.Reads as turned-reads
-use Rattle.dpcm.proofs.put_sample.Reads as put-sample-reads
-use Rattle.dpcm.proofs.sample_after.Reads as sample-after-reads
+use Rattle.dpcm.proofs.decode_channel.Reads as decode-channel-reads
 
-abbrev Inv-loop : tie.InvT-loop
-Inv-loop stereo «data» room₀ last₀ i₀ room last i = Decoding stereo last₀ «data» room₀ room last i
+decode-channel-requires : tie.Need-decode-channel-requires
+decode-channel-requires c κs = search needs
 
-abbrev μ-loop : tie.MeasureT-loop
-μ-loop stereo «data» room₀ last₀ i₀ room last i = length «data» - i
+decode-channel-requires-2 : tie.Need-decode-channel-requires-2
+decode-channel-requires-2 c κs = (omega arith, (omega arith, λ h. let kept = c .before .before .before .decode-channel .kept .1 .1 .1 .1 .0 in omega (arith, kept, c .before .before .before .before .before .before .before .before .pre (omega (arith, kept)))))
 
-loop-holds : tie.Need-loop-holds Inv-loop μ-loop
-loop-holds c = decoding-start _ _ _ _
+same-length : tie.Need-same-length
+same-length c = search needs
 
-shared-slice-read-sample-after : tie.Need-shared-slice-read-sample-after Inv-loop μ-loop
-shared-slice-read-sample-after c = omega arith
+returns : tie.Need-returns
+returns c = even-decoded _ _ _ (c .before .before .before .before .before .before .before .before .before .before .before .before .pre) _ (c .before .before .before .before .before .before .before .before .before .if1 .taken) _ _ _ _ (c .before .before .before .before .before .before .before .decode-channel .ensures .0) (c .before .before .before .before .before .before .before .decode-channel .ensures .1) (c .before .before .before .decode-channel2 .ensures .0) (c .before .before .before .decode-channel2 .ensures .1) (c .if2 .taken)
 
-sample-after-requires : tie.Need-sample-after-requires Inv-loop μ-loop
-sample-after-requires c κs = search needs
+same-length-2 : tie.Need-same-length-2
+same-length-2 c = search needs
 
-mul-put-sample : tie.Need-mul-put-sample Inv-loop μ-loop
-mul-put-sample c = omega (arith, c .before .before .before .before .before .before .before .pre)
+returns-2 : tie.Need-returns-2
+returns-2 c = odd-decoded _ _ _ (c .before .before .before .before .before .before .before .before .before .before .before .before .pre) _ (c .before .before .before .before .before .before .before .before .before .if1 .taken) _ _ _ _ (c .before .before .before .before .before .before .before .decode-channel .ensures .0) (c .before .before .before .before .before .before .before .decode-channel .ensures .1) (c .before .before .before .decode-channel2 .ensures .0) (c .before .before .before .decode-channel2 .ensures .1) (c .if2 .left)
 
-put-sample-requires : tie.Need-put-sample-requires Inv-loop μ-loop
-put-sample-requires c κs = omega (arith, c .before .before .before .loop-test .taken, c .before .before .before .before .before .before .before .pre, decoding-length _ _ _ _ _ _ _ (c .before .before .before .before .loop .inv))
+decode-channel-requires-3 : tie.Need-decode-channel-requires-3
+decode-channel-requires-3 c κs = search needs
 
-turned-requires : tie.Need-turned-requires Inv-loop μ-loop
-turned-requires c κs = search needs
+same-length-3 : tie.Need-same-length-3
+same-length-3 c = search needs
 
-add-i : tie.Need-add-i Inv-loop μ-loop
-add-i c = omega arith
-
-loop-less : tie.Need-loop-less Inv-loop μ-loop
-loop-less c = omega arith
-
-loop-again : tie.Need-loop-again Inv-loop μ-loop
-loop-again c = decoding-more _ _ _ _ _ _ _ (c .before .before .before .before .before .before .before .before .loop .inv) (c .before .before .before .before .before .before .before .before .before .before .before .pre) (c .before .before .before .before .before .before .before .loop-test .taken) _ _ _ (c .before .before .before .before .before .sample-after .ensures) (c .before .before .before .put-sample .ensures) (c .turned .ensures)
-
-same-length : tie.Need-same-length Inv-loop μ-loop
-same-length c = decoding-length _ _ _ _ _ _ _ (c .before .loop .inv)
-
-returns : tie.Need-returns Inv-loop μ-loop
-returns c = decoded _ _ _ _ _ _ _ (c .before .loop .inv) (c .loop-test .left)
+returns-3 : tie.Need-returns-3
+returns-3 c = mono-decoded _ _ _ (c .before .before .before .before .before .before .before .pre) _ (c .before .before .before .before .if1 .left) _ _ (c .before .before .decode-channel3 .ensures .0) (c .before .before .decode-channel3 .ensures .1)
 
 pub decode-spec : {M : Type 1} → statement M
 decode-spec =
     tie.close
     (tie.spec
-    Inv-loop
-    μ-loop
-    loop-holds
-    shared-slice-read-sample-after
-    sample-after-requires
-    mul-put-sample
-    put-sample-requires
-    turned-requires
-    add-i
-    loop-less
-    loop-again
+    decode-channel-requires
+    decode-channel-requires-2
     same-length
-    returns)
+    returns
+    same-length-2
+    returns-2
+    decode-channel-requires-3
+    same-length-3
+    returns-3)

@@ -1,31 +1,57 @@
-use Rattle.dpcm.proofs.Packet.{more-fits, still-fits, more-decoded, first-is-decoded}
+use native.Mathlib.Omega.{arith}
+use Rattle.dpcm.proofs.Packet.{start-room, rest-fits, packet-decoded}
 use borrow.Author.Needs.{needs}
 use Rattle.dpcm.proofs.decode_packet.Statement.{statement}
 use Rattle.dpcm.proofs.decode_packet.Tie as tie
 use Rattle.dpcm.proofs.decode_packet.Reads as reads
 use Rattle.dpcm.proofs.decode_packet.Lts as lts
 use Rattle.dpcm.proofs.decode.Reads as decode-reads
-use Rattle.dpcm.proofs.decode_first.Reads as decode-first-reads
+use Rattle.dpcm.proofs.packet_first.Reads as packet-first-reads
+use Rattle.dpcm.proofs.put_leading.Reads as put-leading-reads
+use Rattle.dpcm.proofs.start_length.Reads as start-length-reads
+use Rattle.words.proofs.part_from.Reads as part-from-reads
+
+packet-first-requires : tie.Need-packet-first-requires
+packet-first-requires c κs = search needs
+
+put-leading-requires : tie.Need-put-leading-requires
+put-leading-requires c κs = start-room _ _ _ _ (c .before .before .before .before .pre)
+
+start-length-requires : tie.Need-start-length-requires
+start-length-requires c κs = search needs
+
+part-from-requires : tie.Need-part-from-requires
+part-from-requires c κs = search needs
+
+sub-decode : tie.Need-sub-decode
+sub-decode c = omega (arith, c .before .start-length .ensures, c .before .before .before .before .put-leading .kept .1 .1 .1 .0, start-room _ _ _ _ (c .before .before .before .before .before .before .before .before .before .pre))
+
+part-decode-start : tie.Need-part-decode-start
+part-decode-start c = omega (arith, c .before .start-length .ensures, c .before .before .before .before .put-leading .kept .1 .1 .1 .0, start-room _ _ _ _ (c .before .before .before .before .before .before .before .before .before .pre))
+
+part-decode-end : tie.Need-part-decode-end
+part-decode-end c = search needs
 
 decode-requires : tie.Need-decode-requires
-decode-requires c κs = more-fits _ _ _ _ (c .before .if1 .taken) (c .before .before .before .before .pre)
+decode-requires c κs = rest-fits _ _ (c .before .before .before .before .before .before .before .before .before .before .args .last) _ _ (c .before .before .before .before .before .before .before .packet-first .ensures) _ (c .before .before .start-length .ensures) _ (c .before .part-from .ensures) (c .before .before .before .before .before .before .before .before .before .before .args .room .now) (c .before .before .before .before .before .put-leading .last .1 .1 .1 .0) (c .before .before .before .before .before .before .before .before .before .before .pre) (c .before .before .before .before .before .put-leading .kept .1 .1 .1 .0)
 
 same-length : tie.Need-same-length
 same-length c = search needs
 
 returns : tie.Need-returns
-returns c = more-decoded _ _ _ _ _ _ _ (c .before .before .before .before .if1 .taken) (c .before .before .decode .ensures)
-
-decode-first-requires : tie.Need-decode-first-requires
-decode-first-requires c κs = still-fits _ _ _ _ (c .before .if1 .left) (c .before .before .before .before .pre)
-
-same-length-2 : tie.Need-same-length-2
-same-length-2 c = search needs
-
-returns-2 : tie.Need-returns-2
-returns-2 c = first-is-decoded _ _ _ _ _ _ _ (c .before .before .before .before .if1 .left) (c .before .before .decode-first .ensures)
+returns c = packet-decoded _ _ _ _ _ (c .before .before .before .before .before .before .before .before .before .before .packet-first .ensures) _ (c .before .before .before .before .before .start-length .ensures) _ (c .before .before .before .before .part-from .ensures) _ _ (c .before .before .before .before .before .before .before .before .before .before .before .before .before .pre) (c .before .before .before .before .before .before .before .before .put-leading .kept .1 .1 .1 .0) (c .before .before .before .before .before .before .before .before .put-leading .ensures) _ _ (c .before .before .decode .ensures)
 
 pub decode-packet-spec : {M : Type 1} → statement M
 decode-packet-spec =
     tie.close
-    (tie.spec decode-requires same-length returns decode-first-requires same-length-2 returns-2)
+    (tie.spec
+    packet-first-requires
+    put-leading-requires
+    start-length-requires
+    part-from-requires
+    sub-decode
+    part-decode-start
+    part-decode-end
+    decode-requires
+    same-length
+    returns)

@@ -1,3 +1,5 @@
+use native.Mathlib.Omega.{arith}
+use Rattle.dpcm.proofs.Decoding.{none-put}
 use borrow.Author.Needs.{needs}
 use Rattle.dpcm.proofs.put_sample.Statement.{statement}
 use Rattle.dpcm.proofs.put_sample.Tie as tie
@@ -9,16 +11,16 @@ cast-put : tie.Need-cast-put
 cast-put c = search needs
 
 put-requires : tie.Need-put-requires
-put-requires c κs = search needs
+put-requires c κs = omega (arith, c .before .before .before .pre (c .before .if1 .taken))
 
 add-put : tie.Need-add-put
-add-put c = search needs
+add-put c = omega (arith, c .before .before .before .before .before .before .before .pre (c .before .before .before .before .before .if1 .taken))
 
 cast-put-2 : tie.Need-cast-put-2
 cast-put-2 c = search needs
 
 put-requires-2 : tie.Need-put-requires-2
-put-requires-2 c κs = search needs
+put-requires-2 c κs = omega (arith, c .before .before .before .before .before .before .before .pre (c .before .before .before .before .before .if1 .taken), c .before .before .before .put .kept .0)
 
 same-length : tie.Need-same-length
 same-length c = search needs
@@ -26,7 +28,18 @@ same-length c = search needs
 returns : tie.Need-returns
 returns c = rw (c .before .before .put2 .ensures, c .before .before .before .before .before .before .put .ensures)
 
+returns-2 : tie.Need-returns-2
+returns-2 c = none-put _ _ _ _ _ (c .if1 .left)
+
 pub put-sample-spec : {M : Type 1} → statement M
 put-sample-spec =
     tie.close
-    (tie.spec cast-put put-requires add-put cast-put-2 put-requires-2 same-length returns)
+    (tie.spec
+    cast-put
+    put-requires
+    add-put
+    cast-put-2
+    put-requires-2
+    same-length
+    returns
+    returns-2)

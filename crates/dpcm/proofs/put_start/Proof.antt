@@ -10,10 +10,10 @@ use Rattle.dpcm.proofs.put_start.Lts as lts
 use Rattle.dpcm.proofs.put_sample.Reads as put-sample-reads
 
 put-sample-requires : tie.Need-put-sample-requires
-put-sample-requires c κs = start-fits (c .before .before .args .stereo) (c .before .before .args .first) (c .before .before .args .room .now) (c .before .before .pre)
+put-sample-requires c κs = λ h. start-fits (c .before .before .args .stereo) (c .before .before .args .first) (c .before .before .args .room .now) (c .before .before .pre)
 
 put-sample-requires-2 : tie.Need-put-sample-requires-2
-put-sample-requires-2 c κs = let n : 4 ≤ length (c .before .before .before .before .before .before .before .args .room .now) = rw (c .before .if1 .taken) at (c .before .before .before .before .before .before .before .pre) in omega (arith, n, c .before .before .before .before .put-sample .kept .0)
+put-sample-requires-2 c κs = λ h. let n : 4 ≤ length (c .before .before .before .before .before .before .before .args .room .now) = rw (c .before .if1 .taken) at (c .before .before .before .before .before .before .before .pre) in omega (arith, n, c .before .before .before .before .put-sample .kept .0)
 
 same-length : tie.Need-same-length
 same-length c = search needs

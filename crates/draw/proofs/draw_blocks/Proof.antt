@@ -5,7 +5,7 @@ use Rattle.block.specs.Block.{kindOf}
 use Rattle.paint.proofs.Counts.{count-few}
 use Rattle.packet.specs.Packet.{packet}
 use Rattle.packet.proofs.Walk.{blocks-few, mapped}
-use Rattle.draw.proofs.Going.{Going, small, going-start, going-end, going-length, canvas, drawable, at-small, right, below, going-stop, going-block}
+use Rattle.draw.proofs.Going.{Going, small, going-start, going-end, going-length, at-inside, canvas, drawable, at-small, right, below, going-stop, going-block}
 use borrow.Author.Needs.{needs}
 use Rattle.draw.proofs.draw_blocks.Statement.{statement}
 use Rattle.draw.proofs.draw_blocks.Tie as tie
@@ -18,7 +18,7 @@ use Rattle.packet.proofs.data_position.Reads as data-position-reads
 use Rattle.paint.proofs.paint_part.Reads as paint-part-reads
 use Rattle.paint.proofs.set_place.Reads as set-place-reads
 use Rattle.whole.proofs.paint_whole.Reads as paint-whole-reads
-use Rattle.words.proofs.part_from.Reads as part-from-reads
+use Rattle.draw.proofs.data_from.Reads as data-from-reads
 
 abbrev Inv-loop : tie.InvT-loop
 Inv-loop columns rows map «data» front back₀ place₀ allowed n w h k₀ at₀ left₀ x₀ y₀ back place k at left x y =
@@ -58,23 +58,23 @@ loop-holds c = going-start _ _ _ _ _ _ _ _ (c .before .before .before .before .b
 code-at-requires : tie.Need-code-at-requires Inv-loop μ-loop
 code-at-requires c κs = mapped _ _ (c .before .before .before .before .before .before .before .before .pre .sized) (c .loop-test .taken)
 
-part-from-requires : tie.Need-part-from-requires Inv-loop μ-loop
-part-from-requires c κs = search needs
+data-from-requires : tie.Need-data-from-requires Inv-loop μ-loop
+data-from-requires c κs = at-inside _ _ _ _ _ _ _ _ _ _ _ _ (c .before .before .loop .inv) (c .before .before .before .before .before .before .before .before .before .pre) (c .before .loop-test .taken)
 
 pixel-count-requires : tie.Need-pixel-count-requires Inv-loop μ-loop
 pixel-count-requires c κs = c .before .code-at .ensures .1
 
 paint-part-requires : tie.Need-paint-part-requires Inv-loop μ-loop
-paint-part-requires c κs = (drawable _ _ _ _ _ _ _ _ _ _ _ _ (c .before .before .before .before .before .before .loop .inv) (c .before .before .before .before .before .before .before .before .before .before .before .before .before .pre) (c .before .before .before .before .before .loop-test .taken) _ _ (c .before .before .before .before .code-at .ensures .0) (c .before .before .before .part-from .ensures) _ (omega (arith, c .before .if1 .taken, c .before .before .pixel-count .ensures)), canvas _ _ _ _ _ _ _ _ _ _ _ _ (c .before .before .before .before .before .before .loop .inv) (c .before .before .before .before .before .before .before .before .before .before .before .before .before .pre) (c .before .before .before .before .before .loop-test .taken) _ _ (c .before .before .before .before .code-at .ensures .0) (c .before .before .before .part-from .ensures))
+paint-part-requires c κs = (drawable _ _ _ _ _ _ _ _ _ _ _ _ (c .before .before .before .before .before .before .loop .inv) (c .before .before .before .before .before .before .before .before .before .before .before .before .before .pre) (c .before .before .before .before .before .loop-test .taken) _ _ (c .before .before .before .before .code-at .ensures .0) (c .before .before .before .data-from .ensures) _ (omega (arith, c .before .if1 .taken, c .before .before .pixel-count .ensures)), canvas _ _ _ _ _ _ _ _ _ _ _ _ (c .before .before .before .before .before .before .loop .inv) (c .before .before .before .before .before .before .before .before .before .before .before .before .before .pre) (c .before .before .before .before .before .loop-test .taken) _ _ (c .before .before .before .before .code-at .ensures .0) (c .before .before .before .data-from .ensures))
 
 same-length : tie.Need-same-length Inv-loop μ-loop
 same-length c = c .before .before .paint-part .kept .1 .1 .1 .0 ∙ going-length _ _ _ _ _ _ _ _ _ _ _ _ (c .before .before .before .before .before .before .before .before .before .loop .inv)
 
 returns : tie.Need-returns Inv-loop μ-loop
-returns c = going-stop _ _ _ _ _ _ _ _ _ _ _ _ (c .before .before .before .before .before .before .before .before .before .loop .inv) (c .before .before .before .before .before .before .before .before .before .before .before .before .before .before .before .before .pre) (c .before .before .before .before .before .before .before .before .loop-test .taken) _ _ (c .before .before .before .before .before .before .before .code-at .ensures .0) (c .before .before .before .before .before .before .part-from .ensures) _ _ (c .before .before .before .before .before .pixel-count .ensures) (c .before .before .before .before .if1 .taken) (c .before .before .paint-part .ensures)
+returns c = going-stop _ _ _ _ _ _ _ _ _ _ _ _ (c .before .before .before .before .before .before .before .before .before .loop .inv) (c .before .before .before .before .before .before .before .before .before .before .before .before .before .before .before .before .pre) (c .before .before .before .before .before .before .before .before .loop-test .taken) _ _ (c .before .before .before .before .before .before .before .code-at .ensures .0) (c .before .before .before .before .before .before .data-from .ensures) _ _ (c .before .before .before .before .before .pixel-count .ensures) (c .before .before .before .before .if1 .taken) (c .before .before .paint-part .ensures)
 
 paint-whole-requires : tie.Need-paint-whole-requires Inv-loop μ-loop
-paint-whole-requires c κs = (drawable _ _ _ _ _ _ _ _ _ _ _ _ (c .before .before .before .before .before .before .loop .inv) (c .before .before .before .before .before .before .before .before .before .before .before .before .before .pre) (c .before .before .before .before .before .loop-test .taken) _ _ (c .before .before .before .before .code-at .ensures .0) (c .before .before .before .part-from .ensures) _ (omega arith), canvas _ _ _ _ _ _ _ _ _ _ _ _ (c .before .before .before .before .before .before .loop .inv) (c .before .before .before .before .before .before .before .before .before .before .before .before .before .pre) (c .before .before .before .before .before .loop-test .taken) _ _ (c .before .before .before .before .code-at .ensures .0) (c .before .before .before .part-from .ensures))
+paint-whole-requires c κs = (drawable _ _ _ _ _ _ _ _ _ _ _ _ (c .before .before .before .before .before .before .loop .inv) (c .before .before .before .before .before .before .before .before .before .before .before .before .before .pre) (c .before .before .before .before .before .loop-test .taken) _ _ (c .before .before .before .before .code-at .ensures .0) (c .before .before .before .data-from .ensures) _ (omega arith), canvas _ _ _ _ _ _ _ _ _ _ _ _ (c .before .before .before .before .before .before .loop .inv) (c .before .before .before .before .before .before .before .before .before .before .before .before .before .pre) (c .before .before .before .before .before .loop-test .taken) _ _ (c .before .before .before .before .code-at .ensures .0) (c .before .before .before .data-from .ensures))
 
 add-set-place : tie.Need-add-set-place Inv-loop μ-loop
 add-set-place c = omega (arith, blocks-few _ (c .before .before .before .before .before .before .before .before .before .before .before .before .before .before .before .before .before .pre .sized), c .before .before .before .before .before .before .before .before .before .loop-test .taken)
@@ -83,7 +83,7 @@ set-place-requires : tie.Need-set-place-requires Inv-loop μ-loop
 set-place-requires c κs = search needs
 
 add-left : tie.Need-add-left Inv-loop μ-loop
-add-left c = omega (arith, c .before .before .before .before .before .before .before .pixel-count .ensures, count-few (kindOf (c .before .before .before .before .before .before .before .before .before .code-at .result) (c .before .before .before .before .before .before .before .before .part-from .result .now)))
+add-left c = omega (arith, c .before .before .before .before .before .before .before .pixel-count .ensures, count-few (kindOf (c .before .before .before .before .before .before .before .before .before .code-at .result) (c .before .before .before .before .before .before .before .before .data-from .result .now)))
 
 sub-left : tie.Need-sub-left Inv-loop μ-loop
 sub-left c = omega (arith, c .before .before .before .before .before .before .if1 .left)
@@ -92,28 +92,28 @@ data-length-requires : tie.Need-data-length-requires Inv-loop μ-loop
 data-length-requires c κs = c .before .before .before .before .before .before .before .before .before .code-at .ensures .1
 
 add-at : tie.Need-add-at Inv-loop μ-loop
-add-at c = let q = at-small _ _ _ _ _ _ _ _ _ _ _ _ (c .before .before .before .before .before .before .before .before .before .before .before .before .loop .inv) (c .before .before .before .before .before .before .before .before .before .before .before .before .before .before .before .before .before .before .before .pre) (c .before .before .before .before .before .before .before .before .before .before .before .loop-test .taken) _ _ (c .before .before .before .before .before .before .before .before .before .before .code-at .ensures .0) (c .before .before .before .before .before .before .before .before .before .part-from .ensures) _ (c .data-length .ensures) in omega (arith, q, c .before .before .before .before .before .before .before .before .before .before .before .before .before .before .before .before .before .before .before .good .1 .1 .1 .0)
+add-at c = let q = at-small _ _ _ _ _ _ _ _ _ _ _ _ (c .before .before .before .before .before .before .before .before .before .before .before .before .loop .inv) (c .before .before .before .before .before .before .before .before .before .before .before .before .before .before .before .before .before .before .before .pre) (c .before .before .before .before .before .before .before .before .before .before .before .loop-test .taken) _ _ (c .before .before .before .before .before .before .before .before .before .before .code-at .ensures .0) (c .before .before .before .before .before .before .before .before .before .data-from .ensures) _ (c .data-length .ensures) in omega (arith, q, c .before .before .before .before .before .before .before .before .before .before .before .before .before .before .before .before .before .before .before .good .1 .1 .1 .0)
 
 add-k : tie.Need-add-k Inv-loop μ-loop
 add-k c = omega (arith, blocks-few _ (c .before .before .before .before .before .before .before .before .before .before .before .before .before .before .before .before .before .before .before .pre .sized), c .before .before .before .before .before .before .before .before .before .before .before .loop-test .taken)
 
 add-x : tie.Need-add-x Inv-loop μ-loop
-add-x c = let q = canvas _ _ _ _ _ _ _ _ _ _ _ _ (c .before .before .before .before .before .before .before .before .before .before .before .before .loop .inv) (c .before .before .before .before .before .before .before .before .before .before .before .before .before .before .before .before .before .before .before .pre) (c .before .before .before .before .before .before .before .before .before .before .before .loop-test .taken) _ _ (c .before .before .before .before .before .before .before .before .before .before .code-at .ensures .0) (c .before .before .before .before .before .before .before .before .before .part-from .ensures) in omega (arith, q .across, q .width)
+add-x c = let q = canvas _ _ _ _ _ _ _ _ _ _ _ _ (c .before .before .before .before .before .before .before .before .before .before .before .before .loop .inv) (c .before .before .before .before .before .before .before .before .before .before .before .before .before .before .before .before .before .before .before .pre) (c .before .before .before .before .before .before .before .before .before .before .before .loop-test .taken) _ _ (c .before .before .before .before .before .before .before .before .before .before .code-at .ensures .0) (c .before .before .before .before .before .before .before .before .before .data-from .ensures) in omega (arith, q .across, q .width)
 
 add-y : tie.Need-add-y Inv-loop μ-loop
-add-y c = let q = canvas _ _ _ _ _ _ _ _ _ _ _ _ (c .before .before .before .before .before .before .before .before .before .before .before .before .before .loop .inv) (c .before .before .before .before .before .before .before .before .before .before .before .before .before .before .before .before .before .before .before .before .pre) (c .before .before .before .before .before .before .before .before .before .before .before .before .loop-test .taken) _ _ (c .before .before .before .before .before .before .before .before .before .before .before .code-at .ensures .0) (c .before .before .before .before .before .before .before .before .before .before .part-from .ensures) in omega (arith, q .down, q .height)
+add-y c = let q = canvas _ _ _ _ _ _ _ _ _ _ _ _ (c .before .before .before .before .before .before .before .before .before .before .before .before .before .loop .inv) (c .before .before .before .before .before .before .before .before .before .before .before .before .before .before .before .before .before .before .before .before .pre) (c .before .before .before .before .before .before .before .before .before .before .before .before .loop-test .taken) _ _ (c .before .before .before .before .before .before .before .before .before .before .before .code-at .ensures .0) (c .before .before .before .before .before .before .before .before .before .before .data-from .ensures) in omega (arith, q .down, q .height)
 
 loop-less : tie.Need-loop-less Inv-loop μ-loop
 loop-less c = omega (arith, c .before .before .before .before .before .before .before .before .before .before .before .before .loop-test .taken)
 
 loop-again : tie.Need-loop-again Inv-loop μ-loop
-loop-again c = going-block _ _ _ _ _ _ _ _ _ _ _ _ (c .before .before .before .before .before .before .before .before .before .before .before .before .before .loop .inv) (c .before .before .before .before .before .before .before .before .before .before .before .before .before .before .before .before .before .before .before .before .pre) (c .before .before .before .before .before .before .before .before .before .before .before .before .loop-test .taken) _ _ (c .before .before .before .before .before .before .before .before .before .before .before .code-at .ensures .0) (c .before .before .before .before .before .before .before .before .before .before .part-from .ensures) _ _ _ _ (c .before .before .before .before .before .before .before .before .before .pixel-count .ensures) (c .before .data-length .ensures) (c .before .before .before .before .before .before .before .before .if1 .left) (c .before .before .before .before .before .before .paint-whole .ensures) (c .before .before .set-place .ensures) _ _ (below _ _ _ _ _ _ _ _ _ _ _ _ (c .before .before .before .before .before .before .before .before .before .before .before .before .before .loop .inv) (c .before .before .before .before .before .before .before .before .before .before .before .before .before .before .before .before .before .before .before .before .pre) (c .before .before .before .before .before .before .before .before .before .before .before .before .loop-test .taken) _ _ (c .before .before .before .before .before .before .before .before .before .before .before .code-at .ensures .0) (c .before .before .before .before .before .before .before .before .before .before .part-from .ensures) (c .if2 .taken))
+loop-again c = going-block _ _ _ _ _ _ _ _ _ _ _ _ (c .before .before .before .before .before .before .before .before .before .before .before .before .before .loop .inv) (c .before .before .before .before .before .before .before .before .before .before .before .before .before .before .before .before .before .before .before .before .pre) (c .before .before .before .before .before .before .before .before .before .before .before .before .loop-test .taken) _ _ (c .before .before .before .before .before .before .before .before .before .before .before .code-at .ensures .0) (c .before .before .before .before .before .before .before .before .before .before .data-from .ensures) _ _ _ _ (c .before .before .before .before .before .before .before .before .before .pixel-count .ensures) (c .before .data-length .ensures) (c .before .before .before .before .before .before .before .before .if1 .left) (c .before .before .before .before .before .before .paint-whole .ensures) (c .before .before .set-place .ensures) _ _ (below _ _ _ _ _ _ _ _ _ _ _ _ (c .before .before .before .before .before .before .before .before .before .before .before .before .before .loop .inv) (c .before .before .before .before .before .before .before .before .before .before .before .before .before .before .before .before .before .before .before .before .pre) (c .before .before .before .before .before .before .before .before .before .before .before .before .loop-test .taken) _ _ (c .before .before .before .before .before .before .before .before .before .before .before .code-at .ensures .0) (c .before .before .before .before .before .before .before .before .before .before .data-from .ensures) (c .if2 .taken))
 
 loop-less-2 : tie.Need-loop-less-2 Inv-loop μ-loop
 loop-less-2 c = omega (arith, c .before .before .before .before .before .before .before .before .before .before .before .before .loop-test .taken)
 
 loop-again-2 : tie.Need-loop-again-2 Inv-loop μ-loop
-loop-again-2 c = going-block _ _ _ _ _ _ _ _ _ _ _ _ (c .before .before .before .before .before .before .before .before .before .before .before .before .before .loop .inv) (c .before .before .before .before .before .before .before .before .before .before .before .before .before .before .before .before .before .before .before .before .pre) (c .before .before .before .before .before .before .before .before .before .before .before .before .loop-test .taken) _ _ (c .before .before .before .before .before .before .before .before .before .before .before .code-at .ensures .0) (c .before .before .before .before .before .before .before .before .before .before .part-from .ensures) _ _ _ _ (c .before .before .before .before .before .before .before .before .before .pixel-count .ensures) (c .before .data-length .ensures) (c .before .before .before .before .before .before .before .before .if1 .left) (c .before .before .before .before .before .before .paint-whole .ensures) (c .before .before .set-place .ensures) _ _ (right _ _ _ _ _ _ _ _ _ _ _ _ (c .before .before .before .before .before .before .before .before .before .before .before .before .before .loop .inv) (c .before .before .before .before .before .before .before .before .before .before .before .before .before .before .before .before .before .before .before .before .pre) (c .before .before .before .before .before .before .before .before .before .before .before .before .loop-test .taken) _ _ (c .before .before .before .before .before .before .before .before .before .before .before .code-at .ensures .0) (c .before .before .before .before .before .before .before .before .before .before .part-from .ensures) (c .if2 .left))
+loop-again-2 c = going-block _ _ _ _ _ _ _ _ _ _ _ _ (c .before .before .before .before .before .before .before .before .before .before .before .before .before .loop .inv) (c .before .before .before .before .before .before .before .before .before .before .before .before .before .before .before .before .before .before .before .before .pre) (c .before .before .before .before .before .before .before .before .before .before .before .before .loop-test .taken) _ _ (c .before .before .before .before .before .before .before .before .before .before .before .code-at .ensures .0) (c .before .before .before .before .before .before .before .before .before .before .data-from .ensures) _ _ _ _ (c .before .before .before .before .before .before .before .before .before .pixel-count .ensures) (c .before .data-length .ensures) (c .before .before .before .before .before .before .before .before .if1 .left) (c .before .before .before .before .before .before .paint-whole .ensures) (c .before .before .set-place .ensures) _ _ (right _ _ _ _ _ _ _ _ _ _ _ _ (c .before .before .before .before .before .before .before .before .before .before .before .before .before .loop .inv) (c .before .before .before .before .before .before .before .before .before .before .before .before .before .before .before .before .before .before .before .before .pre) (c .before .before .before .before .before .before .before .before .before .before .before .before .loop-test .taken) _ _ (c .before .before .before .before .before .before .before .before .before .before .before .code-at .ensures .0) (c .before .before .before .before .before .before .before .before .before .before .data-from .ensures) (c .if2 .left))
 
 sub-result : tie.Need-sub-result Inv-loop μ-loop
 sub-result c = c .before .loop .inv .room
@@ -140,7 +140,7 @@ draw-blocks-spec =
     mul-y
     loop-holds
     code-at-requires
-    part-from-requires
+    data-from-requires
     pixel-count-requires
     paint-part-requires
     same-length

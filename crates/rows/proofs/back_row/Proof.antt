@@ -1,74 +1,84 @@
-use Prim.Native.Nat.{_-_}
-use native.Mathlib.Omega.{arith}
-use Rattle.paint.proofs.Painting.{Painting, painting-start, painting-more, painting-end, painting-length, square-inside, square-below, back-is}
-use Rattle.rows.proofs.Rows.{in-row}
-use Rattle.motion.specs.Motion.{rasterIndex}
-use Rattle.paint.specs.Paint.{single, backValue}
-use Rattle.rows.specs.Row.{fromPixel}
+use Rattle.rows.proofs.Eight.{eight-moved}
+use borrow.Author.Needs.{needs}
 use Rattle.rows.proofs.back_row.Statement.{statement}
 use Rattle.rows.proofs.back_row.Tie as tie
 use Rattle.rows.proofs.back_row.Reads as reads
 use Rattle.rows.proofs.back_row.Lts as lts
-use Rattle.motion.proofs.raster_index.Reads as raster-index-reads
-use Rattle.paint.proofs.put.Reads as put-reads
+use Rattle.rows.proofs.put_eight.Reads as put-eight-reads
 
-abbrev Inv-loop : tie.InvT-loop
-Inv-loop back₀ w sx sy x y p j₀ back j = Painting (fromPixel p (single (rasterIndex w x y) (backValue (rasterIndex w sx sy)))) back₀ 8 back j
+slice-read-a : tie.Need-slice-read-a
+slice-read-a c = search needs
 
-abbrev μ-loop : tie.MeasureT-loop
-μ-loop back₀ w sx sy x y p j₀ back j = 8 - j
+add-b : tie.Need-add-b
+add-b c = search needs
 
-loop-holds : tie.Need-loop-holds Inv-loop μ-loop
-loop-holds c = painting-start _ _ _
+slice-read-b : tie.Need-slice-read-b
+slice-read-b c = search needs
 
-add-raster-index : tie.Need-add-raster-index Inv-loop μ-loop
-add-raster-index c = omega (arith, c .before .before .before .pre .2, c .loop-test .taken)
+add-c : tie.Need-add-c
+add-c c = search needs
 
-raster-index-requires : tie.Need-raster-index-requires Inv-loop μ-loop
-raster-index-requires c κs = square-inside _ _ _ _ _ (c .before .before .before .pre .0) (in-row _ _ (c .before .before .before .pre .2) (c .loop-test .taken))
+slice-read-c : tie.Need-slice-read-c
+slice-read-c c = search needs
 
-slice-read-v : tie.Need-slice-read-v Inv-loop μ-loop
-slice-read-v c = let q = square-below _ _ _ _ _ (c .before .before .before .before .before .pre .0) (in-row _ _ (c .before .before .before .before .before .pre .2) (c .before .before .loop-test .taken)) _ (c .before .raster-index .ensures) in omega (arith, q, painting-length _ _ _ _ _ (c .before .before .before .loop .inv))
+add-d : tie.Need-add-d
+add-d c = search needs
 
-add-raster-index-2 : tie.Need-add-raster-index-2 Inv-loop μ-loop
-add-raster-index-2 c = omega (arith, c .before .before .before .before .before .before .pre .2, c .before .before .before .loop-test .taken)
+slice-read-d : tie.Need-slice-read-d
+slice-read-d c = search needs
 
-raster-index-requires-2 : tie.Need-raster-index-requires-2 Inv-loop μ-loop
-raster-index-requires-2 c κs = square-inside _ _ _ _ _ (c .before .before .before .before .before .before .pre .1) (in-row _ _ (c .before .before .before .before .before .before .pre .2) (c .before .before .before .loop-test .taken))
+add-e : tie.Need-add-e
+add-e c = search needs
 
-put-requires : tie.Need-put-requires Inv-loop μ-loop
-put-requires c κs = let q = square-below _ _ _ _ _ (c .before .before .before .before .before .before .before .pre .1) (in-row _ _ (c .before .before .before .before .before .before .before .pre .2) (c .before .before .before .before .loop-test .taken)) _ (c .raster-index2 .ensures) in omega (arith, q, painting-length _ _ _ _ _ (c .before .before .before .before .before .loop .inv))
+slice-read-e : tie.Need-slice-read-e
+slice-read-e c = search needs
 
-add-j : tie.Need-add-j Inv-loop μ-loop
-add-j c = omega (arith, c .before .before .before .before .before .before .before .loop-test .taken)
+add-f : tie.Need-add-f
+add-f c = search needs
 
-loop-less : tie.Need-loop-less Inv-loop μ-loop
-loop-less c = omega (arith, c .before .before .before .before .before .before .before .loop-test .taken)
+slice-read-f : tie.Need-slice-read-f
+slice-read-f c = search needs
 
-loop-again : tie.Need-loop-again Inv-loop μ-loop
-loop-again c = painting-more _ _ _ _ _ (c .before .before .before .before .before .before .before .before .loop .inv) (c .before .before .before .before .before .before .before .loop-test .taken) _ _ _ (c .before .before .before .raster-index2 .ensures) (back-is _ _ _ _ (c .before .before .before .before .before .before .raster-index .ensures)) (c .before .before .put .ensures)
+add-g : tie.Need-add-g
+add-g c = search needs
 
-same-length : tie.Need-same-length Inv-loop μ-loop
-same-length c = painting-length _ _ _ _ _ (c .before .loop .inv)
+slice-read-g : tie.Need-slice-read-g
+slice-read-g c = search needs
 
-returns : tie.Need-returns Inv-loop μ-loop
-returns c = painting-end _ _ _ _ _ (c .before .loop .inv) (c .loop-test .left)
+add-h : tie.Need-add-h
+add-h c = search needs
+
+slice-read-h : tie.Need-slice-read-h
+slice-read-h c = search needs
+
+put-eight-requires : tie.Need-put-eight-requires
+put-eight-requires c κs = search needs
+
+same-length : tie.Need-same-length
+same-length c = search needs
+
+returns : tie.Need-returns
+returns c = eight-moved _ _ _ _ (c .before .before .before .before .before .before .before .before .before .before .before .before .before .pre .2) (c .before .before .put-eight .ensures)
 
 pub back-row-spec : {M : Type 1} → statement M
 back-row-spec =
     tie.close
     (tie.spec
-    Inv-loop
-    μ-loop
-    loop-holds
-    add-raster-index
-    raster-index-requires
-    slice-read-v
-    add-raster-index-2
-    raster-index-requires-2
-    put-requires
-    add-j
-    loop-less
-    loop-again
+    slice-read-a
+    add-b
+    slice-read-b
+    add-c
+    slice-read-c
+    add-d
+    slice-read-d
+    add-e
+    slice-read-e
+    add-f
+    slice-read-f
+    add-g
+    slice-read-g
+    add-h
+    slice-read-h
+    put-eight-requires
     same-length
     returns)

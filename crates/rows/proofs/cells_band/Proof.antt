@@ -1,15 +1,15 @@
 use Prim.Native.Nat.{_-_, _*_}
 use native.Mathlib.Omega.{arith}
-use Rattle.paint.proofs.Painting.{painting-end, painting-length, square-inside}
-use Rattle.rows.proofs.Colours.{band-room, band-below, Banded, banded-start, banded-inside, banded-more}
+use Rattle.paint.proofs.Painting.{painting-end, painting-length}
+use Rattle.rows.proofs.Colours.{band-room, Banded, banded-start, banded-below, banded-inside, banded-more}
 use Rattle.rows.proofs.cells_band.Statement.{statement}
 use Rattle.rows.proofs.cells_band.Tie as tie
 
 abbrev Inv-loop : tie.InvT-loop
-Inv-loop side s back₀ w x y p a b c d r₀ back r = Banded w x y side s p back₀ back r
+Inv-loop side s p back₀ w to a b c d at₀ r₀ back at r = Banded w to side s p back₀ back at r
 
 abbrev μ-loop : tie.MeasureT-loop
-μ-loop side s back₀ w x y p a b c d r₀ back r = 8 * side - r
+μ-loop side s p back₀ w to a b c d at₀ r₀ back at r = 8 * side - r
 
 cell-colour-requires : tie.Need-cell-colour-requires Inv-loop μ-loop
 cell-colour-requires c κs = (c .before .before .pre .0 .sided, c .before .before .pre .1, c .before .before .pre .0 .below)
@@ -33,28 +33,25 @@ cell-colour-requires-4 : tie.Need-cell-colour-requires-4 Inv-loop μ-loop
 cell-colour-requires-4 c κs = (c .before .before .before .before .before .pre .0 .sided, c .before .before .before .before .before .pre .1, omega (arith, band-room (c .before .before .before .before .before .pre .0) .room, c .before .before .before .before .before .pre .0 .wide))
 
 loop-holds : tie.Need-loop-holds Inv-loop μ-loop
-loop-holds c = banded-start _ _ _ _ _ _ _
+loop-holds c = banded-start _ _ _ _ _ _
 
 mul-loop : tie.Need-mul-loop Inv-loop μ-loop
 mul-loop c = omega (arith, band-room (c .before .before .before .before .before .before .before .pre .0) .room)
 
-add-raster-index : tie.Need-add-raster-index Inv-loop μ-loop
-add-raster-index c = omega (arith, band-below (c .before .before .before .before .before .before .before .before .before .pre .0) _ (c .before .loop-test .taken))
-
-raster-index-requires : tie.Need-raster-index-requires Inv-loop μ-loop
-raster-index-requires c κs = square-inside _ _ _ _ _ (c .before .before .before .before .before .before .before .before .before .pre .2) (band-below (c .before .before .before .before .before .before .before .before .before .pre .0) _ (c .before .loop-test .taken))
-
 colours-row-requires : tie.Need-colours-row-requires Inv-loop μ-loop
-colours-row-requires c κs = (omega arith, banded-inside _ _ _ _ _ _ _ _ _ (c .before .before .before .loop .inv) (c .before .before .before .before .before .before .before .before .before .before .pre .0) (c .before .before .loop-test .taken) _ (c .raster-index .ensures) (c .before .before .before .before .before .before .before .before .before .before .pre .2))
+colours-row-requires c κs = (omega arith, banded-inside _ _ _ _ _ _ _ _ _ (c .before .before .loop .inv) (c .before .loop-test .taken) (c .before .before .before .before .before .before .before .before .before .pre .3))
+
+add-at : tie.Need-add-at Inv-loop μ-loop
+add-at c = omega (arith, banded-below _ _ _ _ _ _ _ _ _ (c .before .before .before .before .before .loop .inv) (c .before .before .before .before .loop-test .taken), c .before .before .before .before .before .before .before .before .before .before .before .before .pre .2, c .before .before .before .before .before .before .before .before .before .before .before .before .pre .3, c .before .before .before .before .before .before .before .before .before .before .before .before .good .1 .1 .1 .0 .1)
 
 add-r : tie.Need-add-r Inv-loop μ-loop
-add-r c = omega (arith, band-room (c .before .before .before .before .before .before .before .before .before .before .before .before .before .pre .0) .room, c .before .before .before .before .before .loop-test .taken)
+add-r c = omega (arith, band-room (c .before .before .before .before .before .before .before .before .before .before .before .before .pre .0) .room, c .before .before .before .before .loop-test .taken)
 
 loop-less : tie.Need-loop-less Inv-loop μ-loop
-loop-less c = omega (arith, c .before .before .before .before .before .loop-test .taken)
+loop-less c = omega (arith, c .before .before .before .before .loop-test .taken)
 
 loop-again : tie.Need-loop-again Inv-loop μ-loop
-loop-again c = banded-more _ _ _ _ _ _ _ _ _ (c .before .before .before .before .before .before .loop .inv) (c .before .before .before .before .before .before .before .before .before .before .before .before .before .pre .0) (c .before .before .before .before .before .loop-test .taken) _ (c .before .before .before .raster-index .ensures) _ _ _ _ (record { first = c .before .before .before .before .before .before .before .before .before .before .cell-colour .ensures; second = c .before .before .before .before .before .before .before .before .before .cell-colour2 .ensures; third = c .before .before .before .before .before .before .before .before .cell-colour3 .ensures; fourth = c .before .before .before .before .before .before .before .cell-colour4 .ensures }) _ (c .before .before .colours-row .ensures)
+loop-again c = banded-more _ _ _ _ _ _ _ _ _ (c .before .before .before .before .before .loop .inv) (c .before .before .before .before .loop-test .taken) (c .before .before .before .before .before .before .before .before .before .before .before .before .pre .0) _ _ _ _ (record { first = c .before .before .before .before .before .before .before .before .before .cell-colour .ensures; second = c .before .before .before .before .before .before .before .before .cell-colour2 .ensures; third = c .before .before .before .before .before .before .before .cell-colour3 .ensures; fourth = c .before .before .before .before .before .before .cell-colour4 .ensures }) _ (c .before .before .colours-row .ensures)
 
 same-length : tie.Need-same-length Inv-loop μ-loop
 same-length c = painting-length _ _ _ _ _ (c .before .loop .inv .painting)
@@ -77,9 +74,8 @@ cells-band-spec =
     cell-colour-requires-4
     loop-holds
     mul-loop
-    add-raster-index
-    raster-index-requires
     colours-row-requires
+    add-at
     add-r
     loop-less
     loop-again

@@ -1,7 +1,8 @@
 use Prim.Native.Nat.{_-_}
+use mathlib.Core.Path.{_≡_}
 use native.Mathlib.Omega.{arith}
 use Rattle.paint.proofs.Painting.{square-inside}
-use Rattle.rows.proofs.Rows.{Rows, rows-start, rows-inside, rows-end, rows-length}
+use Rattle.rows.proofs.Rows.{Rows, rows-start, rows-inside, rows-end, rows-length, row-below, row-low}
 use Rattle.rows.proofs.Colours.{Turned, turned-start, turned-next, rows-turned}
 use Rattle.motion.specs.Motion.{rasterIndex}
 use Rattle.block.specs.Block.{ditherSource}
@@ -10,10 +11,10 @@ use Rattle.rows.proofs.whole_dither.Statement.{statement}
 use Rattle.rows.proofs.whole_dither.Tie as tie
 
 abbrev Inv-loop : tie.InvT-loop
-Inv-loop s back₀ w x y a₀ b₀ p₀ back a b p = Turned s p a b × Rows (single (rasterIndex w x y) (fixedValue ditherSource s)) back₀ back p
+Inv-loop s back₀ w x y a₀ b₀ to₀ p₀ back a b to p = Turned s p a b × (to ≡ rasterIndex w x y p) × Rows (single (rasterIndex w x y) (fixedValue ditherSource s)) back₀ back p
 
 abbrev μ-loop : tie.MeasureT-loop
-μ-loop s back₀ w x y a₀ b₀ p₀ back a b p = 64 - p
+μ-loop s back₀ w x y a₀ b₀ to₀ p₀ back a b to p = 64 - p
 
 shared-slice-read-a : tie.Need-shared-slice-read-a Inv-loop μ-loop
 shared-slice-read-a c = omega (arith, c .before .before .before .pre .0)
@@ -21,29 +22,32 @@ shared-slice-read-a c = omega (arith, c .before .before .before .pre .0)
 shared-slice-read-b : tie.Need-shared-slice-read-b Inv-loop μ-loop
 shared-slice-read-b c = omega (arith, c .before .before .before .before .pre .0)
 
-loop-holds : tie.Need-loop-holds Inv-loop μ-loop
-loop-holds c = (turned-start _, rows-start _ _)
-
 raster-index-requires : tie.Need-raster-index-requires Inv-loop μ-loop
-raster-index-requires c κs = square-inside _ _ _ _ _ (c .before .before .before .before .before .before .before .pre .1) (c .before .loop-test .taken)
+raster-index-requires c κs = square-inside _ _ _ _ _ (c .before .before .before .before .pre .1) (omega arith)
+
+loop-holds : tie.Need-loop-holds Inv-loop μ-loop
+loop-holds c = (turned-start _, c .raster-index .ensures, rows-start _ _)
 
 colours-row-requires : tie.Need-colours-row-requires Inv-loop μ-loop
-colours-row-requires c κs = (omega arith, rows-inside _ _ _ _ _ _ _ (c .before .before .before .loop .inv .1) (c .before .before .loop-test .taken) _ (c .raster-index .ensures) (c .before .before .before .before .before .before .before .before .pre .1))
+colours-row-requires c κs = (omega arith, rows-inside _ _ _ _ _ _ _ (c .before .before .loop .inv .2) (c .before .loop-test .taken) _ (c .before .before .loop .inv .1) (c .before .before .before .before .before .before .before .before .pre .1))
+
+add-to : tie.Need-add-to Inv-loop μ-loop
+add-to c = omega (arith, row-low _ _ _ _ _ (c .before .before .before .before .before .loop .inv .1) (c .before .before .before .before .before .before .before .before .before .before .before .pre .1) (c .before .before .before .before .loop-test .taken))
 
 add-p : tie.Need-add-p Inv-loop μ-loop
-add-p c = omega (arith, c .before .before .before .before .before .loop-test .taken)
+add-p c = omega (arith, c .before .before .before .before .loop-test .taken)
 
 loop-less : tie.Need-loop-less Inv-loop μ-loop
-loop-less c = omega (arith, c .before .before .before .before .before .loop-test .taken)
+loop-less c = omega (arith, c .before .before .before .before .loop-test .taken)
 
 loop-again : tie.Need-loop-again Inv-loop μ-loop
-loop-again c = (turned-next _ _ _ _ (c .before .before .before .before .before .before .loop .inv .0), rows-turned _ _ _ _ _ _ _ _ _ (c .before .before .before .before .before .before .loop .inv .1) (c .before .before .before .before .before .before .loop .inv .0) (c .before .before .before .before .before .loop-test .taken) _ (c .before .before .before .raster-index .ensures) _ (c .before .before .colours-row .ensures))
+loop-again c = (turned-next _ _ _ _ (c .before .before .before .before .before .loop .inv .0), row-below _ _ _ _ _ (c .before .before .before .before .before .loop .inv .1), rows-turned _ _ _ _ _ _ _ _ _ (c .before .before .before .before .before .loop .inv .2) (c .before .before .before .before .before .loop .inv .0) (c .before .before .before .before .loop-test .taken) _ (c .before .before .before .before .before .loop .inv .1) _ (c .before .before .colours-row .ensures))
 
 same-length : tie.Need-same-length Inv-loop μ-loop
-same-length c = rows-length _ _ _ _ (c .before .loop .inv .1)
+same-length c = rows-length _ _ _ _ (c .before .loop .inv .2)
 
 returns : tie.Need-returns Inv-loop μ-loop
-returns c = rows-end _ _ _ _ (c .before .loop .inv .1) (c .loop-test .left)
+returns c = rows-end _ _ _ _ (c .before .loop .inv .2) (c .loop-test .left)
 
 pub whole-dither-spec : {M : Type 1} → statement M
 whole-dither-spec =
@@ -53,9 +57,10 @@ whole-dither-spec =
     μ-loop
     shared-slice-read-a
     shared-slice-read-b
-    loop-holds
     raster-index-requires
+    loop-holds
     colours-row-requires
+    add-to
     add-p
     loop-less
     loop-again

@@ -1,7 +1,9 @@
+use mathlib.Core.Path.{_≡_}
 use Prim.Native.Nat.{_-_}
 use native.Mathlib.Omega.{arith}
 use Rattle.paint.proofs.Painting.{square-inside}
-use Rattle.rows.proofs.Rows.{Rows, rows-start, rows-room, rows-own, rows-inside, rows-end, rows-length}
+use Rattle.rows.proofs.Rows.{Rows, rows-start, rows-room, rows-fixed, rows-inside, rows-end, rows-length, row-below, row-low}
+use Rattle.rows.proofs.Colours.{raw-source}
 use Rattle.motion.specs.Motion.{rasterIndex}
 use Rattle.block.specs.Block.{cellSource}
 use Rattle.paint.specs.Paint.{single, fixedValue}
@@ -9,34 +11,37 @@ use Rattle.rows.proofs.whole_raw.Statement.{statement}
 use Rattle.rows.proofs.whole_raw.Tie as tie
 
 abbrev Inv-loop : tie.InvT-loop
-Inv-loop s back₀ w x y p₀ back p = Rows (single (rasterIndex w x y) (fixedValue (cellSource 1) s)) back₀ back p
+Inv-loop s back₀ w x y to₀ p₀ back to p = (to ≡ rasterIndex w x y p) × Rows (single (rasterIndex w x y) (fixedValue (cellSource 1) s)) back₀ back p
 
 abbrev μ-loop : tie.MeasureT-loop
-μ-loop s back₀ w x y p₀ back p = 64 - p
-
-loop-holds : tie.Need-loop-holds Inv-loop μ-loop
-loop-holds c = rows-start _ _
+μ-loop s back₀ w x y to₀ p₀ back to p = 64 - p
 
 raster-index-requires : tie.Need-raster-index-requires Inv-loop μ-loop
-raster-index-requires c κs = square-inside _ _ _ _ _ (c .before .before .before .before .before .pre .1) (c .before .loop-test .taken)
+raster-index-requires c κs = square-inside _ _ _ _ _ (c .before .before .pre .1) (omega arith)
 
-raw-row-requires : tie.Need-raw-row-requires Inv-loop μ-loop
-raw-row-requires c κs = (omega (arith, c .before .before .before .before .before .before .pre .0, rows-room _ _ _ _ (c .before .before .before .loop .inv) (c .before .before .loop-test .taken)), rows-room _ _ _ _ (c .before .before .before .loop .inv) (c .before .before .loop-test .taken), rows-inside _ _ _ _ _ _ _ (c .before .before .before .loop .inv) (c .before .before .loop-test .taken) _ (c .raster-index .ensures) (c .before .before .before .before .before .before .pre .1))
+loop-holds : tie.Need-loop-holds Inv-loop μ-loop
+loop-holds c = (c .raster-index .ensures, rows-start _ _)
+
+copied-row-requires : tie.Need-copied-row-requires Inv-loop μ-loop
+copied-row-requires c κs = (omega (arith, c .before .before .before .before .before .before .pre .0, rows-room _ _ _ _ (c .before .before .loop .inv .1) (c .before .loop-test .taken)), rows-inside _ _ _ _ _ _ _ (c .before .before .loop .inv .1) (c .before .loop-test .taken) _ (c .before .before .loop .inv .0) (c .before .before .before .before .before .before .pre .1))
+
+add-to : tie.Need-add-to Inv-loop μ-loop
+add-to c = omega (arith, row-low _ _ _ _ _ (c .before .before .before .before .before .loop .inv .0) (c .before .before .before .before .before .before .before .before .before .pre .1) (c .before .before .before .before .loop-test .taken))
 
 add-p : tie.Need-add-p Inv-loop μ-loop
-add-p c = omega (arith, c .before .before .before .before .before .loop-test .taken)
+add-p c = omega (arith, c .before .before .before .before .loop-test .taken)
 
 loop-less : tie.Need-loop-less Inv-loop μ-loop
-loop-less c = omega (arith, c .before .before .before .before .before .loop-test .taken)
+loop-less c = omega (arith, c .before .before .before .before .loop-test .taken)
 
 loop-again : tie.Need-loop-again Inv-loop μ-loop
-loop-again c = rows-own _ _ _ _ _ _ _ (c .before .before .before .before .before .before .loop .inv) (c .before .before .before .before .before .loop-test .taken) _ (c .before .before .before .raster-index .ensures) _ (c .before .before .raw-row .ensures)
+loop-again c = (row-below _ _ _ _ _ (c .before .before .before .before .before .loop .inv .0), rows-fixed _ _ _ _ _ _ _ _ (c .before .before .before .before .before .loop .inv .1) (c .before .before .before .before .loop-test .taken) _ _ (c .before .before .before .before .before .loop .inv .0) (λ i h. raw-source _) _ (c .before .before .copied-row .ensures))
 
 same-length : tie.Need-same-length Inv-loop μ-loop
-same-length c = rows-length _ _ _ _ (c .before .loop .inv)
+same-length c = rows-length _ _ _ _ (c .before .loop .inv .1)
 
 returns : tie.Need-returns Inv-loop μ-loop
-returns c = rows-end _ _ _ _ (c .before .loop .inv) (c .loop-test .left)
+returns c = rows-end _ _ _ _ (c .before .loop .inv .1) (c .loop-test .left)
 
 pub whole-raw-spec : {M : Type 1} → statement M
 whole-raw-spec =
@@ -44,9 +49,10 @@ whole-raw-spec =
     (tie.spec
     Inv-loop
     μ-loop
-    loop-holds
     raster-index-requires
-    raw-row-requires
+    loop-holds
+    copied-row-requires
+    add-to
     add-p
     loop-less
     loop-again

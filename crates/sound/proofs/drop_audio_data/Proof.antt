@@ -35,9 +35,12 @@ returns : tie.Need-returns
 unfolding audioData
 returns c = λ room big. drop-unknown _ _ _ _ (c .before .before .before .before .word-at .ensures .0) _ (c .before .before .before .is-masked .ensures) (c .before .before .if1 .taken) (c .enum-told .given .1)
 
+same-length : tie.Need-same-length
+same-length c = search needs
+
 returns-2 : tie.Need-returns-2
 unfolding audioData
-returns-2 c = λ room big. drop-known _ _ _ _ (c .before .before .before .before .before .before .before .before .word-at .ensures .0) _ (c .before .before .before .before .before .before .before .is-masked .ensures) (c .before .before .before .before .before .before .if1 .taken) _ _ _ (c .before .before .before .before .format .given .1) _ (drop-read _ _ _ _ room _ _ (c .before .before .word-at2 .ensures .0) _ _ _ (c .before .part-from .ensures) (c .drop-data .ensures room big))
+returns-2 c = λ room big. drop-known _ _ _ _ (c .before .before .before .before .before .before .before .before .before .before .before .word-at .ensures .0) _ (c .before .before .before .before .before .before .before .before .before .before .is-masked .ensures) (c .before .before .before .before .before .before .before .before .before .if1 .taken) _ _ _ (c .before .before .before .before .before .before .before .format .given .1) _ (drop-read _ _ _ _ room _ _ (c .before .before .before .before .before .word-at2 .ensures .0) _ _ _ (c .before .before .before .before .part-from .ensures) (c .before .before .drop-data .ensures room big))
 
 returns-3 : tie.Need-returns-3
 unfolding audioData
@@ -55,5 +58,6 @@ drop-audio-data-spec =
     part-from-requires
     drop-data-requires
     returns
+    same-length
     returns-2
     returns-3)

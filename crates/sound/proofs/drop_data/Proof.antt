@@ -21,13 +21,16 @@ sample-bytes-requires : tie.Need-sample-bytes-requires
 sample-bytes-requires c κs = search needs
 
 mul-bytes : tie.Need-mul-bytes
-mul-bytes c = record { fits = omega (arith, mul-le-mul-left (c .before .before .before .before .before .before .args .count) (c .sample-bytes .ensures .1)) }
+mul-bytes c = record { fits = omega (arith, mul-le-mul-left (c .before .before .before .before .before .before .before .args .count) (c .sample-bytes .ensures .1), c .before .before .before .before .before .before .before .pre .0) }
 
 sound-after-requires : tie.Need-sound-after-requires
 sound-after-requires c κs = search needs
 
+same-length : tie.Need-same-length
+same-length c = search needs
+
 returns : tie.Need-returns
-returns c = λ room big. drop-taken _ _ _ _ _ _ _ (c .before .before .before .before .before .is-even .ensures) room big (c .before .before .before .before .if1 .taken) _ (c .before .before .before .is-exact .ensures) (c .before .before .if2 .taken) _ (c .before .sample-bytes .ensures) (c .before .before .before .before .before .before .before .pre) _ (c .sound-after .ensures)
+returns c = λ room big. drop-taken _ _ _ _ _ _ _ (c .before .before .before .before .before .before .before .before .is-even .ensures) room big (c .before .before .before .before .before .before .before .if1 .taken) _ (c .before .before .before .before .before .before .is-exact .ensures) (c .before .before .before .before .before .if2 .taken) _ (c .before .before .before .before .sample-bytes .ensures) (c .before .before .before .before .before .before .before .before .before .before .before .pre .0) _ (c .before .before .sound-after .ensures)
 
 returns-2 : tie.Need-returns-2
 returns-2 c = λ room big. drop-inexact _ _ _ _ _ _ _ (c .before .before .before .is-even .ensures) room big (c .before .before .if1 .taken) _ (c .before .is-exact .ensures) (c .if2 .left)
@@ -44,6 +47,7 @@ drop-data-spec =
     sample-bytes-requires
     mul-bytes
     sound-after-requires
+    same-length
     returns
     returns-2
     returns-3)

@@ -1,4 +1,4 @@
-use Rattle.whole.proofs.Families.{starts, pointed-front, back-square, back-copied}
+use Rattle.whole.proofs.Families.{starts, pointed-front, pointed-apart, back-square, back-copied}
 use borrow.Author.Needs.{needs}
 use Rattle.whole.proofs.back_by.Statement.{statement}
 use Rattle.whole.proofs.back_by.Tie as tie
@@ -10,16 +10,16 @@ add-whole-back : tie.Need-add-whole-back
 add-whole-back c = search needs
 
 sub-whole-back : tie.Need-sub-whole-back
-sub-whole-back c = starts _ _ _ _ _ _ (c .before .before .before .before .pre .1) _ (c .before .before .before .before .pre .0) .0
+sub-whole-back c = starts _ _ _ _ _ _ (c .before .before .before .before .pre .2) _ (c .before .before .before .before .pre .0) .0
 
 add-whole-back-2 : tie.Need-add-whole-back-2
 add-whole-back-2 c = search needs
 
 sub-whole-back-2 : tie.Need-sub-whole-back-2
-sub-whole-back-2 c = starts _ _ _ _ _ _ (c .before .before .before .before .before .before .pre .1) _ (c .before .before .before .before .before .before .pre .0) .1
+sub-whole-back-2 c = starts _ _ _ _ _ _ (c .before .before .before .before .before .before .pre .2) _ (c .before .before .before .before .before .before .pre .0) .1
 
 whole-back-requires : tie.Need-whole-back-requires
-whole-back-requires c κs = (pointed-front _ _ _ _ _ _ (c .before .before .before .before .before .before .pre .1) _ (c .before .before .before .before .before .before .pre .0), back-square _ _ _ _ _ _ (c .before .before .before .before .before .before .pre .1))
+whole-back-requires c κs = (pointed-front _ _ _ _ _ _ (c .before .before .before .before .before .before .pre .2) _ (c .before .before .before .before .before .before .pre .0), back-square _ _ _ _ _ _ (c .before .before .before .before .before .before .pre .2), pointed-apart _ _ _ _ _ _ (c .before .before .before .before .before .before .pre .2) _ (c .before .before .before .before .before .before .pre .0) (c .before .before .before .before .before .before .pre .1))
 
 same-length : tie.Need-same-length
 same-length c = search needs

@@ -1,5 +1,5 @@
 use native.Mathlib.Omega.{arith}
-use Rattle.whole.proofs.Families.{copy-pointed, back-canvas, paints-back, paints-front}
+use Rattle.whole.proofs.Families.{copy-pointed, copy-clear, back-canvas, paints-back, paints-front}
 use borrow.Author.Needs.{needs}
 use Rattle.whole.proofs.copy_by.Statement.{statement}
 use Rattle.whole.proofs.copy_by.Tie as tie
@@ -13,7 +13,7 @@ copied-vector-requires : tie.Need-copied-vector-requires
 copied-vector-requires c κs = (c .before .before .before .pre .2, c .before .before .before .pre .3)
 
 back-by-requires : tie.Need-back-by-requires
-back-by-requires c κs = (copy-pointed _ _ _ _ _ _ _ (c .before .before .before .before .before .before .pre .0) _ (c .before .before .before .before .before .before .pre .2) (c .before .before .before .before .before .before .pre .3) (c .before .before .copied-vector .ensures .0) (c .before .before .copied-vector .ensures .1), back-canvas _ _ _ _ _ _ (c .before .before .before .before .before .before .pre .1))
+back-by-requires c κs = (copy-pointed _ _ _ _ _ _ _ (c .before .before .before .before .before .before .pre .0) _ (c .before .before .before .before .before .before .pre .2) (c .before .before .before .before .before .before .pre .3) (c .before .before .copied-vector .ensures .0) (c .before .before .copied-vector .ensures .1), copy-clear _ _ _ (c .before .before .before .before .before .before .pre .2) (c .before .if1 .taken) (c .before .before .copied-vector .ensures .0), back-canvas _ _ _ _ _ _ (c .before .before .before .before .before .before .pre .1))
 
 same-length : tie.Need-same-length
 same-length c = search needs
