@@ -49,22 +49,22 @@ pub enum Begun {
     Refused(Refusal, State),
 }
 
-// 03, 08, 09 where a stream is chosen. The samples are dropped: none has no byte.
+// 03, 08, 09 where a stream is chosen. The samples are dropped: empty is a room of no bytes.
 fn drop_sound(
     st: State,
     kind: usize,
     version: usize,
     body: &[u8],
     p: usize,
-    none: &mut [u8],
+    empty: &mut [u8],
 ) -> Stepped
-    requires { ⌜ length (now none) ≡ 0 ⌝ }
+    requires { ⌜ length (now empty) ≡ 0 ⌝ }
     ensures { λ r. ⌜ ((l : Lent) → enough ≤ length (l .room) → steppedAs r ≡ hear st kind version (now (body .entry)) p l .step) ⌝ }
 {
     let sound = st.sound;
     match kind {
         3 => heard_step(st, p, initialize_audio(sound, version, body)),
-        8 => heard_step(st, p, drop_audio_data(sound, body, none)),
+        8 => heard_step(st, p, drop_audio_data(sound, body, empty)),
         _ => heard_step(st, p, drop_audio_silence(sound, body)),
     }
 }
@@ -96,17 +96,17 @@ fn act(film: &[u8], st: State, o: Opcode) -> Stepped
 }
 
 // An opcode that is taken.
-fn take(film: &[u8], st: State, o: Opcode, none: &mut [u8]) -> Stepped
+fn take(film: &[u8], st: State, o: Opcode, empty: &mut [u8]) -> Stepped
     requires { ⌜ Ready (length (now film)) (st .cursor) o ⌝ }
     requires { ⌜ st .columns ≡ 0 ⌝ }
-    requires { ⌜ length (now none) ≡ 0 ⌝ }
+    requires { ⌜ length (now empty) ≡ 0 ⌝ }
     ensures { λ r. ⌜ ((l : Lent) (allowed : Allowed) → length (l .palette) ≡ 768 → enough ≤ length (l .room) → steppedAs r ≡ takeOn (now (film .entry)) st o allowed l .step) ⌝ }
 {
     let sound = st.sound;
     if is_heard(is_chosen(sound.stream), o.kind) {
         let s = o.start;
         let p = s + o.long;
-        return drop_sound(st, o.kind, o.version, &film[s..p], p, none);
+        return drop_sound(st, o.kind, o.version, &film[s..p], p, empty);
     }
     act(film, st, o)
 }
@@ -124,7 +124,7 @@ fn turn_of(x: Stepped) -> Turn
     }
 }
 
-// What a step leads to where there is no size and the palette has 768 bytes. Nothing is stored: the palette lends its part of no bytes to samples that are dropped.
+// What a step leads to where there is no size and the palette has 768 bytes. Nothing is stored: samples that are dropped get the palette's part of no bytes as their room.
 fn foresee(film: &[u8], st: State, palette: &mut [u8]) -> Turn
     requires { ⌜ Early (length (now film)) st ⌝ }
     ensures { λ r. ⌜ ((l : Lent) (allowed : Allowed) → length (l .palette) ≡ 768 → enough ≤ length (l .room) → turnAs r ≡ courseOf (stepOf (now (film .entry)) st allowed l .step .answer)) ⌝ }

@@ -22,7 +22,7 @@ pub enum Source {
     Back(usize),
 }
 
-// The code of block k.
+// The code of block k. By a shift: a choice between two nibbles costs more.
 pub fn code_at(map: &[u8], k: usize) -> u8
     requires { ⌜ k / 2 < length (now map) ⌝ }
     ensures { λ r. ⌜ (r ≡ codeAt (now (map .entry)) k) × (r < 16) ⌝ }

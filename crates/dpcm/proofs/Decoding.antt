@@ -1,4 +1,4 @@
--- The samples in turn: after i of them the room has their bytes at its front. A law for the start, each sample and the end.
+-- The samples in turn, which the passes over the channels are compared with: after i of them the room has their bytes at its front, or is empty.
 -- Assumes nothing.
 use mathlib.Core.Path.{_≡_, refl, sym, ap, subst, _∙_}
 use mathlib.Core.Bool.{Bool}
@@ -11,8 +11,7 @@ use lib.Seq.{take-all}
 use Rattle.room.specs.Room.{written}
 use Rattle.room.proofs.Written.{Writing, writing-start, writing-more}
 use Rattle.dpcm.specs.Samples.{sampleAfter, turned, samples, lastOf, bytesOf}
-use Rattle.dpcm.specs.Packet.{HoldsOrNone}
-use Rattle.dpcm.specs.Stride.{putAt}
+use Rattle.dpcm.specs.Stride.{HoldsOrNone, putAt}
 use Rattle.dpcm.specs.declared.Last.{Last}
 use Rattle.dpcm.proofs.Samples.{samples-more, samples-length, last-more, bytes-append, bytes-length}
 

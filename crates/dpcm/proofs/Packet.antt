@@ -11,7 +11,8 @@ use Rattle.words.specs.Word.{wordAt}
 use Rattle.room.specs.Room.{written}
 use Rattle.room.proofs.Written.{Writing, writing-start, written-none, written-behind}
 use Rattle.dpcm.specs.Samples.{last, samples, lastOf, bytesOf}
-use Rattle.dpcm.specs.Packet.{channels, startWords, firstSamples, startLength, packetFirst, leading, packetSamples, packetLast, Fits, HoldsOrNone}
+use Rattle.dpcm.specs.Packet.{channels, startWords, firstSamples, startLength, packetFirst, leading, packetSamples, packetLast, Fits}
+use Rattle.dpcm.specs.Stride.{HoldsOrNone}
 use Rattle.dpcm.specs.declared.Last.{Last}
 use Rattle.dpcm.proofs.Samples.{samples-append, last-append, samples-length, bytes-append}
 use Rattle.dpcm.proofs.Decoding.{writing-sample, held}
@@ -94,18 +95,6 @@ unfolding leading bytesOf
 leading-bytes stereo true first = refl
 leading-bytes stereo false first = start-bytes stereo first
 
-packet-bytes : (stereo begun : Bool) (l : Last) (bytes : List ℕ) → let f = packetFirst stereo begun l bytes in
-    bytesOf (leading stereo begun f) ++ bytesOf (samples stereo f (drop (startLength stereo begun) bytes)) ≡ bytesOf (packetSamples stereo begun l bytes)
-unfolding leading packetFirst packetSamples bytesOf
-packet-bytes stereo true l bytes = refl
-packet-bytes stereo false l bytes = let f = startWords stereo l bytes in sym (bytes-append (firstSamples stereo f) (samples stereo f (drop (2 * channels stereo) bytes)))
-
-packet-ends : (stereo begun : Bool) (l : Last) (bytes : List ℕ)
-    → lastOf stereo (packetFirst stereo begun l bytes) (drop (startLength stereo begun) bytes) ≡ packetLast stereo begun l bytes
-unfolding packetFirst packetLast
-packet-ends stereo true l bytes = refl
-packet-ends stereo false l bytes = refl
-
 -- room for the start words, and behind them for the samples
 pub start-room : (stereo begun : Bool) (bytes room : ℕ) → Fits stereo begun bytes room → startLength stereo begun ≤ room
 start-room stereo true bytes room f = omega arith
@@ -119,23 +108,26 @@ module _ (stereo begun : Bool) (l : Last) (bytes : List ℕ) (first : Last) (ef 
     (n : ℕ) (en : n ≡ startLength stereo begun) (rest : List ℕ) (er : rest ≡ drop n bytes) where
   -- the last samples, whether the others are written or dropped
   pub packet-passed : (r : Last) → r ≡ lastOf stereo first rest → r ≡ packetLast stereo begun l bytes
-  packet-passed r e = e ∙ rw (er, en, ef) refl ∙ packet-ends stereo begun l bytes
+  unfolding packetLast
+  packet-passed r e = e ∙ rw (er, en, ef) refl
 
   module _ (room whole : List ℕ) (f : Fits stereo begun (length bytes) (length room)) (same : length whole ≡ length room) where
-    pub rest-fits : HoldsOrNone (2 * length rest) (length (take (length whole - n) (drop n whole)))
-    rest-fits h =
+    rest-holds : 2 * length rest ≤ length (take (length whole - n) (drop n whole))
+    rest-holds =
         let k = length-take-le (length whole - n) (drop n whole) (omega (arith, length-drop n whole)) in
         omega (arith, k, en, ap length er, length-drop n bytes, rest-room stereo begun _ _ f)
+
+    pub rest-fits : HoldsOrNone (2 * length rest) (length (take (length whole - n) (drop n whole)))
+    rest-fits h = rest-holds
 
     pub packet-decoded : whole ≡ written (bytesOf (leading stereo begun first)) room → (r : Last) (part : List ℕ)
         → (r ≡ lastOf stereo first rest) × (let behind = take (length whole - n) (drop n whole) in part ≡ written (take (length behind) (bytesOf (samples stereo first rest))) behind)
         → (r ≡ packetLast stereo begun l bytes) × (take n whole ++ (part ++ drop (length whole - n) (drop n whole)) ≡ written (bytesOf (packetSamples stereo begun l bytes)) room)
+    unfolding packetSamples
     packet-decoded ew r part e =
         let m : n ≡ length (bytesOf (leading stereo begun first)) = en ∙ sym (leading-bytes stereo begun first) in
-        let k = length-take-le (length whole - n) (drop n whole) (omega (arith, length-drop n whole)) in
-        let g : 2 * length rest ≤ length (take (length whole - n) (drop n whole)) = omega (arith, k, en, ap length er, length-drop n bytes, rest-room stereo begun _ _ f) in
-        let w = written-behind (bytesOf (leading stereo begun first)) (bytesOf (samples stereo first rest)) room whole part n ew m (held stereo first rest _ part g (e .1)) in
-        (packet-passed r (e .0), w ∙ ap (λ (x : List ℕ). written x room) (rw (er, en, ef) refl ∙ packet-bytes stereo begun l bytes))
+        let w = written-behind (bytesOf (leading stereo begun first)) (bytesOf (samples stereo first rest)) room whole part n ew m (held stereo first rest _ part rest-holds (e .1)) in
+        (packet-passed r (e .0), w ∙ ap (λ (x : List ℕ). written x room) (sym (bytes-append (leading stereo begun first) (samples stereo first rest)) ∙ rw (er, en, ef) refl))
 
 -- where the samples are dropped
 pub nothing-held : (bytes room : ℕ) → room ≡ 0 → HoldsOrNone bytes room
@@ -163,7 +155,7 @@ start-kept false l a b h = rw (word-kept a b 0 (omega arith))
 module _ (stereo : Bool) where
   pub packet-count : (begun : Bool) (l : Last) (bytes : List ℕ) → startLength stereo begun ≤ length bytes
       → length (packetSamples stereo begun l bytes) ≡ length bytes - cond begun 0 (channels stereo)
-  unfolding packetSamples
+  unfolding packetSamples leading packetFirst
   packet-count true l bytes h = omega (arith, samples-length stereo l bytes)
   packet-count false l bytes h =
       let f = startWords stereo l bytes in
@@ -171,7 +163,7 @@ module _ (stereo : Bool) where
 
   pub packet-samples-then : (begun : Bool) (l : Last) (a b : List ℕ) → startLength stereo begun ≤ length a
       → packetSamples stereo begun l (a ++ b) ≡ packetSamples stereo begun l a ++ packetSamples stereo true (packetLast stereo begun l a) b
-  unfolding packetSamples packetLast
+  unfolding packetSamples packetLast leading packetFirst
   packet-samples-then true l a b h = samples-append stereo l a b
   packet-samples-then false l a b h =
       let f = startWords stereo l a in
@@ -180,7 +172,7 @@ module _ (stereo : Bool) where
 
   pub packet-last-then : (begun : Bool) (l : Last) (a b : List ℕ) → startLength stereo begun ≤ length a
       → packetLast stereo begun l (a ++ b) ≡ packetLast stereo true (packetLast stereo begun l a) b
-  unfolding packetLast
+  unfolding packetLast packetFirst
   packet-last-then true l a b h = last-append stereo l a b
   packet-last-then false l a b h =
       rw (start-kept stereo l a b h, drop-append-le (2 * channels stereo) a b h) (last-append stereo (startWords stereo l a) (drop (2 * channels stereo) a) b)

@@ -9,8 +9,7 @@ use native.Mathlib.Omega.{arith}
 use lib.ListN.{length, take}
 use Rattle.room.specs.Room.{written}
 use Rattle.dpcm.specs.Samples.{last, turned, samples, lastOf, bytesOf}
-use Rattle.dpcm.specs.Packet.{HoldsOrNone}
-use Rattle.dpcm.specs.Stride.{bytesIn, lastBehind, roomBehind, channelLast, channelRoom}
+use Rattle.dpcm.specs.Stride.{HoldsOrNone, bytesIn, lastBehind, roomBehind, channelLast, channelRoom}
 use Rattle.dpcm.specs.declared.Last.{Last}
 use Rattle.dpcm.proofs.Stride.{last-step, room-step, room-past}
 use Rattle.dpcm.proofs.Decoding.{Decoding, decoding-start, decoding-more, decoded}

@@ -8,10 +8,9 @@ use native.Mathlib.Omega.{arith}
 use lib.ListN.{length, getD, set, length-set}
 use lib.Seq.{set-comm}
 use Rattle.dpcm.specs.Samples.{sampleAfter}
-use Rattle.dpcm.specs.Packet.{HoldsOrNone}
-use Rattle.dpcm.specs.Stride.{putAt, bytesIn, lastBehind, roomBehind, channelLast, channelRoom}
+use Rattle.dpcm.specs.Stride.{HoldsOrNone, putAt, bytesIn, lastBehind, roomBehind, channelLast, channelRoom}
 
--- how many bytes of the channel lie below n: the index behind them is its first that does not
+-- the channel has k bytes below n, if its byte number k is the first that does not lie below n
 count-is : (n start stride k : ℕ) → start < stride → stride ≤ 2 → n ≤ start + k * stride → start + k * stride < n + stride → k ≡ bytesIn start stride n
 count-is n start zero k s h behind until = omega arith
 count-is n start (suc zero) k s h behind until = omega arith
@@ -45,7 +44,7 @@ module _ (first : ℕ) (bytes : List ℕ) (start stride : ℕ) where
   room-length room zero = refl
   room-length room (suc k) = simp length-set (room-length room k)
 
-  -- a sample put elsewhere
+  -- a sample that is put at none of the channel's indices may as well be put behind the channel's
   pub room-past : (p v : ℕ) → ((k : ℕ) → p ≢ start + k * stride) → (room : List ℕ) (k : ℕ)
       → roomBehind first bytes start stride (putAt (2 * p) v room) k ≡ putAt (2 * p) v (roomBehind first bytes start stride room k)
   unfolding roomBehind

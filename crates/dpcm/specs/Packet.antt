@@ -3,7 +3,7 @@
 -- Assumes nothing.
 use mathlib.Core.Bool.{Bool, true, false, cond}
 use mathlib.Core.List.{List, [], _∷_, _++_}
-use Prim.Native.Nat.{ℕ, _*_, _-_, _≤_, _<_}
+use Prim.Native.Nat.{ℕ, _*_, _-_, _≤_}
 use lib.ListN.{drop}
 use Rattle.words.specs.Word.{wordAt}
 use Rattle.dpcm.specs.Samples.{last, samples, lastOf}
@@ -22,35 +22,27 @@ unfoldable pub firstSamples : Bool → Last → List ℕ
 firstSamples true l = l .next ∷ l .other ∷ []
 firstSamples false l = l .next ∷ []
 
--- what follows the start words
-abbrev pub behindStart : Bool → List ℕ → List ℕ
-behindStart stereo bytes = drop (2 * channels stereo) bytes
-
--- the samples of a packet's data, and the last samples then. begun: it is not the first
-unfoldable pub packetSamples : Bool → Bool → Last → List ℕ → List ℕ
-packetSamples stereo true l bytes = samples stereo l bytes
-packetSamples stereo false l bytes =
-    firstSamples stereo (startWords stereo l bytes) ++ samples stereo (startWords stereo l bytes) (behindStart stereo bytes)
-
-unfoldable pub packetLast : Bool → Bool → Last → List ℕ → Last
-packetLast stereo true l bytes = lastOf stereo l bytes
-packetLast stereo false l bytes = lastOf stereo (startWords stereo l bytes) (behindStart stereo bytes)
-
--- the same for both kinds of packet: the bytes of the start words, the last samples that the data behind them goes on from, and the samples before those
+-- a packet in parts; begun: it is not the first. The bytes of its start words
 abbrev pub startLength : Bool → Bool → ℕ
 startLength stereo begun = cond begun 0 (2 * channels stereo)
 
+-- the last samples that the data behind them goes on from
 unfoldable pub packetFirst : Bool → Bool → Last → List ℕ → Last
 packetFirst stereo begun l bytes = cond begun l (startWords stereo l bytes)
 
+-- the samples that come before those of that data
 unfoldable pub leading : Bool → Bool → Last → List ℕ
 leading stereo begun first = cond begun [] (firstSamples stereo first)
+
+-- all samples of a packet, and the last samples then
+unfoldable pub packetSamples : Bool → Bool → Last → List ℕ → List ℕ
+packetSamples stereo begun l bytes =
+    leading stereo begun (packetFirst stereo begun l bytes) ++ samples stereo (packetFirst stereo begun l bytes) (drop (startLength stereo begun) bytes)
+
+unfoldable pub packetLast : Bool → Bool → Last → List ℕ → Last
+packetLast stereo begun l bytes = lastOf stereo (packetFirst stereo begun l bytes) (drop (startLength stereo begun) bytes)
 
 -- what a decoder of packets asks: data of so many bytes has its start words, and the room holds its samples
 pub record Fits (stereo begun : Bool) (bytes room : ℕ) : Type 0 where
   pub start : startLength stereo begun ≤ bytes
   pub samples : 2 * (bytes - cond begun 0 (channels stereo)) ≤ room
-
--- what the loop over data bytes asks: the room holds so many bytes, or it is empty and the samples are dropped
-abbrev pub HoldsOrNone : ℕ → ℕ → Type 0
-HoldsOrNone bytes room = 0 < room → bytes ≤ room

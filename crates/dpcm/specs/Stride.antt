@@ -1,13 +1,17 @@
 -- One channel of compressed sound by itself, as the loop over it goes: the data bytes from index start on, a stride apart.
 -- Assumes nothing.
 use mathlib.Core.List.{List}
-use Prim.Native.Nat.{ℕ, zero, suc, _+_, _*_, _-_, _/_, _%_}
+use Prim.Native.Nat.{ℕ, zero, suc, _+_, _*_, _-_, _/_, _%_, _≤_, _<_}
 use lib.ListN.{length, getD, set}
 use Rattle.dpcm.specs.Samples.{sampleAfter}
 
 -- a sample's two bytes in a room, low first, from index at on
 abbrev pub putAt : ℕ → ℕ → List ℕ → List ℕ
 putAt at sample room = set (set room at (sample % 256)) (at + 1) (sample / 256)
+
+-- what storing samples asks: the room holds so many bytes, or it is empty and they are dropped
+abbrev pub HoldsOrNone : ℕ → ℕ → Type 0
+HoldsOrNone bytes room = 0 < room → bytes ≤ room
 
 -- how many of n bytes are the channel's
 abbrev pub bytesIn : ℕ → ℕ → ℕ → ℕ

@@ -8,11 +8,11 @@ use words::part_from;
 use words::word_at;
 ghost use mathlib.Core.Path.{_≡_};
 ghost use Prim.Native.Nat.{_+_, _*_, _/_, _%_, _≤_, _<_};
-ghost use lib.ListN.{length, take, set};
+ghost use lib.ListN.{length, take};
 ghost use Rattle.room.specs.Room.{written};
 ghost use Rattle.dpcm.specs.Samples.{sampleAfter, samples, lastOf, bytesOf};
-ghost use Rattle.dpcm.specs.Stride.{channelLast, channelRoom};
-ghost use Rattle.dpcm.specs.Packet.{channels, startWords, firstSamples, startLength, packetFirst, leading, packetSamples, packetLast, Fits, HoldsOrNone};
+ghost use Rattle.dpcm.specs.Stride.{HoldsOrNone, putAt, channelLast, channelRoom};
+ghost use Rattle.dpcm.specs.Packet.{channels, startWords, firstSamples, startLength, packetFirst, leading, packetSamples, packetLast, Fits};
 
 // The last sample of the channel whose turn is next, and of the other one. Between packets left is next; mono has no other.
 pub struct Last {
@@ -30,7 +30,7 @@ fn sample_after(last: u16, b: u8) -> u16
 // A sample's two bytes, low first, from index at on. An empty room drops it.
 fn put_sample(room: &mut [u8], at: usize, sample: u16)
     requires { ⌜ HoldsOrNone (at + 2) (length (now room)) ⌝ }
-    ensures { λ _. ⌜ now (room .exit) ≡ set (set (now (room .entry)) at (sample % 256)) (at + 1) (sample / 256) ⌝ }
+    ensures { λ _. ⌜ now (room .exit) ≡ putAt at sample (now (room .entry)) ⌝ }
 {
     if 0 < room.len() {
         put(room, at, (sample % 256) as u8);
@@ -39,8 +39,8 @@ fn put_sample(room: &mut [u8], at: usize, sample: u16)
 }
 
 // The samples of one channel: those of data[start], data[start + stride] and so on, each behind the last one. The sample of
-// byte i goes to index 2 * i of the room. An empty room drops them: this is the one caller of sample_after, so that the
-// compiler looks a step up inside the loop.
+// byte i goes to index 2 * i of the room. An empty room drops them, so that the opening call needs no loop of its own:
+// sample_after has one caller, and the compiler puts it inside the loop.
 fn decode_channel(first: u16, data: &[u8], start: usize, stride: usize, room: &mut [u8]) -> u16
     requires { ⌜ start < stride ⌝ }
     requires { ⌜ stride ≤ 2 ⌝ }
@@ -68,7 +68,7 @@ fn decode(stereo: bool, first: Last, data: &[u8], room: &mut [u8]) -> Last
     if stereo {
         let left = decode_channel(first.next, data, 0, 2, room);
         let right = decode_channel(first.other, data, 1, 2, room);
-        // behind an odd number of bytes right is next
+        // behind an odd number of bytes right is next: 18 refuses such packets, but the contract is for all data
         if data.len() % 2 == 0 {
             return Last {
                 next: left,
@@ -164,12 +164,12 @@ pub fn decode_packet(stereo: bool, begun: bool, last: Last, data: &[u8], room: &
     decode(stereo, first, part_from(data, n), &mut room[n..])
 }
 
-// The last samples behind a packet whose samples are dropped: none has no byte.
-pub fn last_of_packet(stereo: bool, begun: bool, last: Last, data: &[u8], none: &mut [u8]) -> Last
-    requires { ⌜ length (now none) ≡ 0 ⌝ }
+// The last samples behind a packet whose samples are dropped: empty is a room of no bytes.
+pub fn last_of_packet(stereo: bool, begun: bool, last: Last, data: &[u8], empty: &mut [u8]) -> Last
+    requires { ⌜ length (now empty) ≡ 0 ⌝ }
     ensures { λ r. ⌜ r ≡ packetLast stereo begun last (now («data» .entry)) ⌝ }
 {
     let first = packet_first(stereo, begun, last, data);
     let n = start_length(stereo, begun);
-    decode(stereo, first, part_from(data, n), none)
+    decode(stereo, first, part_from(data, n), empty)
 }

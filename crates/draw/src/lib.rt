@@ -48,7 +48,7 @@ fn pixel_count(code: u8, s: &[u8]) -> usize
     64
 }
 
-// A packet's data from byte at on: it is there, so nothing is tested.
+// A packet's data from byte at on. at is not past the end, so the test of `words::part_from` is spared.
 fn data_from(data: &[u8], at: usize) -> &[u8]
     requires { ⌜ at ≤ length (now «data») ⌝ }
     ensures { λ r. ⌜ now r ≡ drop at (now («data» .entry)) ⌝ }

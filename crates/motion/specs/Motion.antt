@@ -60,7 +60,7 @@ pub record Short (v : Vector) : Type 0 where
   pub down : v .down ≤ 255
   pub up : v .up ≤ 255
 
--- as that of code 2, v leads at least a block to the right, or at least a block down; never up, and to the left only with a block down
+-- v leads at least a block to the right or at least a block down, and never up, as the vector of code 2 does; so it leads left only with a block down
 pub record Onward (v : Vector) : Type 0 where
   pub far : (v .left + 8 ≤ v .right) ⊎ (8 ≤ v .down)
   pub never-up : v .up ≡ 0

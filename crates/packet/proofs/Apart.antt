@@ -16,7 +16,7 @@ use Rattle.packet.specs.Accepted.{CopyInside}
 use Rattle.packet.proofs.Grid.{raster-block}
 
 module _ (c : ℕ) (some : 0 < c) (h k : ℕ) (v : Vector) (on : Onward v) (i : ℕ) (hi : i < 64) where
-  -- the 8x8 that it points at lies in later blocks
+  -- the 8x8 that an onward vector points at lies in later blocks
   pub later : PointsInside v (8 * c) h (8 * (k % c)) (8 * (k / c)) → k < blockOf c (copiedIndex v (8 * c) (8 * (k % c)) (8 * (k / c)) i)
   unfolding copiedIndex
   later l =

@@ -10,16 +10,16 @@ use Rattle.stores.specs.Stores.{firstPixels}
 use Rattle.stores.proofs.Pixels.{first-met, first-agree, first-off}
 use Rattle.paint.specs.Paint.{fixedValue, backValue}
 use Rattle.paint.proofs.Painting.{painting-start, painting-more, painting-end}
-use Rattle.rows.specs.Row.{here, eight, beside, Apart}
+use Rattle.rows.specs.Row.{here, rowOf, beside, Disjoint}
 
 -- the stores, one after another
 pub eight-put : (to a b c d e f g h : ℕ) (l₀ l₁ l₂ l₃ l₄ l₅ l₆ l₇ l₈ : List ℕ)
     → l₁ ≡ set l₀ to a → l₂ ≡ set l₁ (to + 1) b → l₃ ≡ set l₂ (to + 2) c → l₄ ≡ set l₃ (to + 3) d
     → l₅ ≡ set l₄ (to + 4) e → l₆ ≡ set l₅ (to + 5) f → l₇ ≡ set l₆ (to + 6) g → l₈ ≡ set l₇ (to + 7) h
-    → l₈ ≡ firstPixels (beside to 0 (fixedValue here (eight a b c d e f g h))) 0 l₀ 8
+    → l₈ ≡ firstPixels (beside to 0 (fixedValue here (rowOf a b c d e f g h))) 0 l₀ 8
 unfolding fixedValue
 eight-put to a b c d e f g h l₀ l₁ l₂ l₃ l₄ l₅ l₆ l₇ l₈ e₁ e₂ e₃ e₄ e₅ e₆ e₇ e₈ =
-    let plan = beside to 0 (fixedValue here (eight a b c d e f g h)) in
+    let plan = beside to 0 (fixedValue here (rowOf a b c d e f g h)) in
     let p₁ = painting-more plan l₀ 8 l₀ 0 (painting-start plan l₀ 8) (omega arith) l₁ to a (sym (add-zero to)) refl e₁ in
     let p₂ = painting-more plan l₀ 8 l₁ 1 p₁ (omega arith) l₂ (to + 1) b refl refl e₂ in
     let p₃ = painting-more plan l₀ 8 l₂ 2 p₂ (omega arith) l₃ (to + 2) c refl refl e₃ in
@@ -34,7 +34,7 @@ eight-put to a b c d e f g h l₀ l₁ l₂ l₃ l₄ l₅ l₆ l₇ l₈ e₁ e
 module _ (s : List ℕ) (from : ℕ) where
   abbrev pub found : List ℕ
   found =
-      eight (getD s from 0) (getD s (from + 1) 0) (getD s (from + 2) 0) (getD s (from + 3) 0) (getD s (from + 4) 0) (getD s (from + 5) 0)
+      rowOf (getD s from 0) (getD s (from + 1) 0) (getD s (from + 2) 0) (getD s (from + 3) 0) (getD s (from + 4) 0) (getD s (from + 5) 0)
       (getD s (from + 6) 0) (getD s (from + 7) 0)
 
   element : (i : ℕ) → i < 8 → getD found i 0 ≡ getD s (from + i) 0
@@ -58,7 +58,7 @@ module _ (s : List ℕ) (from : ℕ) where
       (λ i q c f. ap (λ (n : ℕ). getD found n 0) (zero-add i) ∙ element i q)
 
 -- the same in the picture drawn on, where no store changes an element that is read
-pub eight-moved : (from to : ℕ) (b b′ : List ℕ) → Apart from to → b′ ≡ firstPixels (beside to 0 (fixedValue here (found b from))) 0 b 8 → b′ ≡ firstPixels (beside to from (backValue here)) 0 b 8
+pub eight-moved : (from to : ℕ) (b b′ : List ℕ) → Disjoint from to → b′ ≡ firstPixels (beside to 0 (fixedValue here (found b from))) 0 b 8 → b′ ≡ firstPixels (beside to from (backValue here)) 0 b 8
 unfolding fixedValue backValue
 eight-moved from to b b′ s e =
     let d = beside to from (fixedValue here b) in

@@ -13,7 +13,7 @@ use Rattle.stores.proofs.Pixels.{first-join}
 use Rattle.paint.specs.Asked.{Square}
 use Rattle.paint.specs.Paint.{single, fixedValue, backValue}
 use Rattle.paint.proofs.Painting.{Painting, painting-start, painting-end, painting-length, square-inside, square-below}
-use Rattle.rows.specs.Row.{here, beside, stacked, Apart}
+use Rattle.rows.specs.Row.{here, beside, stacked, Disjoint}
 
 -- ---- several pixels a turn
 
@@ -76,7 +76,7 @@ module _ (w x y p to : ℕ) (e : to ≡ rasterIndex w x y p) where
   row-low q h = omega (arith, rows-low 1 q h (omega arith))
 
 -- rows of two 8x8s are apart where the first rows are
-pub rows-apart : (w sx sy x y p from to : ℕ) → from ≡ rasterIndex w sx sy p → to ≡ rasterIndex w x y p → Apart (rasterIndex w sx sy 0) (rasterIndex w x y 0) → Apart from to
+pub rows-apart : (w sx sy x y p from to : ℕ) → from ≡ rasterIndex w sx sy p → to ≡ rasterIndex w x y p → Disjoint (rasterIndex w sx sy 0) (rasterIndex w x y 0) → Disjoint from to
 unfolding rasterIndex
 rows-apart w sx sy x y p from to e f s = omega (arith, e, f, s)
 
@@ -128,7 +128,7 @@ unfolding backValue
 rows-back w x y at b₀ b p r h from to e is b′ f =
     rows-beside w x y (backValue at) b₀ b p r h to from e (backValue here) (λ i l a. ap (λ (n : ℕ). getD a n 0) (is i l)) b′ f
 
--- its indices are the picture's
+-- it lies inside the picture
 pub rows-inside : (w x y : ℕ) (d : Plan) (b₀ b : List ℕ) (p : ℕ) → Rows d b₀ b p → p < 64 → (to : ℕ) → to ≡ rasterIndex w x y p
     → Square w x y (length b₀) → to + 8 ≤ length b
 rows-inside w x y d b₀ b p r h to e q = rw (rows-length d b₀ b p r) (row-inside w x y p to (r .whole) e (length b₀) q h)

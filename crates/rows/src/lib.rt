@@ -14,12 +14,12 @@ ghost use Rattle.block.specs.Asked.{Sided};
 ghost use Rattle.stores.specs.Stores.{firstPixels};
 ghost use Rattle.paint.specs.Paint.{single, fixedValue, backValue};
 ghost use Rattle.paint.specs.Asked.{Square};
-ghost use Rattle.rows.specs.Row.{here, eight, beside, stacked, colours, inTurn, Apart, Band};
+ghost use Rattle.rows.specs.Row.{here, rowOf, beside, stacked, colours, inTurn, Disjoint, Band};
 
 // Eight pixels side by side from index to on. Nothing is read between the stores, so that the compiler may join them.
 fn put_eight(back: &mut [u8], to: usize, a: u8, b: u8, c: u8, d: u8, e: u8, f: u8, g: u8, h: u8)
     requires { ⌜ to + 8 ≤ length (now back) ⌝ }
-    ensures { λ _. ⌜ now (back .exit) ≡ firstPixels (beside to 0 (fixedValue here (eight a b c d e f g h))) 0 (now (back .entry)) 8 ⌝ }
+    ensures { λ _. ⌜ now (back .exit) ≡ firstPixels (beside to 0 (fixedValue here (rowOf a b c d e f g h))) 0 (now (back .entry)) 8 ⌝ }
 {
     put(back, to, a);
     put(back, to + 1, b);
@@ -73,7 +73,7 @@ pub fn whole_front(
 
 // Eight pixels side by side from index to on, copied from those from index from on of back itself. No pixel is among both, so that all may be read before the first is stored.
 fn back_row(back: &mut [u8], from: usize, to: usize)
-    requires { ⌜ (from + 8 ≤ length (now back)) × (to + 8 ≤ length (now back)) × Apart from to ⌝ }
+    requires { ⌜ (from + 8 ≤ length (now back)) × (to + 8 ≤ length (now back)) × Disjoint from to ⌝ }
     ensures { λ _. ⌜ now (back .exit) ≡ firstPixels (beside to from (backValue here)) 0 (now (back .entry)) 8 ⌝ }
 {
     let a = back[from];
@@ -89,7 +89,7 @@ fn back_row(back: &mut [u8], from: usize, to: usize)
 
 // The 8x8 at x, y, copied from the one at sx, sy of back itself: no row overlaps the one that it is copied from.
 pub fn whole_back(back: &mut [u8], w: usize, sx: usize, sy: usize, x: usize, y: usize)
-    requires { ⌜ Square w sx sy (length (now back)) × Square w x y (length (now back)) × Apart (rasterIndex w sx sy 0) (rasterIndex w x y 0) ⌝ }
+    requires { ⌜ Square w sx sy (length (now back)) × Square w x y (length (now back)) × Disjoint (rasterIndex w sx sy 0) (rasterIndex w x y 0) ⌝ }
     ensures { λ _. ⌜ now (back .exit) ≡ firstPixels (single (rasterIndex w x y) (backValue (rasterIndex w sx sy))) 0 (now (back .entry)) 64 ⌝ }
 {
     let mut from = raster_index(w, sx, sy, 0);

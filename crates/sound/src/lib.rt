@@ -335,9 +335,9 @@ pub fn audio_silence(sound: Sound, body: &[u8], room: &mut [u8]) -> Heard
     Heard::Taken(sound, 0)
 }
 
-// A packet's sound then, where its samples are dropped. none has no byte, here and below.
-fn sound_after(sound: Sound, stereo: bool, compressed: bool, data: &[u8], none: &mut [u8]) -> Sound
-    requires { ⌜ length (now none) ≡ 0 ⌝ }
+// A packet's sound then, where its samples are dropped. empty, here and below, is a room of no bytes.
+fn sound_after(sound: Sound, stereo: bool, compressed: bool, data: &[u8], empty: &mut [u8]) -> Sound
+    requires { ⌜ length (now empty) ≡ 0 ⌝ }
     ensures { λ r. ⌜ r ≡ soundAfter sound stereo compressed (now («data» .entry)) ⌝ }
 {
     if compressed {
@@ -345,7 +345,7 @@ fn sound_after(sound: Sound, stereo: bool, compressed: bool, data: &[u8], none: 
             next: sound.left,
             other: sound.right,
         };
-        let then = last_of_packet(stereo, sound.begun, last, data, none);
+        let then = last_of_packet(stereo, sound.begun, last, data, empty);
         return sound.going_on(then);
     }
     sound
@@ -359,16 +359,16 @@ fn drop_data(
     compressed: bool,
     count: usize,
     data: &[u8],
-    none: &mut [u8],
+    empty: &mut [u8],
 ) -> Heard
     requires { ⌜ count < 65536 ⌝ }
-    requires { ⌜ length (now none) ≡ 0 ⌝ }
+    requires { ⌜ length (now empty) ≡ 0 ⌝ }
     ensures { λ r. ⌜ ((room : ℕ) → enough ≤ room → heardAs r ≡ answer (dataStep sound stereo wide compressed count (now («data» .entry)) room)) ⌝ }
 {
     if is_even(stereo, count) {
         if is_exact(stereo, wide, compressed, sound.begun, count, data.len()) {
             let bytes = count * sample_bytes(wide, compressed);
-            let next = sound_after(sound, stereo, compressed, data, none);
+            let next = sound_after(sound, stereo, compressed, data, empty);
             return Heard::Taken(next, bytes);
         }
     }
@@ -388,8 +388,8 @@ fn drop_silence(sound: Sound, stereo: bool, wide: bool, compressed: bool, count:
 }
 
 // Opcode 08 where its samples are dropped: it answers as in every room that is always enough, so 19 is not met.
-pub fn drop_audio_data(sound: Sound, body: &[u8], none: &mut [u8]) -> Heard
-    requires { ⌜ length (now none) ≡ 0 ⌝ }
+pub fn drop_audio_data(sound: Sound, body: &[u8], empty: &mut [u8]) -> Heard
+    requires { ⌜ length (now empty) ≡ 0 ⌝ }
     ensures { λ r. ⌜ ((room : ℕ) → enough ≤ room → heardAs r ≡ answer (audioData sound (now (body .entry)) room)) ⌝ }
 {
     if is_masked(sound.stream, word_at(body, 2)) {
@@ -407,7 +407,7 @@ pub fn drop_audio_data(sound: Sound, body: &[u8], none: &mut [u8]) -> Heard
                 compressed,
                 word_at(body, 4),
                 part_from(body, 6),
-                none,
+                empty,
             ),
         };
     }

@@ -24,7 +24,7 @@ use Rattle.stores.proofs.Pixels.{first-agree}
 use Rattle.paint.specs.Paint.{single, fixedValue, backValue}
 use Rattle.paint.specs.Value.{pixelCount, pixelValue, blockPlan}
 use Rattle.paint.specs.Asked.{Square, Canvas, Drawable}
-use Rattle.rows.specs.Row.{Apart}
+use Rattle.rows.specs.Row.{Disjoint}
 use Rattle.whole.specs.Asked.{Pointed, Clear}
 
 -- ---- the picture
@@ -63,7 +63,7 @@ module _ (w h x y front back : ℕ) (c : Canvas w h x y front back) where
         }
 
     -- none of its rows overlaps the block's
-    pub pointed-apart : Clear v → Apart (rasterIndex w (x + v .right - v .left) (y + v .down - v .up) 0) (rasterIndex w x y 0)
+    pub pointed-apart : Clear v → Disjoint (rasterIndex w (x + v .right - v .left) (y + v .down - v .up) 0) (rasterIndex w x y 0)
     unfolding negated
     pointed-apart clear =
         let i = inside-each v w h x y (p .inside) in

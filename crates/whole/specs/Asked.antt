@@ -12,6 +12,6 @@ pub record Pointed (v : Vector) (w h x y : ℕ) : Type 0 where
   pub short : Short v
   pub inside : pointsInside v w h x y ≡ true
 
--- a vector that leads on or back, as those of codes 2 and 3: no row of the 8x8 that it points at overlaps the row that it is copied to
+-- a vector that leads on or back, as those of codes 2 and 3 do: where it points inside, no row overlaps the one that it is copied to
 abbrev pub Clear : Vector → Type 0
 Clear v = Onward v ⊎ Onward (negated v)

@@ -1,8 +1,5 @@
 use native.Mathlib.Omega.{arith}
 use Rattle.block.proofs.Codes.{copy-low, copy-high, copy-judged}
-use Rattle.block.specs.Block.{kindOf}
-use Rattle.block.specs.Block.{copyInside}
-use borrow.Author.Needs.{needs}
 use Rattle.block.proofs.copy_inside.Statement.{statement}
 use Rattle.block.proofs.copy_inside.Tie as tie
 use Rattle.block.proofs.copy_inside.Reads as reads

@@ -1,6 +1,4 @@
 use mathlib.Core.Logic.{inl, inr}
-use Rattle.block.specs.Block.{kindOf}
-use Rattle.block.specs.Block.{dataLength}
 use borrow.Author.Needs.{needs}
 use Rattle.block.proofs.data_length.Statement.{statement}
 use Rattle.block.proofs.data_length.Tie as tie

@@ -4,7 +4,6 @@ use native.Mathlib.Omega.{arith}
 use Rattle.words.proofs.Tests.{beyond}
 use Rattle.block.specs.Block.{kinds}
 use Rattle.block.proofs.Codes.{not-fixed}
-use borrow.Author.Needs.{needs}
 use Rattle.block.specs.Block.{kindOf}
 use Rattle.block.specs.Block.{dataLength}
 use Rattle.block.proofs.fixed_length.Statement.{statement}

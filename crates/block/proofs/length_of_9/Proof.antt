@@ -2,8 +2,6 @@ use mathlib.Core.Path.{ap, ap₂, _∙_}
 use mathlib.Core.Bool.{Bool, cond}
 use Prim.Native.Nat.{ℕ}
 use Rattle.block.proofs.Codes.{length-9}
-use Rattle.block.specs.Block.{kindOf}
-use Rattle.block.specs.Block.{dataLength}
 use borrow.Author.Needs.{needs}
 use Rattle.block.proofs.length_of_9.Statement.{statement}
 use Rattle.block.proofs.length_of_9.Tie as tie

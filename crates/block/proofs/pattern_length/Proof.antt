@@ -3,8 +3,6 @@ use mathlib.Core.Bool.{Bool, cond}
 use native.Mathlib.Omega.{arith}
 use Rattle.words.proofs.Tests.{beyond}
 use Rattle.block.proofs.Codes.{length-7, length-8, length-A}
-use Rattle.block.specs.Block.{kindOf}
-use Rattle.block.specs.Block.{dataLength}
 use borrow.Author.Needs.{needs}
 use Rattle.block.proofs.pattern_length.Statement.{statement}
 use Rattle.block.proofs.pattern_length.Tie as tie

@@ -3,7 +3,6 @@ use native.Mathlib.Omega.{arith}
 use Rattle.packet.proofs.Strip.{finds-refused, finds-by}
 use Rattle.packet.proofs.Sizes.{few, pixels-few, size-is, is-sized}
 use Rattle.draw.proofs.Judged.{judged-6, judged-8, judged-8-back, judged-10, judged-11, judged-blocks}
-use Rattle.draw.specs.Call.{callVerdict}
 use borrow.Author.Needs.{needs}
 use Rattle.draw.proofs.judge.Statement.{statement}
 use Rattle.draw.proofs.judge.Tie as tie

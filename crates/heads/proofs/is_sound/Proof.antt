@@ -1,5 +1,4 @@
 use Rattle.heads.proofs.Heads.{not-sound}
-use borrow.Author.Needs.{needs}
 use Rattle.heads.specs.Heads.{isSound}
 use Rattle.heads.proofs.is_sound.Statement.{statement}
 use Rattle.heads.proofs.is_sound.Tie as tie

@@ -1,6 +1,4 @@
 use mathlib.Core.Path.{sym, _∙_}
-use Rattle.words.proofs.Tests.{decide}
-use Rattle.heads.specs.Heads.{passedOver}
 use borrow.Author.Needs.{needs}
 use Rattle.heads.proofs.judge_other.Statement.{statement}
 use Rattle.heads.proofs.judge_other.Tie as tie

@@ -1,5 +1,4 @@
 use Rattle.heads.proofs.Heads.{shape-end, shape-other}
-use Rattle.words.proofs.Tests.{decide}
 use Rattle.heads.specs.Heads.{shapeVerdict}
 use borrow.Author.Needs.{needs}
 use Rattle.heads.proofs.judge_shape.Statement.{statement}

@@ -1,5 +1,4 @@
 use Rattle.motion.proofs.Vectors.{ahead-low, ahead-high}
-use Rattle.motion.specs.Motion.{aheadVector}
 use borrow.Author.Needs.{needs}
 use Rattle.motion.proofs.ahead_vector.Statement.{statement}
 use Rattle.motion.proofs.ahead_vector.Tie as tie

@@ -1,6 +1,4 @@
 use Rattle.motion.proofs.Vectors.{negated-is}
-use Rattle.motion.specs.Motion.{aheadVector}
-use Rattle.motion.specs.Motion.{negated}
 use borrow.Author.Needs.{needs}
 use Rattle.motion.proofs.behind_vector.Statement.{statement}
 use Rattle.motion.proofs.behind_vector.Tie as tie

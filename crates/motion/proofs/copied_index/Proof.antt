@@ -1,6 +1,5 @@
 use native.Mathlib.Omega.{arith}
 use Rattle.motion.proofs.Vectors.{inside-each}
-use Rattle.motion.specs.Motion.{pointsInside}
 use Rattle.motion.specs.Motion.{copiedIndex}
 use borrow.Author.Needs.{needs}
 use Rattle.motion.proofs.copied_index.Statement.{statement}

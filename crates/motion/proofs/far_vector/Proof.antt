@@ -1,5 +1,4 @@
 use Rattle.motion.proofs.Vectors.{far-is}
-use Rattle.motion.specs.Motion.{farVector}
 use borrow.Author.Needs.{needs}
 use Rattle.motion.proofs.far_vector.Statement.{statement}
 use Rattle.motion.proofs.far_vector.Tie as tie

@@ -1,5 +1,4 @@
 use Rattle.motion.proofs.Vectors.{near-is}
-use Rattle.motion.specs.Motion.{nearVector}
 use borrow.Author.Needs.{needs}
 use Rattle.motion.proofs.near_vector.Statement.{statement}
 use Rattle.motion.proofs.near_vector.Tie as tie

@@ -1,5 +1,4 @@
 use Rattle.motion.proofs.Vectors.{outside-left, outside-right, outside-up, outside-down, inside-all}
-use Rattle.motion.specs.Motion.{pointsInside}
 use borrow.Author.Needs.{needs}
 use Rattle.motion.proofs.points_inside.Statement.{statement}
 use Rattle.motion.proofs.points_inside.Tie as tie

@@ -1,5 +1,4 @@
 use borrow.Author.Tests.{eq-eqb, ne-eqb}
-use borrow.Author.Needs.{needs}
 use Rattle.mve.proofs.flag.Statement.{statement}
 use Rattle.mve.proofs.flag.Tie as tie
 use Rattle.mve.proofs.flag.Reads as reads

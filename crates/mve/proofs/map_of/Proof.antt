@@ -1,6 +1,4 @@
 use Rattle.mve.proofs.Films.{no-map, a-map}
-use borrow.Author.Needs.{needs}
-use Rattle.mve.specs.Film.{mapOf}
 use Rattle.mve.proofs.map_of.Statement.{statement}
 use Rattle.mve.proofs.map_of.Tie as tie
 use Rattle.mve.proofs.map_of.Reads as reads

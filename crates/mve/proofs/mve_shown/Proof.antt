@@ -1,5 +1,4 @@
 use Rattle.mve.proofs.Films.{shown-length}
-use Rattle.mve.specs.Film.{stateOf}
 use borrow.Author.Needs.{needs}
 use Rattle.mve.proofs.mve_shown.Statement.{statement}
 use Rattle.mve.proofs.mve_shown.Tie as tie

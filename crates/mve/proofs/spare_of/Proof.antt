@@ -1,5 +1,4 @@
 use Rattle.words.proofs.Tests.{decide}
-use borrow.Author.Needs.{needs}
 use Rattle.mve.specs.Film.{spareOf}
 use Rattle.mve.proofs.spare_of.Statement.{statement}
 use Rattle.mve.proofs.spare_of.Tie as tie

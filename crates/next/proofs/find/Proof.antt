@@ -1,5 +1,4 @@
 use Rattle.next.proofs.Standing.{found-here, no-state, is-possible}
-use Rattle.next.specs.Next.{nextOf}
 use borrow.Author.Needs.{needs}
 use Rattle.next.proofs.find.Statement.{statement}
 use Rattle.next.proofs.find.Tie as tie

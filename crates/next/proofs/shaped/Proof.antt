@@ -1,6 +1,5 @@
 use mathlib.Core.Path.{refl}
 use Rattle.next.proofs.Standing.{goes-on, stops}
-use Rattle.next.specs.Next.{on}
 use borrow.Author.Needs.{needs}
 use Rattle.next.proofs.shaped.Statement.{statement}
 use Rattle.next.proofs.shaped.Tie as tie

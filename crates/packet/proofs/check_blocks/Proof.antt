@@ -5,9 +5,8 @@ use native.Mathlib.Nat.{div-le-self}
 use native.Mathlib.Omega.{arith}
 use Rattle.packet.proofs.Grid.{column-below}
 use Rattle.packet.specs.Packet.{packet}
-use Rattle.packet.proofs.Walk.{Walked, Seen, moved, walked-ones, mapped, blocks-few, corner, length-is, refuses-12, refuses-13, refuses-14, walked-right, walked-down, used-up, left-over}
+use Rattle.packet.proofs.Walk.{Walked, moved, walked-ones, mapped, blocks-few, corner, length-is, refuses-12, refuses-13, refuses-14, walked-right, walked-down, used-up, left-over}
 use Rattle.packet.proofs.Strip.{Ends, finds-refused, finds-accepted, touched-is, first-most, first-clear, ends, inside, ones-behind}
-use borrow.Author.Needs.{needs}
 use Rattle.packet.proofs.check_blocks.Statement.{statement}
 use Rattle.packet.proofs.check_blocks.Tie as tie
 use Rattle.packet.proofs.check_blocks.Reads as reads

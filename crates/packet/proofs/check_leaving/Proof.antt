@@ -1,7 +1,6 @@
 use mathlib.Core.Path.{refl, sym, _∙_}
 use native.Mathlib.Omega.{arith}
 use Rattle.packet.proofs.Sizes.{few, is-sized, judges-blocks, refuses-10, refuses-6}
-use Rattle.packet.specs.Verdict.{verdict}
 use Rattle.packet.proofs.Strip.{finds-refused, finds-by}
 use borrow.Author.Needs.{needs}
 use Rattle.packet.proofs.check_leaving.Statement.{statement}

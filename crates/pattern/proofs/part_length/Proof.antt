@@ -1,7 +1,5 @@
-use mathlib.Core.Path.{_≡_, refl, sym, ap, _∙_}
 use native.Mathlib.Omega.{arith}
-use Rattle.pattern.proofs.Bounds.{small, placed, field, bits, colours-twice}
-use borrow.Author.Needs.{needs}
+use Rattle.pattern.proofs.Bounds.{small, colours-twice}
 use Rattle.pattern.specs.Pattern.{partLength, cells}
 use Rattle.pattern.proofs.part_length.Statement.{statement}
 use Rattle.pattern.proofs.part_length.Tie as tie

@@ -1,4 +1,3 @@
-use mathlib.Core.Path.{refl}
 use native.Mathlib.Omega.{arith}
 use Rattle.sound.specs.Step.{sampleBytes}
 use Rattle.sound.proofs.sample_bytes.Statement.{statement}

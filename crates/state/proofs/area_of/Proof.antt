@@ -2,8 +2,6 @@ use mathlib.Core.Path.{sym, _∙_}
 use native.Mathlib.Omega.{arith}
 use Rattle.packet.proofs.Sizes.{size-is, pixels-few}
 use Rattle.state.proofs.Tests.{area-legal, area-none}
-use Rattle.words.proofs.Tests.{decide}
-use Rattle.state.specs.State.{area}
 use borrow.Author.Needs.{needs}
 use Rattle.state.proofs.area_of.Statement.{statement}
 use Rattle.state.proofs.area_of.Tie as tie

@@ -1,6 +1,4 @@
 use Rattle.state.proofs.Tests.{none-inside, part-inside}
-use Rattle.words.proofs.Tests.{decide}
-use Rattle.state.specs.State.{mapInside}
 use borrow.Author.Needs.{needs}
 use Rattle.state.proofs.is_map_inside.Statement.{statement}
 use Rattle.state.proofs.is_map_inside.Tie as tie

@@ -1,5 +1,4 @@
 use Rattle.state.proofs.Tests.{starts-past, ends-past, lies-inside}
-use Rattle.words.proofs.Tests.{decide}
 use Rattle.state.proofs.is_part_inside.Statement.{statement}
 use Rattle.state.proofs.is_part_inside.Tie as tie
 use Rattle.state.proofs.is_part_inside.Reads as reads

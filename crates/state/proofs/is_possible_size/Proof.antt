@@ -1,6 +1,4 @@
 use Rattle.state.proofs.Tests.{no-size, some-size}
-use Rattle.words.proofs.Tests.{decide}
-use Rattle.state.specs.State.{possibleSize}
 use borrow.Author.Needs.{needs}
 use Rattle.state.proofs.is_possible_size.Statement.{statement}
 use Rattle.state.proofs.is_possible_size.Tie as tie

@@ -1,6 +1,4 @@
 use Rattle.state.proofs.Tests.{state-judged}
-use Rattle.words.proofs.Tests.{decide}
-use Rattle.state.specs.State.{stateVerdict}
 use borrow.Author.Needs.{needs}
 use Rattle.state.proofs.judge_state.Statement.{statement}
 use Rattle.state.proofs.judge_state.Tie as tie

@@ -1,7 +1,6 @@
 use mathlib.Core.Path.{sym}
 use lib.Seq.{length-take-le}
 use borrow.Author.Tests.{le-leb, lt-leb}
-use Rattle.words.proofs.Tests.{decide}
 use Rattle.state.specs.State.{leading}
 use borrow.Author.Needs.{needs}
 use Rattle.state.proofs.leading_part.Statement.{statement}

@@ -1,6 +1,4 @@
 use Rattle.state.proofs.Tests.{shown-is}
-use Rattle.words.proofs.Tests.{decide}
-use Rattle.state.specs.State.{shownOf}
 use borrow.Author.Needs.{needs}
 use Rattle.state.proofs.shown.Statement.{statement}
 use Rattle.state.proofs.shown.Tie as tie

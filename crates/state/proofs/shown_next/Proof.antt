@@ -1,6 +1,4 @@
 use Rattle.state.proofs.Moves.{turned-0, turned-1, not-turned}
-use borrow.Author.Needs.{needs}
-use Rattle.state.specs.Moves.{shownNext}
 use Rattle.state.proofs.shown_next.Statement.{statement}
 use Rattle.state.proofs.shown_next.Tie as tie
 use Rattle.state.proofs.shown_next.Reads as reads

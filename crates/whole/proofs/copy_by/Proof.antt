@@ -1,4 +1,3 @@
-use native.Mathlib.Omega.{arith}
 use Rattle.whole.proofs.Families.{copy-pointed, copy-clear, back-canvas, paints-back, paints-front}
 use borrow.Author.Needs.{needs}
 use Rattle.whole.proofs.copy_by.Statement.{statement}
