@@ -472,6 +472,7 @@ static bool begin(struct kept *kept, const struct arguments *arguments) {
     if (!read_film(arguments->film, &film)) {
         return false;
     }
+    /* Not mve_begin, which drops the samples before the size. */
     struct mve_stepped opened = mve_open(film.bytes, film.length, arguments->stream);
     free(film.bytes);
     if (opened.kind == MVE_REFUSED) {

@@ -109,8 +109,8 @@ libmve.a is one object for x86-64 and the System V ABI. It needs no operating sy
 undefined below. Every function has a section of its own, so that the linker's --gc-sections leaves out those that are not
 called. All relocations are relative: code and constants may be loaded at any address, as long as they stay together.
 
-    code                        46,315 bytes
-    constants                   1,949 bytes
+    code                        47,035 bytes
+    constants                   1,509 bytes
     memory of its own           0 bytes
     undefined symbols           memset
     relocations                 R_X86_64_PC32, R_X86_64_PLT32
@@ -119,12 +119,12 @@ called. All relocations are relative: code and constants may be loaded at any ad
     stack of mve_begin          696 bytes
     stack of mve_check          192 bytes
     stack of mve_check_strict   192 bytes
-    stack of mve_draw           560 bytes
-    stack of mve_draw_strict    560 bytes
+    stack of mve_draw           664 bytes
+    stack of mve_draw_strict    664 bytes
     stack of mve_open           8 bytes
     stack of mve_origin         288 bytes
     stack of mve_shown          8 bytes
-    stack of mve_step_as        960 bytes
+    stack of mve_step_as        824 bytes
 
 The stack of a call is the most that it takes, together with all that it calls: return addresses, pushed registers and
 arguments, locals with the copies of constant tables, and what is used below the stack pointer. Each call takes less than
@@ -304,9 +304,17 @@ enum mve_kind {
     MVE_REFUSED = 4     /* nothing is changed; the number says why */
 };
 
-/* The numbers of refusal, in the order in which they are tested: the first that is met is given. Of several blocks with a
-   fault, the one with the lowest number is given, with its first fault in the order 12, 13, 14. mve_draw tests the size
-   (6) before the lengths lent (8). */
+/* The numbers of refusal. A call gives the first that it meets. mve_step and mve_step_strict meet 2 to 19, and test them in
+   the order of this list. The other calls test in these orders:
+
+       mve_open                        1
+       mve_begin                       1, 8 for the palette; then at each step 2 to 7, 9, 17, 18, as mve_step does; 21 at the
+                                       film's end
+       mve_check, mve_check_strict     6, 10, the blocks, 15
+       mve_draw, mve_draw_strict       6, 8, 10, 11, the blocks, 15
+       mve_origin                      6, 8, 10, the blocks, 15, 22
+
+   Of several blocks with a fault, the one with the lowest number is given, with its first fault in the order 12, 13, 14. */
 enum mve_refusal {
     MVE_ERROR_STATE = 16,        /* a state with position, chunk end, map, front, size or sound format out of bounds */
     MVE_ERROR_LENT_LENGTH = 8,   /* palette not 768 bytes, or a picture shorter than the frame */
@@ -373,7 +381,12 @@ enum mve_source {
     MVE_NEW = 3    /* a pixel of the new picture */
 };
 
-/* Where a walk over a film is. It goes into a step, and the next state comes back. Change nothing in it. */
+/* Where a walk over a film is. It goes into a step, and the next state comes back. Change nothing in it.
+
+   A step takes any numbers. has_map, unsent, has_format, stereo, wide, compressed and begun are flags: one that is not 0
+   counts as 1. Where has_map is 0, map_start and map_length are not read; where has_format is 0, nothing behind it is. The
+   state that comes back with MVE_TAKEN or MVE_WHOLE has 0 or 1 in each flag, and 0 in each field that is not read. With
+   MVE_UNFINISHED, MVE_ENDED and MVE_REFUSED every number comes back as it went in. */
 struct mve_state {
     size_t position;   /* in the film */
     size_t chunk_end;
@@ -385,7 +398,7 @@ struct mve_state {
     size_t map_length;
     size_t unsent;     /* 0: no frame is finished and unsent */
     size_t stream;     /* of sound; above 15: none */
-    size_t has_format; /* 0: no 03 was taken yet; where it is 0, nothing below is read */
+    size_t has_format; /* 0: no 03 was taken yet */
     size_t stereo;     /* 0: one channel */
     size_t wide;       /* 0: 8-bit samples, else 16-bit */
     size_t compressed;
@@ -455,10 +468,9 @@ struct mve_stepped mve_begin(const uint8_t *film, size_t film_length, size_t str
 
 /* One step. MVE_TAKEN: a chunk's head or an opcode other than 11 was taken. MVE_WHOLE, MVE_UNFINISHED: opcode 11 was drawn
    by at most `allowed` stores; while it is unfinished the position stays. a and b are the two pictures; once the size is
-   known, each has at least 64 times columns times rows bytes. The place starts at 0. Only sound writes to the room. Every
-   number of refusal but 1 can be met. `strict` is 0 for the default form of the step and any other number for the strict
-   form; mve_step and mve_step_strict below call it so. The library has one step for both forms, and not two, because that
-   takes less stack. */
+   known, each has at least 64 times columns times rows bytes. The place starts at 0. Only sound writes to the room. A step is
+   refused by 2 to 19. `strict` is 0 for the default form of the step and any other number for the strict form; mve_step and
+   mve_step_strict below call it so. The library has one step for both forms, and not two, because that takes less stack. */
 struct mve_stepped mve_step_as(const uint8_t *film, size_t film_length, struct mve_state state,
                                uint8_t *palette, size_t palette_length, uint8_t *a, size_t a_length,
                                uint8_t *b, size_t b_length, size_t *place, uint8_t *room, size_t room_length,

@@ -2,4 +2,3 @@ pub mod Before
 pub mod Twin
 pub mod Possible
 pub mod Until
-pub mod Separate

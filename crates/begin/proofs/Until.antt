@@ -6,7 +6,7 @@ use mathlib.Core.List.{List, []}
 use Prim.Native.Nat.{ℕ, zero, suc, _+_, _-_, _≤_, _<_}
 use native.Mathlib.Omega.{arith}
 use borrow.Author.Tests.{eq-eqb, ne-eqb}
-use lib.ListN.{length, replicate, length-replicate}
+use lib.ListN.{length, length-replicate}
 use Rattle.refusal.specs.declared.Refusal.{Refusal}
 use Rattle.refusal.specs.Number.{accept, number, block}
 use Rattle.draw.specs.declared.Allowed.{Allowed}
@@ -28,26 +28,26 @@ use Rattle.walk.proofs.Walk.{step-moves}
 use Rattle.walk.proofs.Draws.{draws-exactly}
 use Rattle.begin.specs.declared.Turn.{Turn}
 use Rattle.begin.specs.declared.Begun.the-variants.{Refused}
-use Rattle.begin.specs.Begin.{Beside, Ample, stepBeside, goes, stops, courseOf, Early, turnAs, Beginning, sized, stopped, Came, came, follow, until, toSize, keptBy, kept, nowhere, beginAt, beginOf}
+use Rattle.begin.specs.Begin.{zeros, allowance, stepBefore, goes, stops, courseOf, Early, turnAs, Beginning, sized, stopped, Came, came, follow, until, toSize, keptBy, kept, nowhere, beginAt, beginOf}
 use Rattle.begin.proofs.Before.{short-palette}
 use Rattle.begin.proofs.Twin.{step-long}
 use Rattle.begin.proofs.Possible.{first-early, step-possible}
 
 -- ---- one step
 
-module _ (x : Beside) (film : List ℕ) (n : ℕ) (st : State) (palette : List ℕ) (place : ℕ) where
-  pub until-sized : (st .columns ≡ 0 → ⊥) → until x film (suc n) st palette place ≡ came (sized st) palette place
+module _ (film : List ℕ) (n : ℕ) (st : State) (palette : List ℕ) (place : ℕ) where
+  pub until-sized : (st .columns ≡ 0 → ⊥) → until film (suc n) st palette place ≡ came (sized st) palette place
   unfolding until
   until-sized h = rw (ne-eqb _ _ h)
 
   module _ (z : st .columns ≡ 0) where
-    pub until-goes : (t : State) → courseOf (stepBeside x film st palette place .step .answer) ≡ goes t
-        → until x film (suc n) st palette place ≡ until x film n t (stepBeside x film st palette place .lent .palette) (stepBeside x film st palette place .lent .place)
+    pub until-goes : (t : State) → courseOf (stepBefore film st palette place .step .answer) ≡ goes t
+        → until film (suc n) st palette place ≡ until film n t (stepBefore film st palette place .lent .palette) (stepBefore film st palette place .lent .place)
     unfolding until follow
     until-goes t e = rw (eq-eqb _ _ z, e)
 
-    pub until-stops : (i k : ℕ) → courseOf (stepBeside x film st palette place .step .answer) ≡ stops i k
-        → until x film (suc n) st palette place ≡ came (stopped i k st) palette place
+    pub until-stops : (i k : ℕ) → courseOf (stepBefore film st palette place .step .answer) ≡ stops i k
+        → until film (suc n) st palette place ≡ came (stopped i k st) palette place
     unfolding until follow
     until-stops i k e = rw (eq-eqb _ _ z, e)
 
@@ -72,37 +72,37 @@ goes-forward film st allowed l t z e = forward (length film) st t _ (step-moves 
 
 -- ---- a walk that has come from one state to another
 
-pub record Onward (x : Beside) (film : List ℕ) (first : State) (palette₀ : List ℕ) (place₀ : ℕ) (st : State) (palette : List ℕ) (place : ℕ) : Type 0 where
+pub record Onward (film : List ℕ) (first : State) (palette₀ : List ℕ) (place₀ : ℕ) (st : State) (palette : List ℕ) (place : ℕ) : Type 0 where
   pub left : ℕ
   pub ample : length film ≤ st .cursor .position + left
-  pub same : toSize x film first palette₀ place₀ ≡ until x film (suc left) st palette place
+  pub same : toSize film first palette₀ place₀ ≡ until film (suc left) st palette place
 
-pub onward-start : (x : Beside) (film : List ℕ) (st : State) (palette : List ℕ) (place : ℕ) → Onward x film st palette place st palette place
-onward-start x film st palette place = record { left = length film; ample = omega arith; same = refl }
+pub onward-start : (film : List ℕ) (st : State) (palette : List ℕ) (place : ℕ) → Onward film st palette place st palette place
+onward-start film st palette place = record { left = length film; ample = omega arith; same = refl }
 
-module _ (x : Beside) (film : List ℕ) (first : State) (palette₀ : List ℕ) (place₀ : ℕ) (st : State) (palette : List ℕ) (place : ℕ) (w : Onward x film first palette₀ place₀ st palette place) where
-  pub onward-sized : (st .columns ≡ 0 → ⊥) → came (sized st) palette place ≡ toSize x film first palette₀ place₀
-  onward-sized h = sym (w .same ∙ until-sized x film (w .left) st palette place h)
+module _ (film : List ℕ) (first : State) (palette₀ : List ℕ) (place₀ : ℕ) (st : State) (palette : List ℕ) (place : ℕ) (w : Onward film first palette₀ place₀ st palette place) where
+  pub onward-sized : (st .columns ≡ 0 → ⊥) → came (sized st) palette place ≡ toSize film first palette₀ place₀
+  onward-sized h = sym (w .same ∙ until-sized film (w .left) st palette place h)
 
   module _ (z : st .columns ≡ 0) where
-    pub onward-stops : (i k : ℕ) → stops i k ≡ courseOf (stepBeside x film st palette place .step .answer) → came (stopped i k st) palette place ≡ toSize x film first palette₀ place₀
-    onward-stops i k e = sym (w .same ∙ until-stops x film (w .left) st palette place z i k (sym e))
+    pub onward-stops : (i k : ℕ) → stops i k ≡ courseOf (stepBefore film st palette place .step .answer) → came (stopped i k st) palette place ≡ toSize film first palette₀ place₀
+    onward-stops i k e = sym (w .same ∙ until-stops film (w .left) st palette place z i k (sym e))
 
-    pub onward-more : (t : State) → goes t ≡ courseOf (stepBeside x film st palette place .step .answer) → (q : List ℕ) (k : ℕ) → q ≡ stepBeside x film st palette place .lent .palette
-        → k ≡ stepBeside x film st palette place .lent .place → Onward x film first palette₀ place₀ t q k
+    pub onward-more : (t : State) → goes t ≡ courseOf (stepBefore film st palette place .step .answer) → (q : List ℕ) (k : ℕ) → q ≡ stepBefore film st palette place .lent .palette
+        → k ≡ stepBefore film st palette place .lent .place → Onward film first palette₀ place₀ t q k
     onward-more t e q k eq ek = by (w .left) (w .ample) (w .same)
       where
         f : Forward (length film) st t
-        f = goes-forward film st (x .allowed) _ t z (sym e)
+        f = goes-forward film st allowance _ t z (sym e)
 
-        by : (left : ℕ) → length film ≤ st .cursor .position + left → toSize x film first palette₀ place₀ ≡ until x film (suc left) st palette place
-            → Onward x film first palette₀ place₀ t q k
+        by : (left : ℕ) → length film ≤ st .cursor .position + left → toSize film first palette₀ place₀ ≡ until film (suc left) st palette place
+            → Onward film first palette₀ place₀ t q k
         by zero a s = absurd (let y : ⊥ = omega (arith, f .rises, f .ordered, f .inside) in y)
         by (suc n) a s =
             record {
               left = n;
               ample = omega (arith, f .rises);
-              same = rw (eq, ek) (s ∙ until-goes x film (suc n) st palette place z t (sym e));
+              same = rw (eq, ek) (s ∙ until-goes film (suc n) st palette place z t (sym e));
             }
 
 -- ---- a refusal leaves palette and place as they were
@@ -122,24 +122,24 @@ module _ (palette : List ℕ) (place : ℕ) (c : Came) where
 -- ---- a palette of another length
 
 -- the first step is refused
-pub short-stops : (film : List ℕ) (st : State) (palette : List ℕ) (place : ℕ) → Early (length film) st → (length palette ≡ 768 → ⊥) → (x : Beside)
-    → came (stopped 8 0 st) palette place ≡ kept palette place (toSize x film st palette place)
+pub short-stops : (film : List ℕ) (st : State) (palette : List ℕ) (place : ℕ) → Early (length film) st → (length palette ≡ 768 → ⊥)
+    → came (stopped 8 0 st) palette place ≡ kept palette place (toSize film st palette place)
 unfolding stepOf standing courseOf
-short-stops film st palette place y h x =
-    let e : courseOf (stepBeside x film st palette place .step .answer) ≡ stops 8 0 = rw (short-palette film st (length palette) (length (x .first)) (length (x .second)) y h) refl in
-    kept-stopped palette place _ 8 0 st (ap (λ (c : Came). c .answer) (sym (until-stops x film (length film) st palette place (y .unsized) 8 0 e)))
+short-stops film st palette place y h =
+    let e : courseOf (stepBefore film st palette place .step .answer) ≡ stops 8 0 = rw (short-palette film st (length palette) _ _ y h) refl in
+    kept-stopped palette place _ 8 0 st (ap (λ (c : Came). c .answer) (sym (until-stops film (length film) st palette place (y .unsized) 8 0 e)))
 
 -- ---- a turn, by what `foresee` says
 
 abbrev pub Foreseen : List ℕ → State → Turn → Type 0
 Foreseen film st r = (l : Lent) (allowed : Allowed) → length (l .palette) ≡ 768 → enough ≤ length (l .room) → turnAs r ≡ courseOf (stepOf film st allowed l .step .answer)
 
-unfoldable zeros : ℕ → List ℕ
-zeros n = replicate n 0
-
 zeros-long : (n : ℕ) → length (zeros n) ≡ n
 unfolding zeros
 zeros-long n = length-replicate n 0
+
+pub roomy : enough ≤ length (zeros enough)
+roomy = omega (arith, zeros-long enough)
 
 module _ (film : List ℕ) (st : State) (y : Early (length film) st) (r : Turn) (s : Foreseen film st r) (t : State) (q : turnAs r ≡ goes t) where
   abbrev some : Lent
@@ -152,7 +152,7 @@ module _ (film : List ℕ) (st : State) (y : Early (length film) st) (r : Turn) 
   turn-forward = goes-forward film st (within 0 0) some t (y .unsized) leads
 
   turn-possible : stateVerdict t (length film) ≡ accept
-  turn-possible = step-possible film st y (within 0 0) some t leads turn-forward
+  turn-possible = step-possible film st (within 0 0) some t leads
 
 -- ---- the loop: first the steps are judged, whatever palette and place they leave; then they are taken with their stores
 
@@ -161,28 +161,28 @@ sized-stopped s st n k e = let z : _≡_ {A = ℕ} 0 1 = cc in omega arith
 
 module _ (film : List ℕ) (first : State) (palette₀ : List ℕ) (place₀ : ℕ) where
   -- the steps so far lead on, with some palette and place
-  pub record Judged (x : Beside) (st : State) : Type 0 where
+  pub record Judged (st : State) : Type 0 where
     pub palette : List ℕ
     pub place : ℕ
     pub long : length palette ≡ 768
-    pub onward : Onward x film first palette₀ place₀ st palette place
+    pub onward : Onward film first palette₀ place₀ st palette place
 
   -- they lead on with these; and to a size
-  pub record Stored (x : Beside) (st : State) (palette : List ℕ) (place : ℕ) : Type 0 where
-    pub onward : Onward x film first palette₀ place₀ st palette place
+  pub record Stored (st : State) (palette : List ℕ) (place : ℕ) : Type 0 where
+    pub onward : Onward film first palette₀ place₀ st palette place
     pub reached : State
-    pub end : sized reached ≡ toSize x film first palette₀ place₀ .answer
+    pub end : sized reached ≡ toSize film first palette₀ place₀ .answer
 
-  unfoldable pub Pass : Bool → Beside → State → List ℕ → ℕ → Type 0
-  Pass false x st palette place = Judged x st × (palette ≡ palette₀) × (place ≡ place₀)
-  Pass true x st palette place = Stored x st palette place
+  unfoldable pub Pass : Bool → State → List ℕ → ℕ → Type 0
+  Pass false st palette place = Judged st × (palette ≡ palette₀) × (place ≡ place₀)
+  Pass true st palette place = Stored st palette place
 
   pub record Passes (st : State) (palette : List ℕ) (place : ℕ) (storing : Bool) : Type 0 where
     pub long : length palette ≡ 768
     pub same : length palette ≡ length palette₀
     pub early : Early (length film) first
     pub possible : stateVerdict st (length film) ≡ accept
-    pub pass : (x : Beside) → Ample x → Pass storing x st palette place
+    pub pass : Pass storing st palette place
 
   -- the same of a palette that a call gave back as it was
   pub passes-kept : (st : State) (palette palette′ : List ℕ) (place : ℕ) (storing : Bool) → palette′ ≡ palette → Passes st palette place storing → Passes st palette′ place storing
@@ -196,17 +196,17 @@ module _ (film : List ℕ) (first : State) (palette₀ : List ℕ) (place₀ : �
         same = refl;
         early = e;
         possible = e .possible;
-        pass = λ x big. (record { palette = palette₀; place = place₀; long = h; onward = onward-start x film first palette₀ place₀ }, refl, refl);
+        pass = (record { palette = palette₀; place = place₀; long = h; onward = onward-start film first palette₀ place₀ }, refl, refl);
       }
 
   module _ (st : State) (palette : List ℕ) (place : ℕ) (storing : Bool) (w : Passes st palette place storing) where
-    judged : storing ≡ false → (x : Beside) → Ample x → Judged x st × (palette ≡ palette₀) × (place ≡ place₀)
+    judged : storing ≡ false → Judged st × (palette ≡ palette₀) × (place ≡ place₀)
     unfolding Pass
-    judged e x big = rw e at (w .pass x big)
+    judged e = rw e at (w .pass)
 
-    stored : storing ≡ true → (x : Beside) → Ample x → Stored x st palette place
+    stored : storing ≡ true → Stored st palette place
     unfolding Pass
-    stored e x big = rw e at (w .pass x big)
+    stored e = rw e at (w .pass)
 
     pub passes-early : st .columns ≡ 0 → Early (length film) st
     passes-early z = record { unsized = z; possible = w .possible }
@@ -221,36 +221,35 @@ module _ (film : List ℕ) (first : State) (palette₀ : List ℕ) (place₀ : �
           early = w .early;
           possible = w .early .possible;
           pass =
-              λ x big.
-              let j = judged e x big in
+              let j = judged e in
               record {
-                onward = rw (j .1, j .2) (onward-start x film first palette₀ place₀);
+                onward = rw (j .1, j .2) (onward-start film first palette₀ place₀);
                 reached = st;
-                end = ap (λ (c : Came). c .answer) (onward-sized x film first palette₀ place₀ st (j .0 .palette) (j .0 .place) (j .0 .onward) h);
+                end = ap (λ (c : Came). c .answer) (onward-sized film first palette₀ place₀ st (j .0 .palette) (j .0 .place) (j .0 .onward) h);
               };
         }
 
-    pub passes-sized : (st .columns ≡ 0 → ⊥) → storing ≡ true → (x : Beside) → Ample x → came (sized st) palette place ≡ kept palette₀ place₀ (toSize x film first palette₀ place₀)
-    passes-sized h e x big =
-        let s = stored e x big in
-        kept-sized palette₀ place₀ _ (s .reached) (s .end) _ (onward-sized x film first palette₀ place₀ st palette place (s .onward) h)
+    pub passes-sized : (st .columns ≡ 0 → ⊥) → storing ≡ true → came (sized st) palette place ≡ kept palette₀ place₀ (toSize film first palette₀ place₀)
+    passes-sized h e =
+        let s = stored e in
+        kept-sized palette₀ place₀ _ (s .reached) (s .end) _ (onward-sized film first palette₀ place₀ st palette place (s .onward) h)
 
     module _ (z : st .columns ≡ 0) (r : Turn) (s : Foreseen film st r) where
-      said : (q : List ℕ) (k : ℕ) → length q ≡ 768 → (x : Beside) → Ample x → turnAs r ≡ courseOf (stepBeside x film st q k .step .answer)
-      said q k h x big = s (lent q (x .first) (x .second) k (x .room)) (x .allowed) h big
+      said : (q : List ℕ) (k : ℕ) → length q ≡ 768 → turnAs r ≡ courseOf (stepBefore film st q k .step .answer)
+      said q k h = s (lent q [] [] k (zeros enough)) allowance h roomy
 
       -- a refusal, which only the first time can bring
-      pub passes-stops : (i k : ℕ) → turnAs r ≡ stops i k → (x : Beside) → Ample x → came (stopped i k st) palette place ≡ kept palette₀ place₀ (toSize x film first palette₀ place₀)
-      passes-stops i k q x big = by storing refl
+      pub passes-stops : (i k : ℕ) → turnAs r ≡ stops i k → came (stopped i k st) palette place ≡ kept palette₀ place₀ (toSize film first palette₀ place₀)
+      passes-stops i k q = by storing refl
         where
-          by : (b : Bool) → storing ≡ b → came (stopped i k st) palette place ≡ kept palette₀ place₀ (toSize x film first palette₀ place₀)
+          by : (b : Bool) → storing ≡ b → came (stopped i k st) palette place ≡ kept palette₀ place₀ (toSize film first palette₀ place₀)
           by false e =
-              let j = judged e x big in
-              let o = onward-stops x film first palette₀ place₀ st (j .0 .palette) (j .0 .place) (j .0 .onward) z i k (sym q ∙ said (j .0 .palette) (j .0 .place) (j .0 .long) x big) in
+              let j = judged e in
+              let o = onward-stops film first palette₀ place₀ st (j .0 .palette) (j .0 .place) (j .0 .onward) z i k (sym q ∙ said (j .0 .palette) (j .0 .place) (j .0 .long)) in
               rw (j .1, j .2) (kept-stopped palette₀ place₀ _ i k st (ap (λ (c : Came). c .answer) o))
           by true e =
-              let y = stored e x big in
-              let o = onward-stops x film first palette₀ place₀ st palette place (y .onward) z i k (sym q ∙ said palette place (w .long) x big) in
+              let y = stored e in
+              let o = onward-stops film first palette₀ place₀ st palette place (y .onward) z i k (sym q ∙ said palette place (w .long)) in
               absurd (sized-stopped (y .reached) st i k (y .end ∙ sym (ap (λ (c : Came). c .answer) o)))
 
       module _ (t : State) (q : turnAs r ≡ goes t) where
@@ -263,17 +262,16 @@ module _ (film : List ℕ) (first : State) (palette₀ : List ℕ) (place₀ : �
               early = w .early;
               possible = turn-possible film st (passes-early z) r s t q;
               pass =
-                  λ x big.
                   rw e
-                  (let j = judged e x big in
+                  (let j = judged e in
                   let v = j .0 in
-                  let o = stepBeside x film st (v .palette) (v .place) in (
+                  let o = stepBefore film st (v .palette) (v .place) in (
                     record {
                       palette = o .lent .palette;
                       place = o .lent .place;
-                      long = step-long film st z (x .allowed) (lent (v .palette) (x .first) (x .second) (v .place) (x .room)) ∙ v .long;
+                      long = step-long film st z allowance (lent (v .palette) [] [] (v .place) (zeros enough)) ∙ v .long;
                       onward =
-                          onward-more x film first palette₀ place₀ st (v .palette) (v .place) (v .onward) z t (sym q ∙ said (v .palette) (v .place) (v .long) x big) _ _ refl refl;
+                          onward-more film first palette₀ place₀ st (v .palette) (v .place) (v .onward) z t (sym q ∙ said (v .palette) (v .place) (v .long)) _ _ refl refl;
                     },
                     j .1,
                     j .2,
@@ -292,13 +290,12 @@ module _ (film : List ℕ) (first : State) (palette₀ : List ℕ) (place₀ : �
               early = w .early;
               possible = turn-possible film st (passes-early z) r s t q;
               pass =
-                  λ x big.
                   rw e
-                  (let y = stored e x big in
+                  (let y = stored e in
                   record {
                     onward =
-                        onward-more x film first palette₀ place₀ st palette place (y .onward) z t (sym q ∙ said palette place (w .long) x big) p k
-                        (ep (x .first) (x .second) (x .room) (x .allowed)) (ek (x .first) (x .second) (x .room) (x .allowed));
+                        onward-more film first palette₀ place₀ st palette place (y .onward) z t (sym q ∙ said palette place (w .long)) p k
+                        (ep [] [] (zeros enough) allowance) (ek [] [] (zeros enough) allowance);
                     reached = y .reached;
                     end = y .end;
                   });
@@ -313,12 +310,12 @@ again-less storing film a b e = rw e (omega arith)
 
 -- ---- opening
 
-module _ (x : Beside) (film : List ℕ) (stream : ℕ) (palette : List ℕ) (place : ℕ) (o : Opened) (e : openedAs o ≡ openingOf film stream) where
-  pub begins : (st : State) → o ≡ opened.First st → (c : Came) → c ≡ kept palette place (toSize x film st palette place) → c ≡ beginOf x film stream palette place
+module _ (film : List ℕ) (stream : ℕ) (palette : List ℕ) (place : ℕ) (o : Opened) (e : openedAs o ≡ openingOf film stream) where
+  pub begins : (st : State) → o ≡ opened.First st → (c : Came) → c ≡ kept palette place (toSize film st palette place) → c ≡ beginOf film stream palette place
   unfolding beginAt
   begins st q c f = rw (← e, q) f
 
-  pub begins-not : (r : Refusal) → o ≡ opened.Refused r → (s : State) → s ≡ nowhere → came (stopped (number r) (block r) s) palette place ≡ beginOf x film stream palette place
+  pub begins-not : (r : Refusal) → o ≡ opened.Refused r → (s : State) → s ≡ nowhere → came (stopped (number r) (block r) s) palette place ≡ beginOf film stream palette place
   unfolding beginAt
   begins-not r q s f = rw (← e, q, f)
 

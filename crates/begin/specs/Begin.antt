@@ -1,14 +1,15 @@
--- One opening call (document 02, W8): open a film, then step until a size appears. It is told by the definitions of opening and of a step, for whatever
--- pictures, room and allowance are lent to the steps.
+-- One opening call (document 02, W8): open a film, then step until a size appears. It is told by the definitions of opening and of a step.
 -- Assumes nothing.
 use mathlib.Core.Path.{_≡_}
 use mathlib.Core.Bool.{false, cond}
-use mathlib.Core.List.{List}
-use Prim.Native.Nat.{ℕ, zero, suc, _≤_}
+use mathlib.Core.List.{List, []}
+use Prim.Native.Nat.{ℕ, zero, suc}
 use lib.Dec.{eqb}
-use lib.ListN.{length}
+use lib.ListN.{length, replicate}
 use Rattle.refusal.specs.Number.{accept, number, block}
+use Rattle.packet.specs.Verdict.{default}
 use Rattle.draw.specs.declared.Allowed.{Allowed}
+use Rattle.draw.specs.Call.{within}
 use Rattle.sound.specs.Step.{enough}
 use Rattle.sound.specs.Format.{firstSound}
 use Rattle.state.specs.declared.Map.the-variants.{Missing}
@@ -24,19 +25,17 @@ use Rattle.begin.specs.declared.Begun.the-variants.{Sized, Refused}
 
 -- ---- a step
 
--- what is lent to a step beside the palette and the place, and the stores that it is allowed
-pub record Beside : Type 0 where
-  pub first : List ℕ
-  pub second : List ℕ
-  pub room : List ℕ
-  pub allowed : Allowed
+unfoldable pub zeros : ℕ → List ℕ
+zeros n = replicate n 0
 
--- the room is one that is always enough
-abbrev pub Ample : Beside → Type 0
-Ample x = enough ≤ length (x .room)
+-- the stores that a step may make
+abbrev pub allowance : Allowed
+allowance = within 312000 default
 
-abbrev pub stepBeside : Beside → List ℕ → State → List ℕ → ℕ → Outcome
-stepBeside x film st palette place = stepOf film st (x .allowed) (lent palette (x .first) (x .second) place (x .room))
+-- a step that is lent a palette and a place, no pictures, since before a size nothing is drawn, and a room that is always enough. With other pictures, another such
+-- room or another allowance it does the same: `separate/specs/Separate`
+abbrev pub stepBefore : List ℕ → State → List ℕ → ℕ → Outcome
+stepBefore film st palette place = stepOf film st allowance (lent palette [] [] place (zeros enough))
 
 -- what a step leads to: on with a state, or the walk stops, by a refusal's number and block
 pub data Course : Type 0 where
@@ -87,16 +86,16 @@ follow on st palette place (goes t) o = on t (o .lent .palette) (o .lent .place)
 follow on st palette place (stops n k) o = came (stopped n k st) palette place
 
 -- at most so many steps
-unfoldable pub until : Beside → List ℕ → ℕ → State → List ℕ → ℕ → Came
-until x film zero st palette place = came (stopped 21 0 st) palette place
-until x film (suc n) st palette place =
+unfoldable pub until : List ℕ → ℕ → State → List ℕ → ℕ → Came
+until film zero st palette place = came (stopped 21 0 st) palette place
+until film (suc n) st palette place =
     cond (eqb (st .columns) 0)
-    (follow (until x film n) st palette place (courseOf (stepBeside x film st palette place .step .answer)) (stepBeside x film st palette place))
+    (follow (until film n) st palette place (courseOf (stepBefore film st palette place .step .answer)) (stepBefore film st palette place))
     (came (sized st) palette place)
 
 -- one more than the film has bytes: every step that goes on passes four of them, so the steps never run out
-abbrev pub toSize : Beside → List ℕ → State → List ℕ → ℕ → Came
-toSize x film st palette place = until x film (suc (length film)) st palette place
+abbrev pub toSize : List ℕ → State → List ℕ → ℕ → Came
+toSize film st palette place = until film (suc (length film)) st palette place
 
 -- ---- opening
 
@@ -113,9 +112,9 @@ unfoldable pub nowhere : State
 nowhere =
     record { cursor = record { position = 0; «chunk_end» = 0 }; columns = 0; rows = 0; front = 0; map = Missing; unsent = false; sound = firstSound 0 }
 
-unfoldable pub beginAt : Opening → Beside → List ℕ → List ℕ → ℕ → Came
-beginAt (started st) x film palette place = kept palette place (toSize x film st palette place)
-beginAt (refuses n k) x film palette place = came (stopped n k nowhere) palette place
+unfoldable pub beginAt : Opening → List ℕ → List ℕ → ℕ → Came
+beginAt (started st) film palette place = kept palette place (toSize film st palette place)
+beginAt (refuses n k) film palette place = came (stopped n k nowhere) palette place
 
-abbrev pub beginOf : Beside → List ℕ → ℕ → List ℕ → ℕ → Came
-beginOf x film stream palette place = beginAt (openingOf film stream) x film palette place
+abbrev pub beginOf : List ℕ → ℕ → List ℕ → ℕ → Came
+beginOf film stream palette place = beginAt (openingOf film stream) film palette place

@@ -35,7 +35,7 @@ ghost use Rattle.sound.specs.Step.{enough};
 ghost use Rattle.next.specs.Next.{Ready};
 ghost use Rattle.opcodes.specs.Opcodes.{steppedAs};
 ghost use Rattle.film.specs.Film.{Lent, lent, actOn, hear, takeOn, stepOf};
-ghost use Rattle.begin.specs.Begin.{Beside, Ample, Early, courseOf, turnAs, begunAs, came, toSize, kept, beginOf};
+ghost use Rattle.begin.specs.Begin.{Early, courseOf, turnAs, begunAs, came, toSize, kept, beginOf};
 
 // What a step leads to: on with a state, or a refusal; 21 at the film's end.
 pub enum Turn {
@@ -192,7 +192,7 @@ fn store(film: &[u8], st: State, palette: &mut [u8], place: &mut usize)
 // has one caller, for the stack's sake: the compiler then keeps one state.
 fn begin_from(film: &[u8], first: State, palette: &mut [u8], place: &mut usize) -> Begun
     requires { ⌜ Early (length (now film)) first ⌝ }
-    ensures { λ r. ⌜ ((x : Beside) → Ample x → came (begunAs r) (now (palette .exit)) (now (place .exit)) ≡ kept (now (palette .entry)) (now (place .entry)) (toSize x (now (film .entry)) first (now (palette .entry)) (now (place .entry)))) ⌝ }
+    ensures { λ r. ⌜ came (begunAs r) (now (palette .exit)) (now (place .exit)) ≡ kept (now (palette .entry)) (now (place .entry)) (toSize (now (film .entry)) first (now (palette .entry)) (now (place .entry))) ⌝ }
 {
     if palette.len() != 768 {
         return Begun::Refused(Refusal::Buffer, first);
@@ -226,7 +226,7 @@ fn begin_from(film: &[u8], first: State, palette: &mut [u8], place: &mut usize) 
 
 // Opens a film and steps until a size appears: the state just after 05, with the palette and the place as the steps leave them. A refusal leaves both as they were.
 pub fn begin(film: &[u8], stream: usize, palette: &mut [u8], place: &mut usize) -> Begun
-    ensures { λ r. ⌜ ((x : Beside) → Ample x → came (begunAs r) (now (palette .exit)) (now (place .exit)) ≡ beginOf x (now (film .entry)) stream (now (palette .entry)) (now (place .entry))) ⌝ }
+    ensures { λ r. ⌜ came (begunAs r) (now (palette .exit)) (now (place .exit)) ≡ beginOf (now (film .entry)) stream (now (palette .entry)) (now (place .entry)) ⌝ }
 {
     match open(film, stream) {
         Opened::First(first) => begin_from(film, first, palette, place),

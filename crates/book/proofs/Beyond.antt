@@ -3,12 +3,11 @@
 -- Assumes nothing.
 use mathlib.Core.Path.{_≡_, refl, sym, ap, _∙_, subst}
 use mathlib.Core.List.{List}
-use Prim.Native.Nat.{ℕ, _+_, _-_, _*_, _≤_, _<_, min}
+use Prim.Native.Nat.{ℕ, _*_, _≤_, _<_, min}
 use native.Mathlib.Omega.{arith}
 use lib.ListN.{length, getD, take, drop, length-take}
 use Rattle.refusal.specs.Number.{Verdict, accept, refuse}
-use Rattle.motion.specs.declared.Vector.{Vector}
-use Rattle.motion.specs.Motion.{PointsInside, aheadVector, negated, nearVector, farVector, copiedIndex}
+use Rattle.motion.specs.Motion.{aheadVector, negated, nearVector, farVector}
 use Rattle.block.specs.Block.{Kind, same, kept, ahead, behind, near, far, patterned, celled, dithered, refused, source, fetched}
 use Rattle.packet.specs.Packet.{width, height, left, top, dataOf, kind}
 use Rattle.packet.specs.Accepted.{CopyInside}
@@ -19,31 +18,24 @@ use Rattle.stores.proofs.Recover.{after-off}
 use Rattle.stores.proofs.Within.{AgreeTo, agree-take, take-agree, take-short, drop-same, Both, after-within, cut-least}
 use Rattle.paint.specs.Value.{pixelValue}
 use Rattle.draw.specs.Drawing.{valueAt, plan}
-use Rattle.draw.specs.Call.{Request, packetOf, callVerdict, drawVerdict, comes, rowsOf}
+use Rattle.draw.specs.Call.{Request, packetOf, callVerdict, drawVerdict, comes}
 use Rattle.draw.specs.Asked.{Accepted}
 use Rattle.draw.proofs.Judged.{accepted-call}
 use Rattle.book.specs.Beyond.{area, Unwritten, showing, SameTo, SameCalls, Unread}
-use Rattle.book.proofs.Lawful.{Framed, raster-below, framed, few, inside}
+use Rattle.book.proofs.Lawful.{Framed, raster-below, copied-below, framed, few, inside}
 
 -- ---- what is read
 
 -- of a block whose copy lies inside, a pixel of two pictures that agree as far as they are w by h
 module _ (s : List ℕ) (w h x y i : ℕ) (f : Framed w h x y) (hi : i < 64) (front front′ a b : List ℕ) (p : AgreeTo (h * w) front front′) (q : AgreeTo (h * w) a b) where
-  copied-below : (v : Vector) → PointsInside v w h x y → copiedIndex v w x y i < h * w
-  unfolding copiedIndex
-  copied-below v c =
-      raster-below w h (x + v .right - v .left) (y + v .down - v .up) i
-      (record { width = f .width; height = f .height; across = omega (arith, c .left, c .right); down = omega (arith, c .up, c .down) })
-      hi
-
   reads-within : (κ : Kind) → CopyInside κ w h x y → pixelValue κ s w x y front i a ≡ pixelValue κ s w x y front′ i b
   unfolding pixelValue source fetched CopyInside
   reads-within same c = p .same _ (raster-below w h x y i f hi)
   reads-within kept c = q .same _ (raster-below w h x y i f hi)
-  reads-within (ahead n) c = q .same _ (copied-below (aheadVector n) c)
-  reads-within (behind n) c = q .same _ (copied-below (negated (aheadVector n)) c)
-  reads-within (near n) c = p .same _ (copied-below (nearVector n) c)
-  reads-within (far n m) c = p .same _ (copied-below (farVector n m) c)
+  reads-within (ahead n) c = q .same _ (copied-below w h x y i f hi (aheadVector n) c)
+  reads-within (behind n) c = q .same _ (copied-below w h x y i f hi (negated (aheadVector n)) c)
+  reads-within (near n) c = p .same _ (copied-below w h x y i f hi (nearVector n) c)
+  reads-within (far n m) c = p .same _ (copied-below w h x y i f hi (farVector n m) c)
   reads-within (patterned g) c = refl
   reads-within (celled g) c = refl
   reads-within dithered c = refl
@@ -117,7 +109,7 @@ module _ (c : Request) (front : List ℕ) (m m′ : Memory) (f : take (area c) (
   same-drawn n e = let g = drawn-both n e in record { picture = agree-take (area c) _ _ (g .pictures); place = g .place }
 
   same-calls : (v : Verdict) → drawVerdict c m ≡ v → SameCalls (area c) c front m m′
-  unfolding comes leave leaveCut outcome count happens rowsOf
+  unfolding comes leave leaveCut outcome count happens
   same-calls (refuse n k) e =
       let e′ = sym same-verdict ∙ e in
       record { tells = rw (e, e′) refl; leaves = rw (e, e′) s; cuts = λ j. rw (e, e′) s }

@@ -9,26 +9,25 @@ use Prim.Native.Nat.{ℕ, _≤_, _<_}
 use native.Mathlib.Omega.{arith}
 use lib.ListN.{length}
 use Rattle.refusal.specs.Number.{Verdict, accept, refuse}
-use Rattle.packet.specs.declared.Touched.the-variants.{None}
 use Rattle.packet.specs.Rows.{touched}
-use Rattle.packet.specs.Packet.{Packet, packet, blocks, kind}
+use Rattle.packet.specs.Packet.{packet, blocks, kind}
 use Rattle.packet.specs.Asked.{Sized}
 use Rattle.packet.proofs.Sizes.{is-size, is-sized}
 use Rattle.packet.proofs.Exactly.{accepts-more}
 use Rattle.stores.specs.Stores.{Memory, memory, Lawful}
-use Rattle.stores.specs.Calls.{allowed, whole, step, reply, Event, returns, cut, callOf, happens, Returning, Each, Fair, AsBooked}
+use Rattle.stores.specs.Calls.{allowed, whole, step, reply, Event, returns, cut, callOf, happens, Returning, Each, Fair}
 use Rattle.stores.proofs.Calls.{as-booked}
 use Rattle.paint.proofs.Counts.{count-few}
 use Rattle.draw.specs.Drawing.{sizeAt, plan}
-use Rattle.draw.specs.Call.{Request, packetOf, drawVerdict, comes, calling, rowsOf}
+use Rattle.draw.specs.Call.{Request, packetOf, drawVerdict, comes, calling}
 use Rattle.draw.proofs.Exactly.{drawn-exactly}
-use Rattle.book.specs.Demand.{Same, OnlyRefusedDiffer, CutsWithin, Given, leavesAt, Progresses, TellsRows, Demand3}
+use Rattle.book.specs.Demand.{Same, OnlyRefusedDiffer, CutsWithin, Given, leavesAt, Progresses, Demand3}
 use Rattle.book.proofs.Rows.{same-rows, list-unchanged}
 use Rattle.book.proofs.Lawful.{plan-lawful}
 
 -- ---- lists
 
-each-as : (P Q R : Memory → Event Request → Type 0) → ((m : Memory) (e : Event Request) → P m e → Q m e → R m e) → (m : Memory) (es : List (Event Request))
+pub each-as : (P Q R : Memory → Event Request → Type 0) → ((m : Memory) (e : Event Request) → P m e → Q m e → R m e) → (m : Memory) (es : List (Event Request))
     → Each calling P m es → Each calling Q m es → Each calling R m es
 unfolding Each
 each-as P Q R f m [] p q = tt
@@ -53,18 +52,24 @@ plan-same : (r c : Request) → Same r c → plan (packetOf r) (r .front) ≡ pl
 plan-same r c s = same-plan _ _ _ _ _ _ _ _ _ _ (s .columns) (s .rows) (s .map) (s .bytes) (s .front)
 
 fair : (c : Request) (m : Memory) (es : List (Event Request)) → OnlyRefusedDiffer c m es → CutsWithin m es
-    → Fair calling (plan (packetOf c) (c .front)) m es
+    → Fair calling (plan (packetOf c) (c .front)) (touched (packetOf c)) m es
 unfolding OnlyRefusedDiffer Fair
 fair c m es o w =
-    each-as _ _ _ (λ m e f g. (λ n q. plan-same (callOf e) c (f (comes-back (drawVerdict (callOf e) m) (callOf e .allowed .stores) n q)), g)) m es o w
+    each-as _ _ _
+    (λ m e f g. (
+      λ n q.
+          let s = f (comes-back (drawVerdict (callOf e) m) (callOf e .allowed .stores) n q) in
+          (plan-same (callOf e) c s, same-rows (callOf e) c s),
+      g,
+    )) m es o w
 
 -- ---- the packet
 
 module _ (c : Request) (first : List ℕ) (g : Given c first) where
-  is : Sized (packetOf c)
+  pub is : Sized (packetOf c)
   is = is-sized (c .columns) (c .rows) (c .map) (c .bytes) (is-size (c .columns) (c .rows) (g .accepted .wide) (g .accepted .high)) (g .accepted .mapped)
 
-  lawful : Lawful (plan (packetOf c) (c .front)) (length first)
+  pub lawful : Lawful (plan (packetOf c) (c .front)) (length first)
   lawful = plan-lawful (packetOf c) is (g .accepted .drawn) (c .front) (length first) (g .back-long)
 
   at-most-64 : (k : ℕ) → k < blocks (packetOf c) → sizeAt (packetOf c) k ≤ 64
@@ -86,19 +91,6 @@ module _ (c : Request) (first : List ℕ) (g : Given c first) where
   goes-on m (returns r) f = λ q l. f (r .allowed .stores) (comes-on (drawVerdict r m) (r .allowed .stores) q) (omega arith)
   goes-on m (cut r j) f = tt
 
-  rows-by : (v : Verdict) (r : Request) → (v ≡ accept → Same r c) → v ≡ accept → rowsOf v (packetOf r) ≡ touched (packetOf c)
-  unfolding rowsOf
-  rows-by v r f e = rw e (same-rows r c (f e))
-
-  no-rows : (v : Verdict) (p : Packet) (a k : ℕ) → v ≡ refuse a k → rowsOf v p ≡ None
-  unfolding rowsOf
-  no-rows v p a k e = rw e
-
-  tells : (m : Memory) (e : Event Request) → (drawVerdict (callOf e) m ≡ accept → Same (callOf e) c) → Returning (TellsRows c) m e
-  unfolding Returning callOf
-  tells m (returns r) f = record { taken = rows-by (drawVerdict r m) r f; refused = no-rows (drawVerdict r m) (packetOf r) }
-  tells m (cut r j) f = tt
-
   shows : (m : Memory) (e : Event Request) → leavesAt m e .shown ≡ callOf e .front
   unfolding leavesAt callOf
   shows m (returns r) = refl
@@ -108,12 +100,11 @@ module _ (c : Request) (first : List ℕ) (g : Given c first) where
   unfolding OnlyRefusedDiffer
   demand-3 es o w =
       let m = memory first 0 in
-      let b : AsBooked calling (plan (packetOf c) (c .front)) first es = as-booked calling (plan (packetOf c) (c .front)) first lawful es (fair c m es o w) in
+      let b = as-booked calling (plan (packetOf c) (c .front)) (touched (packetOf c)) first lawful es (fair c m es o w) in
       record {
         booked = b;
         accepts = each-as _ _ _ (λ m e at l. takes m (callOf e) (at .0) (l .0)) m es (b .at-most) (b .keeps-length);
         shown = each-as _ _ _ (λ m e f _. (shows m e, λ q. shows m e ∙ f q .front)) m es o o;
-        rows = each-as _ _ _ (λ m e f _. tells m e f) m es o o;
         outside = list-unchanged c m es o;
         progress = each-as _ _ _ (λ m e f _. goes-on m e f) m es (b .goes-on 64 at-most-64) o;
         finishes = b .ends 64 at-most-64;

@@ -7,7 +7,8 @@ use Prim.Native.Nat.{ℕ, _+_, _-_, _*_, _/_, _%_, _≤_, _<_}
 use native.Mathlib.Omega.{arith}
 use native.Mathlib.Nat.{mul-le-mul-right}
 use lib.ListN.{length}
-use Rattle.motion.specs.Motion.{rasterIndex}
+use Rattle.motion.specs.declared.Vector.{Vector}
+use Rattle.motion.specs.Motion.{PointsInside, rasterIndex, copiedIndex}
 use Rattle.block.specs.declared.Source.{Source}
 use Rattle.block.specs.declared.Source.the-variants.{Data, Front, Back}
 use Rattle.block.specs.Block.{Kind, kept, source, fetched}
@@ -37,6 +38,14 @@ raster-below w h x y i f hi =
     square-below w x y (h * w) i
     (record { width = f .width; across = f .across; down = omega (arith, f .down, f .height); room = mul-le-mul-right w (f .down) })
     hi (rasterIndex w x y i) refl
+
+-- and each pixel that a copy inside the picture is read from
+pub copied-below : (w h x y i : ℕ) → Framed w h x y → i < 64 → (v : Vector) → PointsInside v w h x y → copiedIndex v w x y i < h * w
+unfolding copiedIndex
+copied-below w h x y i f hi v c =
+    raster-below w h (x + v .right - v .left) (y + v .down - v .up) i
+    (record { width = f .width; height = f .height; across = omega (arith, c .left, c .right); down = omega (arith, c .up, c .down) })
+    hi
 
 module _ (p : Packet) (z : Sized p) where
   some : 0 < p .columns

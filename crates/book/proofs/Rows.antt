@@ -15,11 +15,11 @@ use Rattle.packet.proofs.Strip.{touched-spans}
 use Rattle.packet.proofs.Grid.{column-below, raster-row}
 use Rattle.paint.proofs.Counts.{count-0, count-few}
 use Rattle.stores.specs.Stores.{Memory, after}
-use Rattle.stores.specs.Calls.{Event, returns, cut, callOf, leave, leaveCut, happens, Each, finally}
+use Rattle.stores.specs.Calls.{Event, returns, cut, callOf, leave, leaveCut, outcome, happens, Each, finally}
 use Rattle.stores.proofs.Recover.{after-off}
 use Rattle.stores.proofs.Within.{cut-least}
 use Rattle.draw.specs.Drawing.{sizeAt, targetAt, plan}
-use Rattle.draw.specs.Call.{Request, packetOf, drawVerdict, comes, calling, rowsOf}
+use Rattle.draw.specs.Call.{Request, packetOf, drawVerdict, comes, calling, Report}
 use Rattle.draw.proofs.Judged.{accepted-call}
 use Rattle.book.specs.Demand.{Same, OnlyRefusedDiffer}
 use Rattle.book.specs.Rows.{Unchanged}
@@ -62,17 +62,21 @@ module _ (c : Request) (m : Memory) (e : drawVerdict c m ≡ accept) (t : ℕ) (
       (λ k hk i hi q. off-by (packetOf c) some t (touched (packetOf c)) (touched-spans (packetOf c) some) o k hk i hi (sym q))
       m n (a .at)
 
+-- what a call tells by its verdict
+abbrev told : Request → Memory → Verdict → Report
+told c m v = outcome (plan (packetOf c) (c .front)) (touched (packetOf c)) None m (comes v (c .allowed .stores))
+
 pub rows-unchanged : (m : Memory) (e : Event Request) → Unchanged m e
-unfolding callOf happens leave leaveCut comes rowsOf
+unfolding callOf happens leave leaveCut outcome comes
 rows-unchanged m (returns c) t = by (drawVerdict c m) refl
   where
-    by : (v : Verdict) → drawVerdict c m ≡ v → Outside (c .columns) (rowsOf v (packetOf c)) t
+    by : (v : Verdict) → drawVerdict c m ≡ v → Outside (c .columns) (told c m v .rows) t
         → getD (leave (plan (packetOf c) (c .front)) m (comes v (c .allowed .stores)) .picture) t 0 ≡ getD (m .picture) t 0
     by (refuse a k) q o = refl
     by accept q o = stays c m q t o (c .allowed .stores)
 rows-unchanged m (cut c j) t = by (drawVerdict c m) refl
   where
-    by : (v : Verdict) → drawVerdict c m ≡ v → Outside (c .columns) (rowsOf v (packetOf c)) t
+    by : (v : Verdict) → drawVerdict c m ≡ v → Outside (c .columns) (told c m v .rows) t
         → getD (leaveCut (plan (packetOf c) (c .front)) m (comes v (c .allowed .stores)) j .picture) t 0 ≡ getD (m .picture) t 0
     by (refuse a k) q o = refl
     by accept q o =
@@ -88,10 +92,10 @@ pub same-rows : (r c : Request) → Same r c → touched (packetOf r) ≡ touche
 same-rows r c s = touched-as _ _ _ _ _ _ _ _ (s .columns) (s .rows) (s .map) (s .bytes)
 
 -- what lies outside the rows of c lies outside the rows of a call that brings the same, and of a refused one
-outside-as : (r c : Request) (t : ℕ) (v : Verdict) → (v ≡ accept → Same r c) → Outside (c .columns) (touched (packetOf c)) t → Outside (r .columns) (rowsOf v (packetOf r)) t
-unfolding rowsOf Outside
-outside-as r c t (refuse n k) f o = tt
-outside-as r c t accept f o =
+outside-as : (r c : Request) (m : Memory) (t : ℕ) (v : Verdict) → (v ≡ accept → Same r c) → Outside (c .columns) (touched (packetOf c)) t → Outside (r .columns) (told r m v .rows) t
+unfolding outcome comes Outside
+outside-as r c m t (refuse n k) f o = tt
+outside-as r c m t accept f o =
     let s = f refl in
     subst (λ (x : ℕ). Outside x (touched (packetOf r)) t) (sym (s .columns)) (subst (λ (u : Touched). Outside (c .columns) u t) (sym (same-rows r c s)) o)
 
@@ -101,4 +105,4 @@ unfolding finally OnlyRefusedDiffer Each
 list-unchanged c m [] o t h = refl
 list-unchanged c m (e ∷ es) o t h =
     list-unchanged c (happens calling m e) es (o .1) t h
-    ∙ rows-unchanged m e t (outside-as (callOf e) c t (drawVerdict (callOf e) m) (o .0) h)
+    ∙ rows-unchanged m e t (outside-as (callOf e) c m t (drawVerdict (callOf e) m) (o .0) h)

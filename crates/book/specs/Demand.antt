@@ -7,15 +7,14 @@ use mathlib.Core.Logic.{_⊎_}
 use mathlib.Core.List.{List}
 use Prim.Native.Nat.{ℕ, _≤_, _<_}
 use lib.ListN.{length, getD}
-use Rattle.refusal.specs.Number.{accept, refuse}
-use Rattle.packet.specs.declared.Touched.the-variants.{None}
+use Rattle.refusal.specs.Number.{accept}
 use Rattle.packet.specs.Rows.{touched, Outside}
 use Rattle.packet.specs.Packet.{blocks, pixels}
 use Rattle.packet.specs.Accepted.{Accepts}
 use Rattle.stores.specs.Stores.{Memory, memory, final}
 use Rattle.stores.specs.Calls.{whole, Event, returns, cut, callOf, step, reply, happens, Returning, CutWithin, finally, ampleCalls, Each, AsBooked}
 use Rattle.draw.specs.Drawing.{plan}
-use Rattle.draw.specs.Call.{Request, packetOf, drawVerdict, calling, Pictures, pictures, leaves, report}
+use Rattle.draw.specs.Call.{Request, packetOf, drawVerdict, calling, Pictures, pictures, leaves}
 
 -- two calls bring the same packet, map, size and shown picture
 pub record Same (a b : Request) : Type 0 where
@@ -48,23 +47,16 @@ leavesAt m (cut c j) = pictures (c .front) (happens calling m (cut c j))
 abbrev pub Progresses : Memory → Request → Type 0
 Progresses m r = drawVerdict r m ≡ accept → 65 ≤ r .allowed .stores → (m .place < step calling m r .place) ⊎ (reply calling m r .answer ≡ whole)
 
--- the rows that a call tells where the packet of c is drawn
-pub record TellsRows (c : Request) (m : Memory) (r : Request) : Type 0 where
-  pub taken : drawVerdict r m ≡ accept → report m r .rows ≡ touched (packetOf c)
-  pub refused : (n k : ℕ) → drawVerdict r m ≡ refuse n k → report m r .rows ≡ None
-
 -- what a list of calls es that finds the picture first and place 0 comes to
 pub record Demand3 (c : Request) (first : List ℕ) (es : List (Event Request)) : Type 0 where
-  -- the place, every byte of the picture drawn on, every answer and every count are the book's; "whole" has left the picture of demand 2; the place
-  -- never passes the block count; the picture keeps its length
-  pub booked : AsBooked calling (plan (packetOf c) (c .front)) first es
+  -- the place, every byte of the picture drawn on, every answer, every count and all rows told are the book's, which tells the rows of blocks that the
+  -- packet of c touches; "whole" has left the picture of demand 2; the place never passes the block count; the picture keeps its length
+  pub booked : AsBooked calling (plan (packetOf c) (c .front)) (touched (packetOf c)) first es
   -- a call that brings the packet, map, size and shown picture of c is not refused, if it may leave over as many bytes as c or more
   pub accepts : Each calling (λ m e. Same (callOf e) c → c .allowed .spare ≤ callOf e .allowed .spare → drawVerdict (callOf e) m ≡ accept) (memory first 0) es
   -- each call, refused, cut or not, leaves the shown picture that it was lent; one that is not refused, that of c
   pub shown : Each calling (λ m e. (leavesAt m e .shown ≡ callOf e .front) × (drawVerdict (callOf e) m ≡ accept → leavesAt m e .shown ≡ c .front)) (memory first 0) es
-  -- each call that returns and is not refused tells the rows of blocks that the packet of c touches, and one that is refused none
-  pub rows : Each calling (Returning (TellsRows c)) (memory first 0) es
-  -- and outside them the picture is as it was found, whatever calls were cut
+  -- outside these rows the picture is as it was found, whatever calls were cut
   pub outside : (t : ℕ) → Outside (c .columns) (touched (packetOf c)) t → getD (finally calling (memory first 0) es .picture) t 0 ≡ getD first t 0
   -- each call that returns makes progress
   pub progress : Each calling (Returning Progresses) (memory first 0) es

@@ -1,5 +1,3 @@
-pub mod Every
-pub mod Table
 pub mod Samples
 pub mod Stride
 pub mod Decoding

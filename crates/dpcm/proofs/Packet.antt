@@ -2,20 +2,22 @@
 -- Assumes nothing.
 use mathlib.Core.Path.{_≡_, refl, sym, ap, _∙_}
 use mathlib.Core.Bool.{Bool, true, false, cond}
-use mathlib.Core.List.{List, [], _∷_, _++_, append-assoc}
+use mathlib.Core.List.{List, _++_, append-assoc}
 use Prim.Native.Nat.{ℕ, _+_, _*_, _-_, _/_, _%_, _≤_, _<_}
 use native.Mathlib.Omega.{arith}
-use lib.ListN.{length, take, drop, set, length-append, length-drop, List·getD-append}
+use lib.ListN.{length, take, drop, getD, set, length-append, length-drop, List·getD-append}
 use lib.Seq.{drop-append-le, length-take-le}
 use Rattle.words.specs.Word.{wordAt}
-use Rattle.room.specs.Room.{written}
-use Rattle.room.proofs.Written.{Writing, writing-start, written-none, written-behind}
+use Rattle.listed.specs.Store.{byte, from}
+use Rattle.listed.proofs.Making.{Making, making-start}
+use Rattle.room.specs.Room.{written, NextByte}
+use Rattle.room.proofs.Written.{written-none, written-behind, next-byte, byte-put, all-put}
 use Rattle.dpcm.specs.Samples.{last, samples, lastOf, bytesOf}
 use Rattle.dpcm.specs.Packet.{channels, startWords, firstSamples, startLength, packetFirst, leading, packetSamples, packetLast, Fits}
 use Rattle.dpcm.specs.Stride.{HoldsOrNone}
 use Rattle.dpcm.specs.declared.Last.{Last}
 use Rattle.dpcm.proofs.Samples.{samples-append, last-append, samples-length, bytes-append}
-use Rattle.dpcm.proofs.Decoding.{writing-sample, held}
+use Rattle.dpcm.proofs.Decoding.{held}
 
 -- ---- start words
 
@@ -33,36 +35,82 @@ unfolding firstSamples bytesOf
 start-bytes true l = refl
 start-bytes false l = refl
 
+-- each of them, as code works it out
+next-low : (stereo : Bool) (l : Last) → l .next % 256 ≡ getD (bytesOf (firstSamples stereo l)) 0 0
+unfolding firstSamples bytesOf
+next-low true l = refl
+next-low false l = refl
+
+next-high : (stereo : Bool) (l : Last) → l .next / 256 ≡ getD (bytesOf (firstSamples stereo l)) 1 0
+unfolding firstSamples bytesOf
+next-high true l = refl
+next-high false l = refl
+
+other-low : (stereo : Bool) (l : Last) → stereo ≡ true → l .other % 256 ≡ getD (bytesOf (firstSamples stereo l)) 2 0
+unfolding firstSamples bytesOf
+other-low stereo l t = rw t
+
+other-high : (stereo : Bool) (l : Last) → stereo ≡ true → l .other / 256 ≡ getD (bytesOf (firstSamples stereo l)) 3 0
+unfolding firstSamples bytesOf
+other-high stereo l t = rw t
+
+two-or-four : (stereo : Bool) → 2 ≤ 2 * channels stereo
+two-or-four true = omega arith
+two-or-four false = omega arith
+
+-- they are written one after the other: i of them are
 module _ (stereo : Bool) (l : Last) (room₀ : List ℕ) (fits : 2 * channels stereo ≤ length room₀) where
-  one : 2 ≤ 2 * channels stereo
-  one = least stereo
-    where
-      least : (stereo : Bool) → 2 ≤ 2 * channels stereo
-      least true = omega arith
-      least false = omega arith
+  abbrev words : List ℕ
+  words = bytesOf (firstSamples stereo l)
 
-  pub start-fits : 2 ≤ length room₀
-  start-fits = omega (arith, one, fits)
+  abbrev pub Starting : List ℕ → ℕ → Type 0
+  Starting room i = Making (byte 0 (from words 0)) room₀ (length words) room i
 
-  first-written : (room : List ℕ) → room ≡ set (set room₀ 0 (l .next % 256)) 1 (l .next / 256) → Writing room₀ (bytesOf (l .next ∷ [])) 2 room
-  first-written room e = writing-sample room₀ [] 0 room₀ (writing-start room₀) start-fits (l .next) room e
+  words-fit : length words ≤ length room₀
+  words-fit = omega (arith, start-bytes stereo l)
 
-  pub start-written-mono : (room : List ℕ) → stereo ≡ false → room ≡ set (set room₀ 0 (l .next % 256)) 1 (l .next / 256) → room ≡ written (bytesOf (firstSamples stereo l)) room₀
-  unfolding firstSamples
-  start-written-mono room t e = rw t (first-written room e .now)
+  low-there : 1 < length words
+  low-there = omega (arith, start-bytes stereo l, two-or-four stereo)
 
-  pub start-written-stereo : (room room′ : List ℕ) → stereo ≡ true → room ≡ set (set room₀ 0 (l .next % 256)) 1 (l .next / 256)
-      → room′ ≡ set (set room 2 (l .other % 256)) 3 (l .other / 256) → room′ ≡ written (bytesOf (firstSamples stereo l)) room₀
-  unfolding firstSamples bytesOf
-  start-written-stereo room room′ t e e′ =
-      let n : 4 ≤ length room₀ = rw t at fits in
-      rw t (writing-sample room₀ (bytesOf (l .next ∷ [])) 2 room (first-written room e) n (l .other) room′ e′ .now)
+  pub start-next-low : NextByte words 0 (l .next % 256) room₀
+  start-next-low = next-byte words room₀ words-fit (length words) refl room₀ 0 (making-start _ _ _) (omega (arith, low-there)) _ (next-low stereo l)
+
+  module _ (room₁ : List ℕ) (e₁ : room₁ ≡ set room₀ 0 (l .next % 256)) where
+    one-put : Starting room₁ 1
+    one-put = byte-put words room₀ words-fit (length words) refl room₀ 0 (making-start _ _ _) (omega (arith, low-there)) room₁ _ (next-low stereo l) e₁
+
+    pub start-next-high : NextByte words 1 (l .next / 256) room₁
+    start-next-high = next-byte words room₀ words-fit (length words) refl room₁ 1 one-put low-there _ (next-high stereo l)
+
+    module _ (room₂ : List ℕ) (e₂ : room₂ ≡ set room₁ 1 (l .next / 256)) where
+      two-put : Starting room₂ 2
+      two-put = byte-put words room₀ words-fit (length words) refl room₁ 1 one-put low-there room₂ _ (next-high stereo l) e₂
+
+      pub start-written-mono : stereo ≡ false → room₂ ≡ written words room₀
+      start-written-mono t =
+          let n : 2 * channels stereo ≡ 2 = rw t in
+          all-put words room₀ words-fit (length words) refl room₂ 2 two-put (omega (arith, n, start-bytes stereo l))
+
+      module _ (t : stereo ≡ true) where
+        four : length words ≡ 4
+        four = let n : 2 * channels stereo ≡ 4 = rw t in omega (arith, n, start-bytes stereo l)
+
+        pub start-other-low : NextByte words 2 (l .other % 256) room₂
+        start-other-low = next-byte words room₀ words-fit (length words) refl room₂ 2 two-put (omega (arith, four)) _ (other-low stereo l t)
+
+        module _ (room₃ : List ℕ) (e₃ : room₃ ≡ set room₂ 2 (l .other % 256)) where
+          three-put : Starting room₃ 3
+          three-put = byte-put words room₀ words-fit (length words) refl room₂ 2 two-put (omega (arith, four)) room₃ _ (other-low stereo l t) e₃
+
+          pub start-other-high : NextByte words 3 (l .other / 256) room₃
+          start-other-high = next-byte words room₀ words-fit (length words) refl room₃ 3 three-put (omega (arith, four)) _ (other-high stereo l t)
+
+          pub start-written-stereo : (room₄ : List ℕ) → room₄ ≡ set room₃ 3 (l .other / 256) → room₄ ≡ written words room₀
+          start-written-stereo room₄ e₄ =
+              all-put words room₀ words-fit (length words) refl room₄ 4
+              (byte-put words room₀ words-fit (length words) refl room₃ 3 three-put (omega (arith, four)) room₄ _ (other-high stereo l t) e₄) (omega (arith, four))
 
 -- ---- a packet, first or not
-
-pub channels-most : (stereo : Bool) → channels stereo ≤ 2
-channels-most true = omega arith
-channels-most false = omega arith
 
 pub first-begun : (stereo begun : Bool) (l : Last) (bytes : List ℕ) → begun ≡ true → l ≡ packetFirst stereo begun l bytes
 unfolding packetFirst

@@ -7,7 +7,7 @@ use Prim.Native.Nat.{ℕ, suc, _+_, _*_, _/_, _%_, _<_}
 use native.Mathlib.Omega.{arith}
 use lib.ListN.{length, take, getD}
 use Rattle.room.proofs.Written.{take-more}
-use Rattle.dpcm.specs.Steps.{steps, minus}
+use Rattle.steps.specs.Steps.{steps, minus}
 use Rattle.dpcm.specs.Samples.{sampleAfter, last, turned, samples, lastOf, bytesOf}
 use Rattle.dpcm.specs.Channels.{everyOther, Apart}
 use Rattle.dpcm.specs.declared.Last.{Last}

@@ -1,4 +1,3 @@
-pub mod Steps
 pub mod Samples
 pub mod Channels
 pub mod Stride

@@ -4,7 +4,7 @@ use mathlib.Core.Bool.{Bool, true, false}
 use mathlib.Core.List.{List, [], _∷_}
 use Prim.Native.Nat.{ℕ, _+_, _/_, _%_}
 use lib.ListN.{getD}
-use Rattle.dpcm.specs.Steps.{steps}
+use Rattle.steps.specs.Steps.{steps}
 use Rattle.dpcm.specs.declared.Last.{Last}
 
 -- the sample behind a last one, by a data byte: added in 16 bits with wrap-around

@@ -1,19 +1,21 @@
 -- What a drawing call leaves and says, by its verdict.
 -- Assumes nothing.
-use mathlib.Core.Path.{_≡_, sym, ap}
+use mathlib.Core.Path.{_≡_, refl, sym, ap}
 use mathlib.Core.List.{List}
 use Prim.Native.Nat.{ℕ}
+use borrow.Author.Tests.{eq-eqb, ne-eqb}
+use lib.Dec.{eqb}
 use Rattle.refusal.specs.Number.{Verdict, accept, refuse}
 use Rattle.packet.specs.declared.Touched.{Touched}
 use Rattle.packet.specs.declared.Touched.the-variants.{None}
-use Rattle.packet.specs.Packet.{Packet, blocks}
+use Rattle.packet.specs.Packet.{blocks}
 use Rattle.packet.specs.Rows.{touched}
-use Rattle.stores.specs.Stores.{Memory, memory}
-use Rattle.stores.specs.Calls.{allowed, refused, Outcome, whole, unfinished, refusal, reply}
+use Rattle.stores.specs.Stores.{Plan, Memory, memory}
+use Rattle.stores.specs.Calls.{Call, allowed, refused, whole, unfinished, refusal, answered, outcome}
 use Rattle.stores.specs.Loop.{Called}
-use Rattle.stores.proofs.Loop.{refused-leaves, refused-answers, called-leaves, called-whole, called-unfinished}
+use Rattle.stores.proofs.Loop.{refused-leaves, refused-answers, called-leaves}
 use Rattle.draw.specs.Drawing.{plan}
-use Rattle.draw.specs.Call.{Request, packetOf, drawVerdict, Reason, reason, comes, calling, pictures, leaves, Report, rowsOf, report}
+use Rattle.draw.specs.Call.{Request, packetOf, drawVerdict, Reason, reason, comes, pictures, leaves, report, reporting, answering}
 
 comes-allowed : (v : Verdict) (n : ℕ) → v ≡ accept → comes v n ≡ allowed n
 unfolding comes
@@ -23,35 +25,36 @@ comes-refused : (v : Verdict) (n a k : ℕ) → v ≡ refuse a k → comes v n �
 unfolding comes
 comes-refused v n a k e = rw e
 
--- the rows by the verdict
-no-rows : (v : Verdict) (p : Packet) (a k : ℕ) → refuse a k ≡ v → None ≡ rowsOf v p
-unfolding rowsOf
-no-rows v p a k e = rw (← e)
+-- ---- the answer
 
-some-rows : (v : Verdict) (p : Packet) (t : Touched) → accept ≡ v → t ≡ touched p → t ≡ rowsOf v p
-unfolding rowsOf
-some-rows v p t e q = rw (← e) q
+-- by the place that the stores leave
+answers : (d : Plan) (m : Memory) (v : Call Reason) (n : ℕ) (b : List ℕ) (k j : ℕ) (t : Touched) → Called d m n b k j → v ≡ allowed n
+    → reporting (answered (eqb k (d .blocks))) j t ≡ outcome d t None m v
+unfolding outcome
+answers d m v n b k j t h e = rw (e, ← h .counts, ← h .leaves) refl
+
+module _ (n k j : ℕ) (t : Touched) where
+  pub answers-whole : k ≡ n → reporting whole j t ≡ answering n k j t
+  unfolding answered
+  answers-whole e = rw (eq-eqb k n e)
+
+  pub answers-unfinished : (k ≡ n → ⊥) → reporting unfinished j t ≡ answering n k j t
+  unfolding answered
+  answers-unfinished e = rw (ne-eqb k n e)
+
+-- ---- a call
 
 module _ (c : Request) (m : Memory) where
-  reports : (o : Outcome Reason) (t : Touched) → o ≡ reply calling m c → t ≡ rowsOf (drawVerdict c m) (packetOf c) → _≡_ {A = Report} (record { outcome = o; rows = t }) (report m c)
-  reports o t e f = rw (e, f)
-
   pub says-refused : (a k : ℕ) → refuse a k ≡ drawVerdict c m
-      → (pictures (c .front) m ≡ leaves c m) × (_≡_ {A = Report} (record { outcome = record { answer = refusal (reason a k); count = 0 }; rows = None }) (report m c))
+      → (pictures (c .front) m ≡ leaves c m) × (reporting (refusal (reason a k)) 0 None ≡ report m c)
   says-refused a k e =
       let q = comes-refused (drawVerdict c m) (c .allowed .stores) a k (sym e) in
-      (ap (pictures (c .front)) (refused-leaves (plan (packetOf c) (c .front)) m _ (reason a k) q), reports _ _ (refused-answers (plan (packetOf c) (c .front)) m _ (reason a k) q) (no-rows (drawVerdict c m) (packetOf c) a k e))
+      (ap (pictures (c .front)) (refused-leaves (plan (packetOf c) (c .front)) m _ (reason a k) q), refused-answers (plan (packetOf c) (c .front)) m _ (touched (packetOf c)) None (reason a k) q)
 
-  module _ (b : List ℕ) (k j : ℕ) (t : Touched) (h : Called (plan (packetOf c) (c .front)) m (c .allowed .stores) b k j) (e : accept ≡ drawVerdict c m) (r : t ≡ touched (packetOf c)) where
-    taken : comes (drawVerdict c m) (c .allowed .stores) ≡ allowed (c .allowed .stores)
-    taken = comes-allowed (drawVerdict c m) (c .allowed .stores) (sym e)
-
-    pub says-whole : k ≡ blocks (packetOf c)
-        → (pictures (c .front) (memory b k) ≡ leaves c m) × (_≡_ {A = Report} (record { outcome = record { answer = whole; count = j }; rows = t }) (report m c))
-    says-whole q =
-        (ap (pictures (c .front)) (called-leaves (plan (packetOf c) (c .front)) m _ (c .allowed .stores) b k j h taken), reports _ _ (called-whole (plan (packetOf c) (c .front)) m _ (c .allowed .stores) b k j h taken q) (some-rows (drawVerdict c m) (packetOf c) t e r))
-
-    pub says-unfinished : (k ≡ blocks (packetOf c) → ⊥)
-        → (pictures (c .front) (memory b k) ≡ leaves c m) × (_≡_ {A = Report} (record { outcome = record { answer = unfinished; count = j }; rows = t }) (report m c))
-    says-unfinished q =
-        (ap (pictures (c .front)) (called-leaves (plan (packetOf c) (c .front)) m _ (c .allowed .stores) b k j h taken), reports _ _ (called-unfinished (plan (packetOf c) (c .front)) m _ (c .allowed .stores) b k j h taken q) (some-rows (drawVerdict c m) (packetOf c) t e r))
+  -- the loop's stores, with the answer by the place that they leave
+  pub says-made : (b : List ℕ) (k j : ℕ) (t : Touched) → Called (plan (packetOf c) (c .front)) m (c .allowed .stores) b k j → accept ≡ drawVerdict c m → t ≡ touched (packetOf c)
+      → (pictures (c .front) (memory b k) ≡ leaves c m) × (answering (blocks (packetOf c)) k j t ≡ report m c)
+  says-made b k j t h e r =
+      let d = plan (packetOf c) (c .front) in
+      let q = comes-allowed (drawVerdict c m) (c .allowed .stores) (sym e) in
+      (ap (pictures (c .front)) (called-leaves d m _ (c .allowed .stores) b k j h q), rw r (answers d m _ (c .allowed .stores) b k j (touched (packetOf c)) h q))

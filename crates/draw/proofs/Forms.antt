@@ -9,13 +9,15 @@ use lib.Dec.{ltb}
 use lib.ListN.{length}
 use Rattle.refusal.specs.Number.{Verdict, accept, refuse}
 use Rattle.packet.specs.Packet.{packet, blocks, pixels}
+use Rattle.packet.specs.declared.Touched.the-variants.{None}
+use Rattle.packet.specs.Rows.{touched}
 use Rattle.packet.specs.Verdict.{default, strict, legalSize, mapFits}
 use Rattle.packet.specs.Forms.{OneOver}
 use Rattle.packet.proofs.Forms.{Differ, differ-if, differ-else, blocks-differ}
 use Rattle.stores.specs.Stores.{Memory}
 use Rattle.stores.specs.Calls.{leave, leaveCut, outcome, happens}
 use Rattle.draw.specs.Drawing.{plan}
-use Rattle.draw.specs.Call.{Request, packetOf, callVerdict, drawVerdict, comes, pictures, leaves, reporting, rowsOf}
+use Rattle.draw.specs.Call.{Request, packetOf, callVerdict, drawVerdict, comes, pictures, leaves}
 use Rattle.draw.specs.Forms.{SameCall, inForm, Odd, Forms}
 use Rattle.draw.proofs.Judged.{accepted-call}
 
@@ -38,7 +40,7 @@ by-verdict c m e =
     record {
       verdict = e;
       leaves = ap (λ (v : Verdict). pictures (c .front) (leave p m (comes v n))) e;
-      tells = ap (λ (v : Verdict). reporting (outcome p m (comes v n)) (rowsOf v (packetOf c))) e;
+      tells = ap (λ (v : Verdict). outcome p (touched (packetOf c)) None m (comes v n)) e;
       cuts = λ j. ap (λ (v : Verdict). leaveCut p m (comes v n) j) e;
     }
 
@@ -69,6 +71,7 @@ module _ (c : Request) (m : Memory) where
   call-forms =
       record {
         same = same-call;
+        nothing-over = λ e. same-call (λ o. let z : ⊥ = omega (arith, e, o .over) in z);
         odd = λ o. (odd-refused o, ap (λ (v : Verdict). pictures (c .front) (leave (plan (packetOf c) (c .front)) m (comes v (c .allowed .stores)))) (odd-refused o));
         strict-accepts = λ e. same-call (λ o. none-over e (o .over));
       }

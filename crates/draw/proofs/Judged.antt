@@ -1,15 +1,21 @@
 -- The tests of a drawing call: the verdict by each of them, and what an accepted call has.
 -- Assumes nothing.
-use mathlib.Core.Path.{_≡_}
-use mathlib.Core.Bool.{true, false}
+use mathlib.Core.Path.{_≡_, refl, sym}
+use mathlib.Core.Bool.{Bool, true, false, cond}
 use mathlib.Core.List.{List}
 use Prim.Native.Nat.{ℕ, _+_, _/_, _≤_, _<_}
 use native.Mathlib.Omega.{arith}
 use borrow.Author.Tests.{lt-ltb, le-ltb, eq-eqb, ne-eqb, ltb-false, eqb-true}
+use lib.Dec.{ltb}
 use lib.ListN.{length}
 use Rattle.words.proofs.Tests.{not-first, first}
 use Rattle.refusal.specs.Number.{Verdict, accept, refuse}
-use Rattle.packet.specs.Packet.{packet, blocks, start, pixels}
+use Rattle.packet.specs.declared.Touched.{Touched}
+use Rattle.packet.specs.declared.Inspected.{Inspected}
+use Rattle.packet.specs.declared.Inspected.the-variants as inspected
+use Rattle.packet.specs.Rows.{finding, found}
+use Rattle.packet.proofs.Strip.{found-accepted}
+use Rattle.packet.specs.Packet.{Packet, packet, blocks, start, pixels}
 use Rattle.packet.specs.Verdict.{legalSize, mapFits, blocksVerdict}
 use Rattle.packet.proofs.Sizes.{is-sized}
 use Rattle.packet.proofs.Exactly.{whole-is}
@@ -69,3 +75,28 @@ accepted-call spare columns rows map bytes front back place v =
       },
       whole-is spare (packet columns rows map bytes) (e .1) .1,
     )
+
+-- what a call has that `judge` accepts, by what it answers
+pub judged-call : (spare columns rows : ℕ) (map bytes : List ℕ) (front back place : ℕ) (t : Touched) (i : Inspected)
+    → found i ≡ finding (callVerdict spare columns rows map bytes front back place) t → (u : Touched) → i ≡ inspected.Accepted u
+    → (legalSize columns rows ≡ true) × Accepted (packet columns rows map bytes) front back place × (length bytes ≤ start (packet columns rows map bytes) (blocks (packet columns rows map bytes)) + spare)
+judged-call spare columns rows map bytes front back place t i e u q = accepted-call spare columns rows map bytes front back place (sym (found-accepted i _ t e u q .0))
+
+-- ---- whichever picture is shown
+
+-- both are tested alike
+pub either-verdict : (spare columns rows : ℕ) (map bytes : List ℕ) (front back place : ℕ)
+    → callVerdict spare columns rows map bytes front back place ≡ callVerdict spare columns rows map bytes back front place
+unfolding callVerdict
+either-verdict spare columns rows map bytes front back place = by (ltb front (pixels columns rows)) (ltb back (pixels columns rows)) _
+  where
+    by : (f b : Bool) (v : Verdict)
+        → cond (legalSize columns rows) (cond f (refuse 8 0) (cond b (refuse 8 0) v)) (refuse 6 0)
+        ≡ cond (legalSize columns rows) (cond b (refuse 8 0) (cond f (refuse 8 0) v)) (refuse 6 0)
+    by true true v = refl
+    by true false v = refl
+    by false true v = refl
+    by false false v = refl
+
+pub either-accepted : (p : Packet) (front back place : ℕ) → Accepted p front back place → Accepted p back front place
+either-accepted p front back place a = record { sized = a .sized; taken = a .taken; front-room = a .back-room; back-room = a .front-room; at = a .at }

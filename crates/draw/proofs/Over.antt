@@ -10,16 +10,17 @@ use Rattle.refusal.specs.Number.{accept}
 use Rattle.pattern.proofs.Agree.{Agree}
 use Rattle.packet.specs.Packet.{Packet, blocks, width, left, top, start, kind}
 use Rattle.packet.specs.Accepted.{Takes, Accepts}
+use Rattle.packet.specs.declared.Touched.the-variants.{None}
 use Rattle.packet.specs.Rows.{touched}
 use Rattle.packet.proofs.Agree.{start-same, kind-same, takes-same, fetched-same}
 use Rattle.packet.proofs.Agree as packet
 use Rattle.stores.specs.Stores.{Memory}
-use Rattle.stores.specs.Calls.{Outcome, happens}
+use Rattle.stores.specs.Calls.{happens}
 use Rattle.stores.proofs.Agree.{Alike, leave-agree, outcome-agree, cut-agree}
 use Rattle.paint.specs.Value.{pixelCount, pixelValue}
 use Rattle.paint.proofs.Counts.{count-few}
 use Rattle.draw.specs.Drawing.{sizeAt, targetAt, valueAt, plan}
-use Rattle.draw.specs.Call.{Request, packetOf, drawVerdict, comes, pictures, Reason, reporting, rowsOf}
+use Rattle.draw.specs.Call.{Request, packetOf, drawVerdict, comes, pictures}
 use Rattle.draw.specs.Taken.{DrawAccepts}
 use Rattle.draw.specs.Forms.{SameCall, withBytes, OverUnread}
 use Rattle.draw.proofs.Exactly.{drawn-exactly}
@@ -64,13 +65,13 @@ module _ (c : Request) (m : Memory) (v : drawVerdict c m ≡ accept) (bytes : Li
       (record { accepted = also; front-long = taken .front-long; back-long = taken .back-long; within = taken .within })
 
   same-call : SameCall c (withBytes c bytes) m
-  unfolding happens rowsOf touched
+  unfolding happens touched
   same-call =
       let h = alike (packetOf c) bytes (c .front) same (taken .accepted .drawn) in
       record {
         verdict = v ∙ sym also-drawn;
         leaves = rw (v, also-drawn) (ap (pictures (c .front)) (leave-agree _ _ h m (comes accept (c .allowed .stores))));
-        tells = rw (v, also-drawn) (ap (λ (o : Outcome Reason). reporting o (rowsOf accept (packetOf c))) (outcome-agree _ _ h m (comes accept (c .allowed .stores))));
+        tells = rw (v, also-drawn) (outcome-agree _ _ h (touched (packetOf c)) None m (comes accept (c .allowed .stores)));
         cuts = λ j. rw (v, also-drawn) (cut-agree _ _ h m (comes accept (c .allowed .stores)) j);
       }
 

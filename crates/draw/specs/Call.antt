@@ -4,7 +4,7 @@
 use mathlib.Core.Bool.{cond}
 use mathlib.Core.List.{List}
 use Prim.Native.Nat.{ℕ}
-use lib.Dec.{ltb}
+use lib.Dec.{eqb, ltb}
 use lib.ListN.{length}
 use Rattle.refusal.specs.Number.{Verdict, accept, refuse, number, block}
 use Rattle.packet.specs.Packet.{Packet, packet, blocks, pixels}
@@ -13,7 +13,7 @@ use Rattle.packet.specs.declared.Touched.the-variants.{None}
 use Rattle.packet.specs.Rows.{touched}
 use Rattle.packet.specs.Verdict.{legalSize, mapFits, blocksVerdict}
 use Rattle.stores.specs.Stores.{Memory}
-use Rattle.stores.specs.Calls.{Call, refused, allowed, whole, unfinished, refusal, Outcome, Calling, step, reply}
+use Rattle.stores.specs.Calls.{Call, refused, allowed, Answer, whole, unfinished, refusal, Outcome, answered, Calling, step, reply}
 use Rattle.draw.specs.Drawing.{plan}
 use Rattle.draw.specs.declared.Allowed.{Allowed}
 use Rattle.draw.specs.declared.Drawn.{Drawn}
@@ -66,9 +66,15 @@ unfoldable pub comes : Verdict → ℕ → Call Reason
 comes accept n = allowed n
 comes (refuse number block) n = refused (reason number block)
 
--- drawing calls: the plan that each draws, and what it comes to
-abbrev pub calling : Calling Request Reason
-calling = record { plan = λ c. plan (packetOf c) (c .front); meets = λ c m. comes (drawVerdict c m) (c .allowed .stores) }
+-- drawing calls: the plan that each draws, the rows of blocks that its packet touches (document 02, W2), none where it is refused, and what it comes to
+abbrev pub calling : Calling Request Reason Touched
+calling =
+    record {
+      plan = λ c. plan (packetOf c) (c .front);
+      rows = λ c. touched (packetOf c);
+      none = None;
+      meets = λ c m. comes (drawVerdict c m) (c .allowed .stores);
+    }
 
 -- all that a call is lent: the shown picture, and the picture drawn on with the place
 pub record Pictures : Type 0 where
@@ -82,24 +88,22 @@ pictures shown m = record { shown = shown; drawn = m }
 abbrev pub leaves : Request → Memory → Pictures
 leaves c m = pictures (c .front) (step calling m c)
 
--- what a call tells: its answer and count, and the rows of blocks that its packet touches (document 02, W2)
-pub record Report : Type 0 where
-  pub outcome : Outcome Reason
-  pub rows : Touched
-
--- of the whole packet, whatever the place and the count; none where the call is refused
-unfoldable pub rowsOf : Verdict → Packet → Touched
-rowsOf accept p = touched p
-rowsOf (refuse n k) p = None
-
-abbrev pub reporting : Outcome Reason → Touched → Report
-reporting o t = record { outcome = o; rows = t }
+-- what a call tells: its answer, its count and the rows of blocks that its packet touches
+abbrev pub Report : Type 0
+Report = Outcome Reason Touched
 
 abbrev pub report : Memory → Request → Report
-report m c = reporting (reply calling m c) (rowsOf (drawVerdict c m) (packetOf c))
+report m c = reply calling m c
+
+abbrev pub reporting : Answer Reason → ℕ → Touched → Report
+reporting a n t = record { answer = a; count = n; rows = t }
+
+-- an accepted call that made so many stores and left the place there, of a packet that touches these rows
+abbrev pub answering : ℕ → ℕ → ℕ → Touched → Report
+answering blocks place count t = reporting (answered (eqb place blocks)) count t
 
 -- document 01's values of each answer: "whole" and "unfinished" with the count of stores made, a refusal with its number and block
 abbrev pub said : Drawn → Report
-said (Whole n t) = reporting (record { answer = whole; count = n }) t
-said (Unfinished n t) = reporting (record { answer = unfinished; count = n }) t
-said (Refused r) = reporting (record { answer = refusal (reason (number r) (block r)); count = 0 }) None
+said (Whole n t) = reporting whole n t
+said (Unfinished n t) = reporting unfinished n t
+said (Refused r) = reporting (refusal (reason (number r) (block r))) 0 None

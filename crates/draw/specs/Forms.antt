@@ -7,7 +7,7 @@ use lib.ListN.{length, take}
 use Rattle.refusal.specs.Number.{accept, refuse}
 use Rattle.packet.specs.Packet.{blocks, start}
 use Rattle.packet.specs.Verdict.{default, strict}
-use Rattle.packet.specs.Forms.{OneOver}
+use Rattle.packet.specs.Forms.{NothingOver, OneOver}
 use Rattle.stores.specs.Stores.{Memory}
 use Rattle.stores.specs.Calls.{cut, happens}
 use Rattle.draw.specs.Call.{Request, within, request, packetOf, drawVerdict, calling, pictures, leaves, report}
@@ -32,6 +32,8 @@ pub record Odd (c : Request) (m : Memory) : Type 0 where
 
 pub record Forms (c : Request) (m : Memory) : Type 0 where
   pub same : (Odd c m → ⊥) → SameCall (inForm default c) (inForm strict c) m
+  -- so the two agree on every packet with nothing left over
+  pub nothing-over : NothingOver (packetOf c) → SameCall (inForm default c) (inForm strict c) m
   -- the strict call is then refused, and changes nothing
   pub odd : Odd c m → (drawVerdict (inForm strict c) m ≡ refuse 15 0) × (leaves (inForm strict c) m ≡ pictures (c .front) m)
   pub strict-accepts : drawVerdict (inForm strict c) m ≡ accept → SameCall (inForm default c) (inForm strict c) m

@@ -7,7 +7,7 @@ use packet::check_blocks;
 use packet::data_position;
 use packet::is_legal_size;
 use paint::paint_part;
-use paint::set_place;
+use paint::set_next;
 use refusal::Refusal;
 use whole::paint_whole;
 ghost use mathlib.Core.Path.{_≡_};
@@ -21,7 +21,7 @@ ghost use Rattle.packet.specs.Rows.{touched, finding, found};
 ghost use Rattle.stores.specs.Stores.{memory};
 ghost use Rattle.stores.specs.Loop.{Called};
 ghost use Rattle.draw.specs.Drawing.{plan};
-ghost use Rattle.draw.specs.Call.{within, request, callVerdict, pictures, leaves, report, said};
+ghost use Rattle.draw.specs.Call.{within, request, callVerdict, pictures, leaves, report, answering, said};
 ghost use Rattle.draw.specs.Asked.{Accepted};
 
 // What a drawing call answers: with the stores made and the rows of blocks that the packet touches, or why it is refused.
@@ -57,7 +57,7 @@ fn data_from(data: &[u8], at: usize) -> &[u8]
 }
 
 // The tests of a call, where so many bytes may be left over and the pictures are front and back bytes long.
-fn judge(
+pub fn judge(
     spare: usize,
     columns: usize,
     rows: usize,
@@ -88,8 +88,9 @@ fn judge(
     Inspected::Refused(Refusal::Size)
 }
 
-// The first stores due from the place on, at most as many as are allowed; their number is returned.
-fn draw_blocks(
+// The first stores due from the place on, at most as many as are allowed; their number is returned. Whoever calls it has judged, and the frame of the tests is
+// gone while it draws.
+pub fn draw_blocks(
     columns: usize,
     rows: usize,
     map: &[u8],
@@ -119,7 +120,7 @@ fn draw_blocks(
             return allowed;
         }
         paint_whole(code, s, front, back, w, h, x, y);
-        set_place(place, k + 1);
+        set_next(code, s, front, back, w, x, y, place, k + 1);
         left -= due + 1;
         at += data_length(code, s);
         k += 1;
@@ -132,8 +133,18 @@ fn draw_blocks(
     allowed - left
 }
 
-// Makes the first stores due from the place on, at most as many as are allowed, after every test; a refused call changes nothing.
-pub fn draw_within(
+// The answer of an accepted call that has made so many stores and has left the place there, with the rows that its packet touches.
+pub fn answer_of(blocks: usize, place: usize, count: usize, t: Touched) -> Drawn
+    ensures { λ r. ⌜ said r ≡ answering blocks place count t ⌝ }
+{
+    if place == blocks {
+        return Drawn::Whole(count, t);
+    }
+    Drawn::Unfinished(count, t)
+}
+
+// The tests, then the first stores due from the place on, at most as many as are allowed; a refused call changes nothing.
+fn draw_within(
     columns: usize,
     rows: usize,
     map: &[u8],
@@ -159,12 +170,9 @@ pub fn draw_within(
     ) {
         Inspected::Refused(r) => Drawn::Refused(r),
         Inspected::Accepted(t) => {
-            let count = draw_blocks(columns, rows, map, data, front, back, place, allowed.stores);
+            let n = draw_blocks(columns, rows, map, data, front, back, place, allowed.stores);
             let next = *place;
-            if next == columns * rows {
-                return Drawn::Whole(count, t);
-            }
-            Drawn::Unfinished(count, t)
+            answer_of(columns * rows, next, n, t)
         }
     }
 }

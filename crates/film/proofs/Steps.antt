@@ -4,14 +4,18 @@ use mathlib.Core.Path.{_≡_, refl, sym, ap, _∙_}
 use mathlib.Core.Bool.{Bool, true, false, cond}
 use mathlib.Core.List.{List, []}
 use Prim.Native.Nat.{ℕ, _+_, _-_, _≤_}
+use native.Mathlib.Decide.{ℕ-discrete}
 use borrow.Author.Tests.{eq-eqb, ne-eqb, leb-true}
 use lib.ListN.{length}
 use Rattle.refusal.specs.declared.Refusal.{Refusal}
-use Rattle.refusal.specs.Number.{Verdict, number, block}
+use Rattle.refusal.specs.Number.{Verdict, refuse, number, block}
+use Rattle.packet.specs.declared.Touched.the-variants.{None}
 use Rattle.stores.specs.Stores.{Memory, memory}
-use Rattle.stores.specs.Calls.{step}
+use Rattle.stores.specs.Calls.{refusal, step}
 use Rattle.draw.specs.declared.Allowed.{Allowed}
-use Rattle.draw.specs.Call.{Request, request, calling, Pictures, pictures, leaves, Report, report}
+use Rattle.draw.specs.Call.{Request, request, callVerdict, reason, calling, Pictures, pictures, leaves, Report, reporting, report}
+use Rattle.draw.proofs.Judged.{either-verdict}
+use Rattle.draw.proofs.Called.{says-refused}
 use Rattle.palette.specs.declared.Updated.{Updated}
 use Rattle.palette.specs.declared.Updated.the-variants.{Taken, Refused}
 use Rattle.palette.specs.Update.{told, verdictOn, paletteAfter}
@@ -38,7 +42,7 @@ use Rattle.next.specs.declared.Next.{Next}
 use Rattle.next.specs.declared.Next.the-variants as found
 use Rattle.next.specs.Next.{nextAs, nextOf, Possible, Ready}
 use Rattle.next.proofs.Standing.{found-ready}
-use Rattle.opcodes.specs.Opcodes.{Step, taken, ended, refused, quiet, quietAnswer, heardStep, paletteAnswer, drawnStep}
+use Rattle.opcodes.specs.Opcodes.{Step, taken, ended, refused, quiet, quietAnswer, heardStep, paletteAnswer, drawnAs, drawnStep}
 use Rattle.film.specs.Film.{Lent, lent, withPalette, withPictures, withRoom, swap, Outcome, after, called, drawOn, part, drawBy, act, actOn, heardBy, hear, takeOn, standing, stepOf}
 
 -- ---- 11
@@ -67,6 +71,25 @@ module _ (st : State) (p : ℕ) (map packet : List ℕ) (allowed : Allowed) (a b
       rw (ne-eqb _ _ n)
       (ap (λ (o : Outcome). after (o .step) (swap (o .lent)))
       (called-is st p (request (st .columns) (st .rows) map packet b allowed) (withPictures l b a place) x o c k f g (ap (λ (y : Pictures). y .drawn) h)))
+
+-- a drawing call that is refused, whichever picture is front
+pub refused-on : (st : State) (p : ℕ) (map packet : List ℕ) (allowed : Allowed) (a b : List ℕ) (place : ℕ) (l : Lent) (n k : ℕ)
+    → refuse n k ≡ callVerdict (allowed .spare) (st .columns) (st .rows) map packet (length a) (length b) place
+    → after (quiet (refused n k)) (withPictures l a b place) ≡ drawOn st p map packet allowed (withPictures l a b place)
+unfolding drawnAs
+refused-on st p map packet allowed a b place l n k v = by (ℕ-discrete (st .front) 0)
+  where
+    o : Report
+    o = reporting (refusal (reason n k)) 0 None
+
+    by : Dec (st .front ≡ 0) → after (quiet (refused n k)) (withPictures l a b place) ≡ drawOn st p map packet allowed (withPictures l a b place)
+    by (yes e) =
+        let s = says-refused (request (st .columns) (st .rows) map packet a allowed) (memory b place) n k v in
+        drew-second st p map packet allowed a b place (quiet (refused n k)) b place o refl l e (s .1) (s .0)
+    by (no e) =
+        let w = either-verdict (allowed .spare) (st .columns) (st .rows) map packet (length a) (length b) place in
+        let s = says-refused (request (st .columns) (st .rows) map packet b allowed) (memory a place) n k (v ∙ w) in
+        drew-first st p map packet allowed a b place (quiet (refused n k)) a place o refl l e (s .1) (s .0)
 
 module _ (m : Map) (film : List ℕ) (st : State) (body : List ℕ) (p : ℕ) (allowed : Allowed) (l : Lent) where
   pub no-map : m ≡ Missing → after (quiet (refused 9 0)) l ≡ drawBy m film st body p allowed l

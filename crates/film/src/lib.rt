@@ -1,6 +1,8 @@
 // One step over a film: a chunk's head or one opcode.
 use draw::Allowed;
-use draw::draw_within;
+use draw::answer_of;
+use draw::draw_blocks;
+use draw::judge;
 use heads::Opcode;
 use heads::is_heard;
 use next::Next;
@@ -9,6 +11,7 @@ use opcodes::Stepped;
 use opcodes::drawn_step;
 use opcodes::heard_step;
 use opcodes::quiet_step;
+use packet::Inspected;
 use paint::set_place;
 use palette::Updated;
 use palette::create_gradient;
@@ -26,7 +29,7 @@ ghost use mathlib.Core.Bool.{true};
 ghost use Prim.Native.Nat.{ℕ, _≤_};
 ghost use mathlib.Core.List.{List};
 ghost use lib.ListN.{length};
-ghost use Rattle.packet.specs.Verdict.{default, strict};
+ghost use Rattle.packet.specs.Verdict.{default};
 ghost use Rattle.draw.specs.Call.{within};
 ghost use Rattle.palette.specs.Update.{told};
 ghost use Rattle.state.specs.State.{mapInside};
@@ -34,7 +37,7 @@ ghost use Rattle.next.specs.Next.{Ready};
 ghost use Rattle.opcodes.specs.Opcodes.{quiet, steppedAs, paletteAnswer};
 ghost use Rattle.film.specs.Film.{Lent, lent, withPictures, withRoom, after, drawOn, drawBy, actOn, hear, takeOn, stepOf};
 
-// 11 on back, the picture that is not front. Whatever else is lent stays as it is.
+// 11 on back, the picture that is not front. Whatever else is lent stays as it is. The tests come first and are gone from the stack while blocks are drawn.
 fn draw_on(
     st: State,
     p: usize,
@@ -47,30 +50,32 @@ fn draw_on(
 ) -> Stepped
     ensures { λ r. ⌜ ((l : Lent) → after (steppedAs r) (withPictures l (now (a .exit)) (now (b .exit)) (now (place .exit))) ≡ drawOn st p (now (map .entry)) (now (packet .entry)) allowed (withPictures l (now (a .entry)) (now (b .entry)) (now (place .entry)))) ⌝ }
 {
-    if st.front == 0 {
-        let d = draw_within(
-            st.columns,
-            st.rows,
-            map,
-            packet,
-            &a[..],
-            &mut b[..],
-            place,
-            allowed,
-        );
-        return drawn_step(st, p, d);
-    }
-    let d = draw_within(
-        st.columns,
-        st.rows,
+    let columns = st.columns;
+    let rows = st.rows;
+    let n = allowed.stores;
+    let at = *place;
+    match judge(
+        allowed.spare,
+        columns,
+        rows,
         map,
         packet,
-        &b[..],
-        &mut a[..],
-        place,
-        allowed,
-    );
-    drawn_step(st, p, d)
+        a.len(),
+        b.len(),
+        at,
+    ) {
+        Inspected::Refused(r) => Stepped::Refused(r),
+        Inspected::Accepted(t) => {
+            if st.front == 0 {
+                let made = draw_blocks(columns, rows, map, packet, &a[..], &mut b[..], place, n);
+                let next = *place;
+                return drawn_step(st, p, answer_of(columns * rows, next, made, t));
+            }
+            let made = draw_blocks(columns, rows, map, packet, &b[..], &mut a[..], place, n);
+            let next = *place;
+            drawn_step(st, p, answer_of(columns * rows, next, made, t))
+        }
+    }
 }
 
 // 11, its body ending at p: the packet is the part of the film behind the body's 14 bytes. 9 without a size or a pending map.
@@ -233,34 +238,6 @@ pub fn step(
         Allowed {
             stores: allowed,
             spare: 1,
-        },
-    )
-}
-
-// The strict film step: a packet may leave no byte over.
-pub fn step_strict(
-    film: &[u8],
-    st: State,
-    palette: &mut [u8],
-    a: &mut [u8],
-    b: &mut [u8],
-    place: &mut usize,
-    room: &mut [u8],
-    allowed: usize,
-) -> Stepped
-    ensures { λ r. ⌜ after (steppedAs r) (lent (now (palette .exit)) (now (a .exit)) (now (b .exit)) (now (place .exit)) (now (room .exit))) ≡ stepOf (now (film .entry)) st (within allowed strict) (lent (now (palette .entry)) (now (a .entry)) (now (b .entry)) (now (place .entry)) (now (room .entry))) ⌝ }
-{
-    step_within(
-        film,
-        st,
-        palette,
-        a,
-        b,
-        place,
-        room,
-        Allowed {
-            stores: allowed,
-            spare: 0,
         },
     )
 }

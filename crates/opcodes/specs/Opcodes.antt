@@ -86,4 +86,4 @@ drawnAs st p drawing.unfinished n t = drew (unfinished st) n t
 drawnAs st p (drawing.refusal r) n t = quiet (refused (r .number) (r .block))
 
 abbrev pub drawnStep : State → ℕ → Report → Step
-drawnStep st p o = drawnAs st p (o .outcome .answer) (o .outcome .count) (o .rows)
+drawnStep st p o = drawnAs st p (o .answer) (o .count) (o .rows)

@@ -14,7 +14,8 @@ use Rattle.draw.specs.Call.{callVerdict}
 use Rattle.draw.proofs.Judged.{accepted-call}
 use Rattle.origin.specs.declared.Origin.{Origin}
 use Rattle.origin.specs.declared.Origin.the-variants.{Byte, InFront, InBack, InNew}
-use Rattle.origin.specs.Trace.{blockAt, pixelAt, sourceAt, backOrigin, named, originOf, Answer, found, refused, foundAt, positionVerdict, traceVerdict, answered, traceOf}
+use Rattle.book.specs.Picture.{sourceAt}
+use Rattle.origin.specs.Trace.{blockAt, pixelAt, backOrigin, named, originOf, Answer, found, refused, foundAt, positionVerdict, traceVerdict, answered, traceOf}
 use Rattle.origin.specs.Asked.{Traceable}
 
 -- ---- a pixel of back

@@ -4,7 +4,6 @@ use mathlib.Core.Path.{_≡_, sym, ap, _∙_}
 use mathlib.Core.List.{List}
 use Prim.Native.Nat.{ℕ, _+_, _-_, _*_, _/_, _%_, _<_}
 use native.Mathlib.Omega.{arith}
-use lib.Arith.{digits-div, digits-mod, digits-lt}
 use lib.ListN.{length, drop, length-drop}
 use Rattle.motion.specs.Motion.{rasterIndex}
 use Rattle.block.specs.declared.Source.{Source}
@@ -16,7 +15,9 @@ use Rattle.packet.specs.Packet.{Packet, blocks, width, height, left, top, code,
 use Rattle.packet.specs.Accepted.{Takes}
 use Rattle.packet.proofs.Walk.{code-below, blocks-few}
 use Rattle.packet.proofs.Exactly.{is-copy}
-use Rattle.origin.specs.Trace.{blockAt, pixelAt, sourceAt}
+use Rattle.book.specs.Picture.{sourceAt}
+use Rattle.book.proofs.Picture as grid
+use Rattle.origin.specs.Trace.{blockAt, pixelAt}
 use Rattle.origin.specs.Asked.{Traceable}
 
 -- ---- where it stands
@@ -28,26 +29,20 @@ pixel-few x y = omega arith
 module _ (columns rows x y : ℕ) (across : x < 8 * columns) (down : y < 8 * rows) where
   pub column-is : blockAt columns x y % columns ≡ x / 8
   unfolding blockAt
-  column-is = let l : x / 8 < columns = omega arith in digits-mod (y / 8) l
+  column-is = grid.column-is columns rows x y across down
 
   pub row-is : blockAt columns x y / columns ≡ y / 8
   unfolding blockAt
-  row-is = let l : x / 8 < columns = omega arith in digits-div (y / 8) l
+  row-is = grid.row-is columns rows x y across down
 
   pub block-below : blockAt columns x y < columns * rows
   unfolding blockAt
-  block-below =
-      let l : x / 8 < columns = omega arith in
-      let m : y / 8 < rows = omega arith in
-      omega (arith, digits-lt m l)
+  block-below = grid.block-below columns rows x y across down
 
   -- its index, counted from its block's corner
   pub index-is : rasterIndex (8 * columns) (8 * (blockAt columns x y % columns)) (8 * (blockAt columns x y / columns)) (pixelAt x y) ≡ y * (8 * columns) + x
-  unfolding rasterIndex pixelAt
-  index-is =
-      let a : 8 * (y / 8) + (8 * (y % 8) + x % 8) / 8 ≡ y = omega arith in
-      let b : 8 * (x / 8) + (8 * (y % 8) + x % 8) % 8 ≡ x = omega arith in
-      rw (column-is, row-is, a, b)
+  unfolding blockAt pixelAt
+  index-is = grid.index-is columns rows x y across down
 
 -- ---- what is asked to read it
 

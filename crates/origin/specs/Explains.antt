@@ -10,9 +10,10 @@ use Rattle.block.specs.declared.Source.the-variants.{Data, Front, Back}
 use Rattle.packet.specs.Packet.{Packet, blocks, width, height, code, start}
 use Rattle.stores.specs.Stores.{final}
 use Rattle.draw.specs.Drawing.{targetAt, plan}
+use Rattle.book.specs.Picture.{sourceAt}
 use Rattle.origin.specs.declared.Origin.{Origin}
 use Rattle.origin.specs.declared.Origin.the-variants.{Byte, InFront, InBack, InNew}
-use Rattle.origin.specs.Trace.{blockAt, sourceAt}
+use Rattle.origin.specs.Trace.{blockAt}
 
 -- the index of the pixel at x, y in a picture w pixels wide
 abbrev pub indexAt : ℕ → ℕ → ℕ → ℕ

@@ -1,7 +1,7 @@
 -- Where the value of a pixel comes from (document 02, W9). The rules read each pixel from one source: a byte of its block's data, a pixel of front or a
 -- pixel of back (`source` of the crate `block`). Here the source has the name by which a host finds it again: a byte is counted from the packet's start,
 -- a pixel has x and y, and a pixel of back is one of the picture as it was lent, which codes 1 and 2 read, or one of the new picture, which code 3 reads:
--- code 2 copies from blocks that are not drawn yet, code 3 from blocks that are (`proofs/Explains`).
+-- code 2 copies from blocks that are not drawn yet, code 3 from blocks that are (`book/proofs/Picture`).
 -- Assumes nothing.
 use mathlib.Core.Bool.{cond}
 use mathlib.Core.List.{List}
@@ -10,10 +10,10 @@ use lib.Dec.{eqb, leb}
 use Rattle.refusal.specs.Number.{Verdict, accept, refuse, number, block}
 use Rattle.block.specs.declared.Source.{Source}
 use Rattle.block.specs.declared.Source.the-variants.{Data, Front, Back}
-use Rattle.block.specs.Block.{source}
-use Rattle.packet.specs.Packet.{Packet, packet, width, left, top, code, start, dataOf, kind}
+use Rattle.packet.specs.Packet.{Packet, packet, width, code, start}
 use Rattle.packet.specs.Verdict.{andThen, default}
 use Rattle.draw.specs.Call.{callVerdict}
+use Rattle.book.specs.Picture.{sourceAt}
 use Rattle.origin.specs.declared.Origin.{Origin}
 use Rattle.origin.specs.declared.Origin.the-variants.{Byte, InFront, InBack, InNew}
 use Rattle.origin.specs.declared.Traced.{Traced}
@@ -27,10 +27,6 @@ blockAt columns x y = y / 8 * columns + x / 8
 
 unfoldable pub pixelAt : ℕ → ℕ → ℕ
 pixelAt x y = 8 * (y % 8) + x % 8
-
--- what the rules read pixel i of block k from
-abbrev pub sourceAt : Packet → ℕ → ℕ → Source
-sourceAt p k i = source (kind p k) (dataOf p k) (width p) (left p k) (top p k) i
 
 -- a pixel of back that a block of this code reads
 unfoldable pub backOrigin : ℕ → ℕ → ℕ → Origin

@@ -98,6 +98,6 @@ module _ (columns rows : ℕ) (map bytes : List ℕ) where
       record {
         odd = λ o. (exactly default .1 (o .accepted), odd-refused o);
         same = same-verdict;
-        used-up = λ e. same-verdict (λ o. let z : ⊥ = omega (arith, e, o .over) in z);
+        nothing-over = λ e. same-verdict (λ o. let z : ⊥ = omega (arith, e, o .over) in z);
         strict-accepts = λ e. exactly default .1 (accepts-more strict default columns rows map bytes (omega arith) (exactly strict .0 e));
       }

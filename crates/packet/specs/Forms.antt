@@ -10,6 +10,10 @@ use Rattle.packet.specs.Packet.{Packet, packet, blocks, start}
 use Rattle.packet.specs.Verdict.{default, strict, verdict}
 use Rattle.packet.specs.Accepted.{Accepts}
 
+-- the blocks leave nothing over
+abbrev pub NothingOver : Packet → Type 0
+NothingOver p = length (p .bytes) ≡ start p (blocks p)
+
 -- the blocks leave exactly one byte over
 abbrev pub OneOver : Packet → Type 0
 OneOver p = length (p .bytes) ≡ start p (blocks p) + 1
@@ -22,7 +26,7 @@ pub record Odd (columns rows : ℕ) (map bytes : List ℕ) : Type 0 where
 pub record Forms (columns rows : ℕ) (map bytes : List ℕ) : Type 0 where
   pub odd : Odd columns rows map bytes → (verdict default columns rows map bytes ≡ accept) × (verdict strict columns rows map bytes ≡ refuse 15 0)
   pub same : (Odd columns rows map bytes → ⊥) → verdict default columns rows map bytes ≡ verdict strict columns rows map bytes
-  -- so they agree on every packet with nothing left over
-  pub used-up : length bytes ≡ start (packet columns rows map bytes) (blocks (packet columns rows map bytes)) → verdict default columns rows map bytes ≡ verdict strict columns rows map bytes
+  -- so the two agree on every packet with nothing left over
+  pub nothing-over : NothingOver (packet columns rows map bytes) → verdict default columns rows map bytes ≡ verdict strict columns rows map bytes
   -- and what the strict form accepts the default accepts
   pub strict-accepts : verdict strict columns rows map bytes ≡ accept → verdict default columns rows map bytes ≡ accept

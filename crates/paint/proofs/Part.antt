@@ -12,9 +12,9 @@ use Rattle.block.specs.Block.{Kind, kindOf, source, fetched}
 use Rattle.block.specs.Asked.{Readable, Among}
 use Rattle.pixel.proofs.Sources.{raster-below, source-among}
 use Rattle.stores.specs.Stores.{memory, firstPixels}
-use Rattle.stores.specs.Loop.{Made}
+use Rattle.stores.specs.Loop.{Made, Begun, Next}
 use Rattle.stores.proofs.Loop.{made-none, made-pixel, made-length, made-first}
-use Rattle.paint.specs.Value.{pixelCount, pixelValue, blockPlan}
+use Rattle.paint.specs.Value.{pixelCount, pixelValue, blockPlan, planOf}
 use Rattle.paint.specs.Asked.{Canvas, Drawable}
 use Rattle.paint.proofs.Counts.{count-few}
 
@@ -46,6 +46,10 @@ module _ (κ : Kind) (s : List ℕ) (w x y : ℕ) (front b₀ : List ℕ) (n : �
       let e : i ≡ n = omega (arith, p .within) in
       made-first (blockPlan κ s w x y front) b₀ 0 i b (p .made) (omega arith) (omega arith) ∙ ap (firstPixels (blockPlan κ s w x y front) 0 b₀) e
 
+  pub part-begun : n ≤ pixelCount κ → Begun (blockPlan κ s w x y front) 0 i b
+  part-begun q =
+      record { found = b₀; made = made-first (blockPlan κ s w x y front) b₀ 0 i b (p .made) (omega arith) (omega (arith, p .within)) }
+
   pub part-length : length b ≡ length b₀
   part-length = made-length (blockPlan κ s w x y front) (memory b₀ 0) i 0 i b (p .made)
 
@@ -73,3 +77,18 @@ module _ (code : ℕ) (s : List ℕ) (w h x y n i front back : ℕ) (d : Drawabl
   -- it is stored inside the picture
   pub part-below : (back′ : ℕ) → back′ ≡ back → (t : ℕ) → t ≡ rasterIndex w x y i → t < back′
   part-below back′ e t et = omega (arith, et, e, raster-below w h x y i (c .across) (c .down) pixel-64, c .back-room)
+
+-- its store is the list's next. u: its source. v: what stands there. t: where it is stored
+pub part-next : (code : ℕ) (s : List ℕ) (w h x y n i : ℕ) (front b₀ b : List ℕ) → Drawable code s w h x y n → Canvas w h x y (length front) (length b₀)
+    → Part (kindOf code s) s w x y front b₀ n b i → i < n → (u : Source) (v t : ℕ) → u ≡ source (kindOf code s) s w x y i → v ≡ fetched u s front b
+    → t ≡ rasterIndex w x y i → Next (planOf code s front w x y) 0 i b t v
+unfolding pixelValue
+part-next code s w h x y n i front b₀ b d c p l u v t eu ev et =
+    record {
+      begun = part-begun (kindOf code s) s w x y front b₀ n b i p (d .count);
+      listed = omega (arith, d .count);
+      target = et;
+      value = ev ∙ ap (λ (z : Source). fetched z s front b) eu;
+      inside =
+          part-below code s w h x y n i (length front) (length b₀) d c l (length b) (part-length (kindOf code s) s w x y front b₀ n b i p) t et;
+    }

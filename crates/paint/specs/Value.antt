@@ -3,7 +3,7 @@
 use mathlib.Core.List.{List}
 use Prim.Native.Nat.{ℕ}
 use Rattle.motion.specs.Motion.{rasterIndex}
-use Rattle.block.specs.Block.{Kind, same, kept, ahead, behind, near, far, patterned, celled, dithered, refused, source, fetched}
+use Rattle.block.specs.Block.{Kind, same, kept, ahead, behind, near, far, patterned, celled, dithered, refused, kindOf, source, fetched}
 use Rattle.stores.specs.Stores.{Plan}
 
 -- document 01: 64 for each block but code 1
@@ -27,3 +27,7 @@ pixelValue κ s w x y front i back = fetched (source κ s w x y i) s front back
 abbrev pub blockPlan : Kind → List ℕ → ℕ → ℕ → ℕ → List ℕ → Plan
 blockPlan κ s w x y front =
     record { blocks = 1; size = λ k. pixelCount κ; target = λ k i. rasterIndex w x y i; value = λ k i b. pixelValue κ s w x y front i b }
+
+-- the plan of the block that code draws at x, y: the list of its pixel stores
+abbrev pub planOf : ℕ → List ℕ → List ℕ → ℕ → ℕ → ℕ → Plan
+planOf code s front w x y = blockPlan (kindOf code s) s w x y front

@@ -11,9 +11,9 @@ use borrow.Author.Tests.{eq-eqb, ne-eqb}
 use lib.Dec.{eqb}
 use lib.ListN.{length, getD, set, take, drop, length-set, take-append-drop}
 use lib.Seq.{getD-set-same, getD-set-other, ext-getD}
-use Rattle.palette.specs.Store.{Store, applied}
-use Rattle.palette.proofs.Lists.{applied-append, applied-length}
-use Rattle.palette.proofs.Making.{Made}
+use Rattle.listed.specs.Store.{Store, applied}
+use Rattle.listed.specs.Order.{Begun}
+use Rattle.listed.proofs.Lists.{applied-append, applied-length}
 
 -- what the stores of a list leave at index t, where d stood
 last : List Store → ℕ → ℕ → ℕ
@@ -60,12 +60,13 @@ twice l p =
     let b : t < length (applied l p) = omega (arith, applied-length l p) in
     applied-at l (applied l p) t b ∙ ap (last l t) (applied-at l p t a) ∙ last-again l t (getD p t 0) ∙ sym (applied-at l p t a))
 
--- cut after j stores, and made again
-pub made-again : (l : List Store) (p₀ : List ℕ) (j : ℕ) (p : List ℕ) → Made l p₀ j p → applied l p ≡ applied l p₀
-made-again l p₀ j p m =
+-- cut after j stores, and made again from the first on: as if it had not been cut
+pub made-again : (l : List Store) (j : ℕ) (p : List ℕ) (m : Begun l j p) → applied l p ≡ applied l (m .found)
+made-again l j p m =
+    let p₀ = m .found in
     let a = take j l in
     let e : l ≡ a ++ drop j l = sym (take-append-drop j l) in
-    ap (applied l) (m .now)
+    ap (applied l) (m .made)
     ∙ ap (λ (x : List Store). applied x (applied a p₀)) e
     ∙ applied-append a (drop j l) (applied a p₀)
     ∙ ap (applied (drop j l)) (twice a p₀)

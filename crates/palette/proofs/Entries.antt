@@ -1,6 +1,6 @@
 -- Opcode 0C by its tests: a law for each way out, over the words that code has read.
 -- Assumes nothing.
-use mathlib.Core.Path.{_≡_, _∙_}
+use mathlib.Core.Path.{_≡_, refl, _∙_}
 use mathlib.Core.Bool.{true, false}
 use mathlib.Core.List.{List}
 use Prim.Native.Nat.{ℕ, _+_, _*_, _≤_, _<_}
@@ -8,14 +8,16 @@ use native.Mathlib.Omega.{arith}
 use borrow.Author.Tests.{eq-eqb, ne-eqb, eqb-true, le-leb, lt-leb, leb-true}
 use lib.ListN.{length}
 use Rattle.refusal.specs.Number.{accept, refuse}
-use Rattle.palette.specs.Store.{applied, bytes, from, Within}
+use Rattle.listed.specs.Store.{applied, bytes, from, Within}
 use Rattle.palette.specs.declared.Updated.{Updated}
 use Rattle.palette.specs.declared.Updated.the-variants.{Taken}
 use Rattle.palette.specs.Update.{legal, verdict, verdictFor, told}
-use Rattle.palette.proofs.Lists.{within-bytes}
+use Rattle.listed.proofs.Lists.{bytes-length, within-bytes}
+use Rattle.listed.proofs.Order.{due-all}
 use Rattle.palette.proofs.Judging.{legal-bytes}
 use Rattle.palette.proofs.Outcome.{refuses-5, refuses-range, refuses-component, accepts, accepted, taken-on}
 use Rattle.palette.specs.Entries.{start, count, setPalette}
+use Rattle.palette.specs.Asked.{storesOf, Next}
 
 module _ (body : List ℕ) (m : ℕ) (h : m ≡ 768) (s n : ℕ) (x : s ≡ start body) (y : n ≡ count body) where
   pub wrong-length : (length body ≡ 4 + 3 * n → ⊥) → refuse 5 0 ≡ verdictFor (setPalette body) m
@@ -44,6 +46,17 @@ module _ (body : List ℕ) (m : ℕ) (z : Updated) (v : told z ≡ verdictFor (s
   entries-fit =
       let a = taken-on (setPalette body) m z v e in
       (a .0, rw y (eqb-true _ _ (a .1 .exact)), rw (x, y) (leb-true _ _ (a .1 .inside)))
+
+  entries-list : storesOf 12 body ≡ bytes (3 * s) (from body 4) (3 * n)
+  unfolding storesOf
+  entries-list = rw (x, y) refl
+
+  pub entries-next : (p : List ℕ) → length p ≡ m → Next 12 body 0 (bytes (3 * s) (from body 4) (3 * n)) p
+  entries-next p l =
+      let a = entries-fit in
+      let w : Within (length p) (bytes (3 * s) (from body 4) (3 * n)) = within-bytes (length p) (3 * s) (from body 4) (3 * n) (λ i h. omega (arith, a .0, a .2)) in
+      let f : length (bytes (3 * s) (from body 4) (3 * n)) ≤ 1536 = omega (arith, bytes-length (3 * s) (from body 4) (3 * n), a .2) in
+      record { due = rw entries-list (due-all _ p w); few = rw entries-list f }
 
   pub entries-stored : (p q : List ℕ) → q ≡ applied (bytes (3 * s) (from body 4) (3 * n)) p → q ≡ applied (setPalette body .stores) p
   entries-stored p q f = rw (← x, ← y) f

@@ -9,18 +9,19 @@ use native.Mathlib.Nat.{mul-le-mul, mul-le-mul-left, mul-comm, mul-zero, mod-lt,
 use borrow.Author.Tests.{eq-eqb, ne-eqb, leb-true}
 use lib.Arith.{digits-div, digits-mod}
 use lib.Dec.{eqb, ltb}
-use lib.ListN.{length, getD}
+use lib.ListN.{length, getD, length-append}
 use Rattle.words.proofs.Tests.{first}
 use Rattle.refusal.specs.Number.{accept, refuse}
-use Rattle.palette.specs.Store.{applied, bytes, Within}
+use Rattle.listed.specs.Store.{applied, bytes, Within}
 use Rattle.palette.specs.declared.Updated.{Updated}
 use Rattle.palette.specs.declared.Updated.the-variants.{Taken}
 use Rattle.palette.specs.Update.{legal, verdict, verdictFor, told}
-use Rattle.palette.proofs.Lists.{applied-append, within-append, within-bytes}
+use Rattle.listed.proofs.Lists.{applied-append, bytes-length, within-append, within-bytes}
+use Rattle.listed.proofs.Order.{due-first, due-second}
 use Rattle.palette.proofs.Judging.{legal-both, legal-each, byte-legal}
 use Rattle.palette.proofs.Outcome.{refuses-range, accepts, accepted, taken-on}
 use Rattle.palette.specs.Gradient.{Gradient, entries, fits, gradientFits, level, component, gradientStores, gradientAt, redBlue, redGreen, createGradient}
-use Rattle.palette.specs.Asked.{Step, Entry}
+use Rattle.palette.specs.Asked.{storesOf, Next, Step, Entry}
 
 -- ---- numbers
 
@@ -87,10 +88,12 @@ module _ (body : List ℕ) (at second base rows columns : ℕ) (x : base ≡ get
       → q ≡ applied (gradientStores (gradientAt body at second)) p
   stored-at p q e = rw (← x, ← y, ← z) e
 
-  pub room-at : gradientFits (gradientAt body at second) ≡ true → (i : ℕ) → i < 3 * (rows * columns) → (long : ℕ) → long ≡ 768 → 3 * base + i < long
-  room-at f i h long e =
-      let l = fits-is base (rows * columns) (fits-at ∙ f) (λ n. omega arith) in
-      omega arith
+  pub next-at : (made : ℕ) (p : List ℕ) → Next 11 body made (gradientStores (gradientAt body at second)) p
+      → Next 11 body made (bytes (3 * base) (component rows columns second) (3 * (rows * columns))) p
+  next-at made p d = rw (x, y, z) d
+
+  pub count-at : (made : ℕ) → made + 3 * (rows * columns) ≡ made + length (gradientStores (gradientAt body at second))
+  count-at made = rw (← x, ← y, ← z) (ap (λ (n : ℕ). made + n) (sym (bytes-length (3 * base) (component rows columns second) (3 * (rows * columns)))))
 
 -- component k of the entry in row i and column j
 pub entry-is : (rows columns second i j k : ℕ) → j < columns → k < 3
@@ -130,6 +133,13 @@ gradient-within g e =
     within-bytes 768 (3 * g .base) _ (3 * entries g)
     (λ i h. let l = fits-is (g .base) (entries g) e (λ z. omega arith) in omega arith)
 
+entries-most : (base n : ℕ) → fits base n ≡ true → n ≤ 256
+entries-most base zero e = zero-le
+entries-most base (suc n) e = omega (arith, fits-is base (suc n) e (λ z. omega arith))
+
+gradient-few : (g : Gradient) → gradientFits g ≡ true → length (gradientStores g) ≤ 768
+gradient-few g e = omega (arith, bytes-length (3 * g .base) (component (g .rows) (g .columns) (g .second)) (3 * entries g), entries-most (g .base) (entries g) e)
+
 -- ---- both gradients
 
 pub both-legal : (body : List ℕ) → legal (createGradient body .stores) ≡ true
@@ -158,6 +168,26 @@ pub both-stored : (body p m q : List ℕ) → m ≡ applied (gradientStores (red
     → q ≡ applied (createGradient body .stores) p
 both-stored body p m q x y =
     y ∙ ap (applied (gradientStores (redGreen body))) x ∙ sym (applied-append (gradientStores (redBlue body)) (gradientStores (redGreen body)) p)
+
+-- red and blue come first, then red and green
+module _ (body p : List ℕ) (l : length p ≡ 768) (a : gradientFits (redBlue body) ≡ true) (b : gradientFits (redGreen body) ≡ true) where
+  both-few : length (storesOf 11 body) ≤ 1536
+  unfolding storesOf
+  both-few =
+      omega (arith, length-append (gradientStores (redBlue body)) (gradientStores (redGreen body)), gradient-few (redBlue body) a, gradient-few (redGreen body) b)
+
+  pub red-blue-next : Next 11 body 0 (gradientStores (redBlue body)) p
+  unfolding storesOf
+  red-blue-next =
+      record { due = due-first (gradientStores (redBlue body)) (gradientStores (redGreen body)) p (rw l (gradient-within (redBlue body) a)); few = both-few }
+
+  pub red-green-next : (q : List ℕ) → q ≡ applied (gradientStores (redBlue body)) p → (made : ℕ) → made ≡ 0 + length (gradientStores (redBlue body))
+      → Next 11 body made (gradientStores (redGreen body)) q
+  unfolding storesOf
+  red-green-next q e made n =
+      let w = within-append 768 (gradientStores (redBlue body)) (gradientStores (redGreen body)) (gradient-within (redBlue body) a) (gradient-within (redGreen body) b) in
+      let z : made ≡ length (gradientStores (redBlue body)) = omega arith in
+      record { due = rw z (due-second (gradientStores (redBlue body)) (gradientStores (redGreen body)) p q (rw l w) e); few = both-few }
 
 -- each index is one of the palette's
 pub gradients-within : (body : List ℕ) → verdict (createGradient body) ≡ accept → Within 768 (createGradient body .stores)

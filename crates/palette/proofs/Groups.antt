@@ -6,12 +6,15 @@ use Prim.Native.Nat.{ℕ, zero, suc, _+_, _-_, _*_, _≤_, _<_, zero-le}
 use native.Mathlib.Omega.{arith}
 use native.Mathlib.Numerals.{add-one}
 use lib.ListN.{length, getD}
-use Rattle.palette.specs.Store.{applied, each, bytes, from, Within}
+use Rattle.listed.specs.Store.{Store, applied, each, bytes, from, Within}
 use Rattle.palette.specs.Update.{legal}
-use Rattle.palette.proofs.Lists.{bytes-add, from-add, within-each, within-bytes}
+use Rattle.listed.proofs.Lists.{each-few, bytes-add, bytes-length, from-add, within-each, within-bytes}
+use Rattle.listed.proofs.Making.{Making}
+use Rattle.listed.proofs.Order.{due-all}
 use Rattle.palette.proofs.Judging.{legal-append, legal-bytes}
 use Rattle.palette.specs.Mask.{bit, ones, groupEnd, groupAt, masked, groupStores, setPaletteCompressed}
-use Rattle.palette.specs.Asked.{Group}
+use Rattle.palette.specs.Asked.{storesOf, Next, Group}
+use Rattle.palette.proofs.Order.{next-turn, count-more}
 use Rattle.palette.proofs.Masks.{bit-most, ones-most, rising}
 
 -- ---- positions
@@ -92,10 +95,14 @@ group-legal body k at end w e =
     let n : end - (at + 1) ≡ 3 * ones (getD body at 0) 8 = omega (arith, end-is body at) in
     rw (n, w .found) (sym (masked-legal body _ _ (8 * k) 8))
 
+-- its stores, by the mask and the position that code has found
+pub group-is : (body : List ℕ) (k at mask : ℕ) → Walked body k at → mask ≡ getD body at 0 → each (masked body mask (at + 1) (8 * k)) 8 ≡ groupStores body k
+unfolding groupStores
+group-is body k at mask w m = rw (m, w .found)
+
 pub group-stored : (body : List ℕ) (k at mask : ℕ) → Walked body k at → mask ≡ getD body at 0
     → (p q : List ℕ) → q ≡ applied (each (masked body mask (at + 1) (8 * k)) 8) p → q ≡ applied (groupStores body k) p
-unfolding groupStores
-group-stored body k at mask w m p q e = rw (← w .found, ← m) e
+group-stored body k at mask w m p q e = e ∙ ap (λ (l : List Store). applied l p) (group-is body k at mask w m)
 
 -- ---- indices: each is one of the palette's, whatever the masks are
 
@@ -105,3 +112,25 @@ masks-within body =
     within-each 768 (groupStores body) 32
     (λ k h. within-each 768 _ 8
     (λ i l. let b = bit-most (getD body (groupAt body k) 0) i in within-bytes 768 (3 * (8 * k + i)) _ _ (λ j m. omega arith)))
+
+-- ---- the list
+
+groups-few : (body : List ℕ) → length (each (groupStores body) 32) ≤ 1536
+unfolding groupStores
+groups-few body =
+    let group : (k : ℕ) → length (groupStores body k) ≤ 24 =
+    λ k. each-few (masked body (getD body (groupAt body k) 0) (groupAt body k + 1) (8 * k)) 3 8
+    (λ i. omega (arith, bytes-length (3 * (8 * k + i)) (from body (groupAt body k + 1 + 3 * ones (getD body (groupAt body k) 0) i)) (3 * bit (getD body (groupAt body k) 0) i), bit-most (getD body (groupAt body k) 0) i)) in
+    omega (arith, each-few (groupStores body) 24 32 group)
+
+pub groups-next : (body p : List ℕ) → length p ≡ 768 → Next 13 body 0 (each (groupStores body) 32) p
+unfolding storesOf
+groups-next body p l = record { due = due-all _ p (rw l (masks-within body)); few = groups-few body }
+
+-- group k, with the count that code keeps
+module _ (body : List ℕ) (made k at mask : ℕ) (w : Walked body k at) (n : made ≡ 0 + length (each (groupStores body) k)) (m : mask ≡ getD body at 0) where
+  pub group-next : (p₀ : List ℕ) → length p₀ ≡ 768 → (p : List ℕ) → Making (groupStores body) p₀ 32 p k → k < 32 → Next 13 body made (each (masked body mask (at + 1) (8 * k)) 8) p
+  group-next p₀ l p g h = rw (group-is body k at mask w m) (next-turn 13 body 0 (groupStores body) 32 p₀ (groups-next body p₀ l) p k g h made n)
+
+  pub group-count : (r : ℕ) → r ≡ made + length (each (masked body mask (at + 1) (8 * k)) 8) → r ≡ 0 + length (each (groupStores body) (k + 1))
+  group-count r e = count-more (groupStores body) 0 k made (length (each (masked body mask (at + 1) (8 * k)) 8)) r n (ap length (group-is body k at mask w m)) e

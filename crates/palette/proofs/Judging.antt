@@ -7,9 +7,9 @@ use Prim.Native.Nat.{ℕ, zero, suc, _+_, _≤_, _<_, zero-le}
 use native.Mathlib.Omega.{arith}
 use borrow.Author.Tests.{lt-ltb, le-ltb}
 use lib.Dec.{ltb}
-use Rattle.palette.specs.Store.{Store, each, byte, bytes}
+use Rattle.listed.specs.Store.{Store, each, byte, bytes}
 use Rattle.palette.specs.Update.{legal}
-use Rattle.palette.proofs.Lists.{each-more, each-next}
+use Rattle.listed.proofs.Lists.{each-more, each-next}
 
 -- ---- joined lists
 

@@ -1,5 +1,4 @@
-pub mod Lists
-pub mod Making
+pub mod Order
 pub mod Again
 pub mod Judging
 pub mod Outcome

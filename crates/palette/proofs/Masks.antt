@@ -1,6 +1,6 @@
 -- The bits of a mask, and the loop over them that stores a group's entries: a law for its start, each turn and its end.
 -- Assumes nothing.
-use mathlib.Core.Path.{_≡_, sym}
+use mathlib.Core.Path.{_≡_, sym, ap, _∙_}
 use mathlib.Core.List.{List}
 use mathlib.Core.Logic.{⊎-elim}
 use Prim.Native.Nat.{ℕ, zero, suc, _+_, _*_, _/_, _%_, _^_, _≤_, _<_, zero-le}
@@ -8,10 +8,12 @@ use native.Mathlib.Omega.{arith}
 use native.Mathlib.Numerals.{add-one}
 use native.Mathlib.Nat.{le-refl, div-one, div-div-eq-div-mul, pow-suc, eq-or-lt-of-le, le-of-suc-le-suc}
 use lib.ListN.{length}
-use Rattle.palette.specs.Store.{applied, bytes, from}
-use Rattle.palette.proofs.Making.{Making, making-start, making-more, making-length}
+use Rattle.listed.specs.Store.{applied, each, bytes, from}
+use Rattle.listed.proofs.Lists.{bytes-length}
+use Rattle.listed.proofs.Making.{Making, making-start, making-more}
 use Rattle.palette.specs.Mask.{bit, ones, masked}
-use Rattle.palette.specs.Asked.{Group}
+use Rattle.palette.specs.Asked.{Next, Group}
+use Rattle.palette.proofs.Order.{next-turn, count-more}
 
 -- ---- bits
 
@@ -54,30 +56,45 @@ bit-is mask i bits e = rw e
 
 -- ---- the loop over the bits
 
--- entry i is next: its bit is the lowest of bits, and its bytes, if it has any, stand at position next
-pub record Masking (body p₀ : List ℕ) (mask at entry : ℕ) (p : List ℕ) (bits next i : ℕ) : Type 0 where
+-- entry i is next: its bit is the lowest of bits, and its bytes, if it has any, stand at position next. then: the stores made
+pub record Masking (body p₀ : List ℕ) (made entry mask at : ℕ) (p : List ℕ) (then bits next i : ℕ) : Type 0 where
   pub stored : Making (masked body mask at entry) p₀ 8 p i
+  pub counted : then ≡ made + length (each (masked body mask at entry) i)
   pub shifted : bits ≡ mask / 2 ^ i
   pub behind : next ≡ at + 3 * ones mask i
 
-pub masking-start : (body p : List ℕ) (mask at entry : ℕ) → Masking body p mask at entry p mask at 0
-unfolding ones
-masking-start body p mask at entry = record { stored = making-start _ p 8; shifted = bits-none mask; behind = omega arith }
+pub masking-start : (body p : List ℕ) (made entry mask at : ℕ) → Masking body p made entry mask at p made mask at 0
+unfolding ones each
+masking-start body p made entry mask at =
+    record { stored = making-start _ p 8; counted = omega arith; shifted = bits-none mask; behind = omega arith }
 
-module _ (body p₀ : List ℕ) (mask at entry : ℕ) (p : List ℕ) (bits next i : ℕ) (m : Masking body p₀ mask at entry p bits next i) (h : i < 8) where
+module _ (body p₀ : List ℕ) (made entry mask at : ℕ) (p : List ℕ) (then bits next i : ℕ) (m : Masking body p₀ made entry mask at p then bits next i) (h : i < 8) where
   own : bits % 2 ≡ bit mask i
   own = bit-is mask i bits (m .shifted)
 
-  pub masking-room : Group body p₀ mask at entry → (3 * (entry + i) + 3 * (bits % 2) ≤ length p) × (next + 3 * (bits % 2) ≤ length body)
-  masking-room g =
-      let l : i + 1 ≤ 8 = omega arith in
-      (omega (arith, making-length _ p₀ 8 p i (m .stored), g .room), omega (arith, own, m .behind, ones-more mask i, ones-below mask (i + 1) 8 l, g .there))
+  pub masking-next : Next 13 body made (each (masked body mask at entry) 8) p₀
+      → Next 13 body then (bytes (3 * (entry + i)) (from body next) (3 * (bits % 2))) p
+  masking-next d = rw (own, m .behind) (next-turn 13 body made (masked body mask at entry) 8 p₀ d p i (m .stored) h then (m .counted))
 
-  pub masking-more : (q : List ℕ) → q ≡ applied (bytes (3 * (entry + i)) (from body next) (3 * (bits % 2))) p
-      → Masking body p₀ mask at entry q (bits / 2) (next + 3 * (bits % 2)) (i + 1)
-  masking-more q e =
+  pub masking-there : Group body p₀ mask at entry → next + 3 * (bits % 2) ≤ length body
+  masking-there g =
+      let l : i + 1 ≤ 8 = omega arith in
+      omega (arith, own, m .behind, ones-more mask i, ones-below mask (i + 1) 8 l, g .there)
+
+  pub masking-more : (q : List ℕ) → q ≡ applied (bytes (3 * (entry + i)) (from body next) (3 * (bits % 2))) p → (r : ℕ) → r ≡ then + 3 * (bits % 2)
+      → Masking body p₀ made entry mask at q r (bits / 2) (next + 3 * (bits % 2)) (i + 1)
+  masking-more q e r c =
+      let n : 3 * (bits % 2) ≡ length (masked body mask at entry i) = ap (λ (x : ℕ). 3 * x) own ∙ sym (bytes-length (3 * (entry + i)) (from body (at + 3 * ones mask i)) (3 * bit mask i)) in
       record {
         stored = making-more _ p₀ 8 p i (m .stored) h q (rw (← own, ← m .behind) e);
+        counted = count-more (masked body mask at entry) made i then (3 * (bits % 2)) r (m .counted) n c;
         shifted = bits-more mask i bits (m .shifted);
         behind = omega (arith, own, m .behind, ones-more mask i);
       }
+
+-- behind the last bit
+pub masked-count : (body p₀ : List ℕ) (made entry mask at : ℕ) (p : List ℕ) (then bits next i : ℕ) → Masking body p₀ made entry mask at p then bits next i → 8 ≤ i
+    → then ≡ made + length (each (masked body mask at entry) 8)
+masked-count body p₀ made entry mask at p then bits next i m h =
+    let e : i ≡ 8 = omega (arith, m .stored .within) in
+    m .counted ∙ ap (λ (k : ℕ). made + length (each (masked body mask at entry) k)) e

@@ -11,11 +11,11 @@ use lib.ListN.{length}
 use Rattle.words.proofs.Tests.{first}
 use Rattle.refusal.specs.declared.Refusal.{Refusal}
 use Rattle.refusal.specs.Number.{Verdict, accept, refuse, refusal}
-use Rattle.palette.specs.Store.{applied}
+use Rattle.listed.specs.Store.{applied}
 use Rattle.palette.specs.declared.Updated.{Updated}
 use Rattle.palette.specs.declared.Updated.the-variants.{Taken, Refused}
 use Rattle.palette.specs.Update.{Update, legal, verdict, verdictFor, verdictOn, onAccept, paletteAfter, told}
-use Rattle.palette.proofs.Lists.{applied-length}
+use Rattle.listed.proofs.Lists.{applied-length}
 
 -- ---- the verdict, a law for each way out
 

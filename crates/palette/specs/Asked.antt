@@ -1,9 +1,28 @@
 -- What the functions below the opcodes ask of their callers.
 -- Assumes nothing.
+use mathlib.Core.Bool.{cond}
 use mathlib.Core.List.{List}
 use Prim.Native.Nat.{ℕ, _+_, _*_, _≤_, _<_}
+use lib.Dec.{eqb}
 use lib.ListN.{length}
-use Rattle.palette.specs.Mask.{ones}
+use Rattle.listed.specs.Store.{Store}
+use Rattle.listed.specs.Order.{Due}
+use Rattle.palette.specs.Gradient.{createGradient}
+use Rattle.palette.specs.Entries.{setPalette}
+use Rattle.palette.specs.Mask.{ones, setPaletteCompressed}
+
+-- ---- the order of stores
+
+-- the list of stores of a palette opcode, 0B, 0C or 0D
+unfoldable pub storesOf : ℕ → List ℕ → List Store
+storesOf opcode body = cond (eqb opcode 11) (createGradient body .stores) (cond (eqb opcode 12) (setPalette body .stores) (setPaletteCompressed body .stores))
+
+-- the first so many stores of the opcode's list are made, and those of a part come next. The longest list that is taken is 0B's, of two whole palettes
+pub record Next (opcode : ℕ) (body : List ℕ) (made : ℕ) (part : List Store) (palette : List ℕ) : Type 0 where
+  pub due : Due (storesOf opcode body) made part palette
+  pub few : length (storesOf opcode body) ≤ 1536
+
+-- ---- numbers
 
 -- step i of n, of a component that is a byte
 pub record Step (most i n : ℕ) : Type 0 where

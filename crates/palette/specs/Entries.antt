@@ -5,7 +5,7 @@ use Prim.Native.Nat.{ℕ, _+_, _*_}
 use lib.Dec.{eqb, leb}
 use lib.ListN.{length}
 use Rattle.words.specs.Word.{wordAt}
-use Rattle.palette.specs.Store.{bytes, from}
+use Rattle.listed.specs.Store.{bytes, from}
 use Rattle.palette.specs.Update.{Update}
 
 abbrev pub start : List ℕ → ℕ

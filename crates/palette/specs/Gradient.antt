@@ -6,7 +6,7 @@ use mathlib.Core.List.{List, _++_}
 use Prim.Native.Nat.{ℕ, _+_, _-_, _*_, _/_, _%_}
 use lib.Dec.{eqb, ltb, leb}
 use lib.ListN.{length, getD}
-use Rattle.palette.specs.Store.{Store, bytes}
+use Rattle.listed.specs.Store.{Store, bytes}
 use Rattle.palette.specs.Update.{Update}
 
 -- second: which component is the second colour, 1 green, 2 blue; red is 0

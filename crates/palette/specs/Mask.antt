@@ -5,7 +5,7 @@ use mathlib.Core.List.{List}
 use Prim.Native.Nat.{ℕ, zero, suc, _+_, _*_, _/_, _%_, _^_}
 use lib.Dec.{eqb}
 use lib.ListN.{length, getD}
-use Rattle.palette.specs.Store.{Store, each, bytes, from}
+use Rattle.listed.specs.Store.{Store, each, bytes, from}
 use Rattle.palette.specs.Update.{Update}
 
 -- bit i of a mask; bit 0 is the lowest

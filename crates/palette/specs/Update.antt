@@ -1,4 +1,6 @@
 -- What the body of an opcode comes to: the verdict, in document 01's order 8, 5, 7, and the palette that is left. All tests come before all stores.
+-- The palette is 768 bytes, 3 an entry: red, green and blue of entry e stand at 3·e, 3·e + 1 and 3·e + 2, so bytes side by side go entry by entry,
+-- red, green, blue.
 -- Assumes nothing.
 use mathlib.Core.Bool.{Bool, true, false, cond}
 use mathlib.Core.List.{List, [], _∷_}
@@ -6,7 +8,7 @@ use Prim.Native.Nat.{ℕ}
 use lib.Dec.{eqb, ltb}
 use lib.ListN.{length}
 use Rattle.refusal.specs.Number.{Verdict, accept, refuse, refusal}
-use Rattle.palette.specs.Store.{Store, applied}
+use Rattle.listed.specs.Store.{Store, applied}
 use Rattle.palette.specs.declared.Updated.{Updated}
 use Rattle.palette.specs.declared.Updated.the-variants.{Taken, Refused}
 

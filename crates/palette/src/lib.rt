@@ -4,15 +4,14 @@ use words::byte_at;
 use words::wide;
 use words::word_at;
 ghost use mathlib.Core.Path.{_≡_};
-ghost use mathlib.Core.Bool.{true};
 ghost use Prim.Native.Nat.{_+_, _*_, _≤_, _<_};
 ghost use lib.ListN.{length, getD, set};
-ghost use Rattle.palette.specs.Store.{applied, each, bytes, from};
+ghost use Rattle.listed.specs.Store.{applied, one, each, bytes, from};
 ghost use Rattle.palette.specs.Update.{told, legal, verdictFor, verdictOn, paletteAfter};
-ghost use Rattle.palette.specs.Gradient.{gradientAt, gradientStores, fits, gradientFits, level, component, createGradient};
+ghost use Rattle.palette.specs.Gradient.{gradientAt, gradientStores, fits, level, component, createGradient};
 ghost use Rattle.palette.specs.Entries.{setPalette};
 ghost use Rattle.palette.specs.Mask.{ones, groupEnd, groupAt, masked, groupStores, setPaletteCompressed};
-ghost use Rattle.palette.specs.Asked.{Step, Entry, Group};
+ghost use Rattle.palette.specs.Asked.{Next, Step, Entry, Group};
 
 // What becomes of a palette opcode.
 pub enum Updated {
@@ -20,24 +19,36 @@ pub enum Updated {
     Refused(Refusal),
 }
 
-// The one store of a byte: every other function stores through it.
-fn put(palette: &mut [u8], index: usize, value: u8)
-    requires { ⌜ index < length (now palette) ⌝ }
+// The one store of a byte: every other function stores through it. It asks that the byte is the next of the opcode's list, so
+// that stores in another order are not provable; here and below opcode, body and made, the stores made before, name that place.
+fn put(palette: &mut [u8], opcode: usize, body: &[u8], made: usize, index: usize, value: u8)
+    requires { ⌜ Next opcode (now body) made (one index value) (now palette) ⌝ }
     ensures { λ _. ⌜ now (palette .exit) ≡ set (now (palette .entry)) index value ⌝ }
 {
     palette[index] = value;
 }
 
-// n bytes of a body from at on, stored from index first on.
-fn put_bytes(palette: &mut [u8], first: usize, body: &[u8], at: usize, n: usize)
-    requires { ⌜ (first + n ≤ length (now palette)) × (at + n ≤ length (now body)) ⌝ }
+// n bytes of a body from at on, stored from index first on; the stores made then.
+fn put_bytes(
+    palette: &mut [u8],
+    opcode: usize,
+    body: &[u8],
+    made: usize,
+    first: usize,
+    at: usize,
+    n: usize,
+) -> usize
+    requires { ⌜ Next opcode (now body) made (bytes first (from (now body) at) n) (now palette) ⌝ }
+    requires { ⌜ at + n ≤ length (now body) ⌝ }
+    ensures { λ r. ⌜ r ≡ made + n ⌝ }
     ensures { λ _. ⌜ now (palette .exit) ≡ applied (bytes first (from (now (body .entry)) at) n) (now (palette .entry)) ⌝ }
 {
     let mut i = 0;
     while i < n {
-        put(palette, first + i, body[at + i]);
+        put(palette, opcode, body, made + i, first + i, body[at + i]);
         i += 1;
     }
+    made + n
 }
 
 // Whether n bytes of a body from at on are components, wherever they are stored.
@@ -111,9 +122,11 @@ fn component_of(rows: usize, columns: usize, second: usize, i: usize) -> u8
     0
 }
 
-// The stores of the gradient of three bytes from at on.
-fn put_gradient(palette: &mut [u8], body: &[u8], at: usize, second: usize)
-    requires { ⌜ (at ≤ 3) × (length (now palette) ≡ 768) × (gradientFits (gradientAt (now body) at second) ≡ true) ⌝ }
+// The stores of the gradient of three bytes from at on; the stores made then.
+fn put_gradient(palette: &mut [u8], body: &[u8], made: usize, at: usize, second: usize) -> usize
+    requires { ⌜ Next 11 (now body) made (gradientStores (gradientAt (now body) at second)) (now palette) ⌝ }
+    requires { ⌜ at ≤ 3 ⌝ }
+    ensures { λ r. ⌜ r ≡ made + length (gradientStores (gradientAt (now (body .entry)) at second)) ⌝ }
     ensures { λ _. ⌜ now (palette .exit) ≡ applied (gradientStores (gradientAt (now (body .entry)) at second)) (now (palette .entry)) ⌝ }
 {
     let base = number_at(body, at);
@@ -124,11 +137,15 @@ fn put_gradient(palette: &mut [u8], body: &[u8], at: usize, second: usize)
     while i < n {
         put(
             palette,
+            11,
+            body,
+            made + i,
             3 * base + i,
             component_of(rows, columns, second, i),
         );
         i += 1;
     }
+    made + n
 }
 
 // Whether opcode 0B is taken, for a palette of n bytes: both gradients are tested.
@@ -156,8 +173,8 @@ pub fn create_gradient(body: &[u8], palette: &mut [u8]) -> Updated
 {
     match judge_gradient(body, palette.len()) {
         Updated::Taken => {
-            put_gradient(palette, body, 0, 2);
-            put_gradient(palette, body, 3, 1);
+            let made = put_gradient(palette, body, 0, 0, 2);
+            put_gradient(palette, body, made, 3, 1);
             Updated::Taken
         }
         Updated::Refused(r) => Updated::Refused(r),
@@ -194,7 +211,7 @@ pub fn set_palette(body: &[u8], palette: &mut [u8]) -> Updated
         Updated::Taken => {
             let start = word_at(body, 0);
             let count = word_at(body, 2);
-            put_bytes(palette, 3 * start, body, 4, 3 * count);
+            put_bytes(palette, 12, body, 0, 3 * start, 4, 3 * count);
             Updated::Taken
         }
         Updated::Refused(r) => Updated::Refused(r),
@@ -250,21 +267,32 @@ fn are_group_components(body: &[u8]) -> bool
     true
 }
 
-// The stores of one group: the entries whose bits in the mask are one, lowest bit first.
-fn put_group(palette: &mut [u8], entry: usize, mask: usize, body: &[u8], at: usize)
+// The stores of one group: the entries whose bits in the mask are one, lowest bit first; the stores made then.
+fn put_group(
+    palette: &mut [u8],
+    body: &[u8],
+    made: usize,
+    entry: usize,
+    mask: usize,
+    at: usize,
+) -> usize
+    requires { ⌜ Next 13 (now body) made (each (masked (now body) mask at entry) 8) (now palette) ⌝ }
     requires { ⌜ Group (now body) (now palette) mask at entry ⌝ }
+    ensures { λ r. ⌜ r ≡ made + length (each (masked (now (body .entry)) mask at entry) 8) ⌝ }
     ensures { λ _. ⌜ now (palette .exit) ≡ applied (each (masked (now (body .entry)) mask at entry) 8) (now (palette .entry)) ⌝ }
 {
+    let mut then = made;
     let mut bits = mask;
     let mut next = at;
     let mut i = 0;
     while i < 8 {
         let n = 3 * (bits % 2);
-        put_bytes(palette, 3 * (entry + i), body, next, n);
+        then = put_bytes(palette, 13, body, then, 3 * (entry + i), next, n);
         next += n;
         bits /= 2;
         i += 1;
     }
+    then
 }
 
 // The stores of all groups in order.
@@ -272,10 +300,11 @@ fn put_groups(palette: &mut [u8], body: &[u8])
     requires { ⌜ (groupAt (now body) 32 ≡ length (now body)) × (length (now palette) ≡ 768) ⌝ }
     ensures { λ _. ⌜ now (palette .exit) ≡ applied (each (groupStores (now (body .entry))) 32) (now (palette .entry)) ⌝ }
 {
+    let mut made = 0;
     let mut at = 0;
     let mut k = 0;
     while k < 32 {
-        put_group(palette, 8 * k, number_at(body, at), body, at + 1);
+        made = put_group(palette, body, made, 8 * k, number_at(body, at), at + 1);
         at = group_end(body, at);
         k += 1;
     }

@@ -3,17 +3,19 @@
 use mathlib.Core.Path.{_≡_, refl, ap, subst, _∙_}
 use mathlib.Core.List.{List}
 use Prim.Native.Nat.{ℕ, zero, suc, _+_, _*_, _/_, _%_, _≤_, _<_}
-use native.Mathlib.Nat.{zero-add, mul-le-mul-right}
 use native.Mathlib.Omega.{arith}
 use lib.ListN.{length, getD}
+use Rattle.block.specs.declared.Source.the-variants.{Data}
 use Rattle.block.specs.Block.{Side, one, two, four, eight, pixels, cellSource, ditherSource}
 use Rattle.block.specs.Asked.{Sided}
 use Rattle.motion.specs.Motion.{rasterIndex}
-use Rattle.stores.specs.Stores.{firstPixels}
-use Rattle.paint.specs.Paint.{single, fixedValue}
-use Rattle.paint.proofs.Painting.{Painting, painting-start, painting-length}
-use Rattle.rows.specs.Row.{beside, stacked, colours, inTurn, Band}
-use Rattle.rows.proofs.Rows.{Rows, painting-by, row-below, row-target, rows-beside}
+use Rattle.stores.specs.Stores.{further}
+use Rattle.stores.specs.Loop.{Begun}
+use Rattle.paint.specs.Value.{planOf}
+use Rattle.paint.specs.Asked.{Square}
+use Rattle.paint.proofs.Painting.{Painting, painting-start, painting-by, painting-length, painting-begun}
+use Rattle.rows.specs.Row.{colours, Sources, Beside, Band}
+use Rattle.rows.proofs.Rows.{row-below, row-low, square-kept, data-beside}
 
 -- ---- a row
 
@@ -23,11 +25,6 @@ raw-source i = omega arith
 
 pub last-of-four : (a b c d k : ℕ) → k < 4 → 3 ≤ k → d ≡ getD (colours a b c d) k 0
 last-of-four a b c d k h l = let e : k ≡ 3 = omega arith in rw e
-
-pub turn-value : (a b c d step j v : ℕ) (l : List ℕ) → v ≡ getD (colours a b c d) (j / step % 4) 0
-    → v ≡ fixedValue (inTurn step) (colours a b c d) (0 + j) l
-unfolding fixedValue inTurn
-turn-value a b c d step j v l e = rw (zero-add j) e
 
 -- four colours that are f 0 to f 3
 colour-is : (f : ℕ → ℕ) (a b c d : ℕ) → a ≡ f 0 → b ≡ f 1 → c ≡ f 2 → d ≡ f 3 → (k : ℕ) → k < 4 → getD (colours a b c d) k 0 ≡ f k
@@ -101,44 +98,48 @@ pub record Read (side p : ℕ) (s : List ℕ) (a b c d : ℕ) : Type 0 where
   pub fourth : d ≡ getD s (cellSource side (p + 6)) 0
 
 band-value : {side p : ℕ} (z : Band side p) (s : List ℕ) (a b c d : ℕ) → Read side p s a b c d
-    → (r i : ℕ) → r % 8 ≡ 0 → r < 8 * side → i < 8 → (k : List ℕ)
-    → fixedValue (inTurn 2) (colours a b c d) (0 + i) k ≡ fixedValue (cellSource side) s (p + (r + i)) k
-unfolding fixedValue inTurn
-band-value {side} {p} z s a b c d q r i even l h k =
+    → (r i : ℕ) → r % 8 ≡ 0 → r < 8 * side → i < 8 → getD (colours a b c d) (i / 2 % 4) 0 ≡ getD s (cellSource side ((p + r) + i)) 0
+band-value {side} {p} z s a b c d q r i even l h =
     let e : p ≡ p + 0 * 2 = omega arith in
-    rw (zero-add i)
-    (colour-is (λ (n : ℕ). getD s (cellSource side (p + n * 2)) 0) a b c d (q .first ∙ ap (λ (n : ℕ). getD s (cellSource side n) 0) e) (q .second) (q .third) (q .fourth) (i / 2 % 4) (omega arith)
-    ∙ ap (λ (n : ℕ). getD s n 0) (band-cell z r i even l h))
+    let f : p + (r + i) ≡ (p + r) + i = omega arith in
+    colour-is (λ (n : ℕ). getD s (cellSource side (p + n * 2)) 0) a b c d (q .first ∙ ap (λ (n : ℕ). getD s (cellSource side n) 0) e) (q .second) (q .third) (q .fourth) (i / 2 % 4) (omega arith)
+    ∙ ap (λ (n : ℕ). getD s n 0) (band-cell z r i even l h ∙ ap (cellSource side) f)
 
 -- the loop over the rows of a band: after each the picture is as the band's pixels up to there leave it
-pub record Banded (w to side : ℕ) (s : List ℕ) (p : ℕ) (b₀ b : List ℕ) (at r : ℕ) : Type 0 where
+pub record Banded (code : ℕ) (s front : List ℕ) (w x y p side : ℕ) (b₀ b : List ℕ) (at r : ℕ) : Type 0 where
   pub even : r % 8 ≡ 0
-  pub place : at ≡ rasterIndex w to 0 r
-  pub painting : Painting (stacked w to p (fixedValue (cellSource side) s)) b₀ (8 * side) b r
+  pub place : at ≡ rasterIndex w x y (p + r)
+  pub painting : Painting (planOf code s front w x y) p b₀ (8 * side) b r
 
-pub banded-start : (w to side : ℕ) (s : List ℕ) (p : ℕ) (b : List ℕ) → Banded w to side s p b b to 0
-unfolding rasterIndex
-banded-start w to side s p b = record { even = refl; place = omega arith; painting = painting-start _ _ _ }
+pub banded-start : (code : ℕ) (s front : List ℕ) (w x y p side : ℕ) (b : List ℕ) (to : ℕ) → to ≡ rasterIndex w x y p
+    → Banded code s front w x y p side b b to 0
+banded-start code s front w x y p side b to e =
+    let z : p ≡ p + 0 = omega arith in
+    record { even = refl; place = e ∙ ap (rasterIndex w x y) z; painting = painting-start _ _ _ _ }
 
-module _ (w to side : ℕ) (s : List ℕ) (p : ℕ) (b₀ b : List ℕ) (at r : ℕ) (g : Banded w to side s p b₀ b at r) (l : r < 8 * side) where
-  pub banded-below : at + w ≤ to + side * w
-  unfolding rasterIndex
-  banded-below =
-      let a : r / 8 + 1 ≤ side = omega arith in
-      omega (arith, g .place, g .even, mul-le-mul-right w a)
+module _ {code : ℕ} {s front : List ℕ} {w x y p side : ℕ} {b₀ b : List ℕ} {at r : ℕ} (g : Banded code s front w x y p side b₀ b at r)
+    (z : Band side p) (q : Square w x y (length b₀)) (l : r < 8 * side) where
+  pub banded-small : p + r < 64
+  banded-small = omega (arith, band-room z .room)
 
-  pub banded-inside : to + side * w + 8 ≤ length b₀ + w → at + 8 ≤ length b
-  banded-inside h = omega (arith, banded-below, painting-length _ b₀ (8 * side) b r (g .painting))
+  pub banded-low : at + w ≤ 320000
+  banded-low = row-low w x y (p + r) at (g .place) q banded-small
 
-  pub banded-more : Band side p → (a₁ a₂ a₃ a₄ : ℕ) → Read side p s a₁ a₂ a₃ a₄ → (b′ : List ℕ)
-      → b′ ≡ firstPixels (beside at 0 (fixedValue (inTurn 2) (colours a₁ a₂ a₃ a₄))) 0 b 8 → Banded w to side s p b₀ b′ (at + w) (r + 8)
-  banded-more z a₁ a₂ a₃ a₄ q b′ f =
+  -- a row asks, as the block does
+  pub banded-beside : Sources code s w x y (λ i. Data (cellSource side i)) → Begun (planOf code s front w x y) 0 p b₀ → {u₁ u₂ u₃ u₄ : ℕ} → Read side p s u₁ u₂ u₃ u₄
+      → Beside (planOf code s front w x y) (p + r) 8 b at (λ i. getD (colours u₁ u₂ u₃ u₄) (i / 2 % 4) 0)
+  banded-beside k o {u₁} {u₂} {u₃} {u₄} c =
+      data-beside front k (omega (arith, band-room z .row, g .even)) banded-small (g .place)
+      (square-kept q (painting-length _ _ _ _ _ _ (g .painting))) (painting-begun _ _ _ _ _ _ (g .painting) o)
+      (λ i. getD (colours u₁ u₂ u₃ u₄) (i / 2 % 4) 0) (λ i h. band-value z s u₁ u₂ u₃ u₄ c r i (g .even) l h)
+
+  pub banded-more : {b′ : List ℕ} → b′ ≡ further (planOf code s front w x y) 0 b (p + r) 8 → Banded code s front w x y p side b₀ b′ (at + w) (r + 8)
+  banded-more {b′} e =
+      let f : (p + r) + 8 ≡ p + (r + 8) = omega arith in
       record {
         even = omega (arith, g .even);
-        place = row-below w to 0 r at (g .place);
-        painting = painting-by _ b₀ (8 * side) b r (g .painting) 8 (omega (arith, g .even)) (beside at 0 (fixedValue (inTurn 2) (colours a₁ a₂ a₃ a₄)))
-            (λ i h. row-target w to 0 r at (g .even) (g .place) i (r + i) h refl)
-            (λ i h k. band-value z s a₁ a₂ a₃ a₄ q r i (g .even) l h k) b′ f;
+        place = row-below w x y (p + r) at (g .place) ∙ ap (rasterIndex w x y) f;
+        painting = painting-by _ _ _ _ _ _ (g .painting) 8 (omega (arith, g .even)) b′ e;
       }
 
 -- ---- code F
@@ -161,22 +162,15 @@ turned-next s p a b t =
 turned-pair : (n i : ℕ) → (n + i / 1 % 4) % 2 ≡ (n + i) % 2
 turned-pair n i = omega arith
 
-turned-value : (s : List ℕ) (p a b : ℕ) → Turned s p a b → p % 8 ≡ 0 → (i : ℕ) → i < 8 → (k : List ℕ)
-    → fixedValue (inTurn 1) (colours a b a b) (0 + i) k ≡ fixedValue ditherSource s (p + i) k
-unfolding fixedValue inTurn ditherSource
-turned-value s p a b t even i h k =
+-- the row of pixel p
+pub turned-value : {s : List ℕ} {p a b : ℕ} → Turned s p a b → p % 8 ≡ 0 → (i : ℕ) → i < 8
+    → getD (colours a b a b) (i / 1 % 4) 0 ≡ getD s (ditherSource (p + i)) 0
+unfolding ditherSource
+turned-value {s} {p} {a} {b} t even i h =
     let d : (p / 8 + 0) % 2 ≡ p / 8 % 2 = omega arith in
     let e : (p / 8 + 2) % 2 ≡ p / 8 % 2 = omega arith in
     let f : (p / 8 + 3) % 2 ≡ (p / 8 + 1) % 2 = omega arith in
     let g : (p + i) / 8 ≡ p / 8 = omega (arith, even) in
     let j : (p + i) % 8 ≡ i = omega (arith, even) in
-    rw (zero-add i)
-    (colour-is (λ (n : ℕ). getD s ((p / 8 + n) % 2) 0) a b a b (rw d (t .first)) (t .second) (rw e (t .first)) (rw f (t .second)) (i / 1 % 4) (omega arith)
-    ∙ rw (g, j, turned-pair (p / 8) i))
-
-pub rows-turned : (w x y : ℕ) (s b₀ b : List ℕ) (p u v : ℕ) → Rows (single (rasterIndex w x y) (fixedValue ditherSource s)) b₀ b p → Turned s p u v
-    → p < 64 → (to : ℕ) → to ≡ rasterIndex w x y p → (b′ : List ℕ)
-    → b′ ≡ firstPixels (beside to 0 (fixedValue (inTurn 1) (colours u v u v))) 0 b 8
-    → Rows (single (rasterIndex w x y) (fixedValue ditherSource s)) b₀ b′ (p + 8)
-rows-turned w x y s b₀ b p u v r t h to e b′ f =
-    rows-beside w x y (fixedValue ditherSource s) b₀ b p r h to 0 e (fixedValue (inTurn 1) (colours u v u v)) (turned-value s p u v t (r .whole)) b′ f
+    colour-is (λ (n : ℕ). getD s ((p / 8 + n) % 2) 0) a b a b (rw d (t .first)) (t .second) (rw e (t .first)) (rw f (t .second)) (i / 1 % 4) (omega arith)
+    ∙ rw (g, j, turned-pair (p / 8) i)

@@ -1,34 +1,33 @@
--- Rows of a block: the plans by which they are stored, and what their functions ask.
+-- Rows of a block, and what the functions that store them ask.
 -- Assumes nothing.
 use mathlib.Core.Path.{_≡_}
 use mathlib.Core.List.{List, [], _∷_}
-use Prim.Native.Nat.{ℕ, _+_, _-_, _*_, _/_, _%_, _≤_, _<_}
+use Prim.Native.Nat.{ℕ, _+_, _-_, _*_, _%_, _≤_, _<_}
+use lib.ListN.{length}
+use Rattle.block.specs.declared.Source.{Source}
+use Rattle.block.specs.Block.{kindOf, source}
 use Rattle.block.specs.Asked.{Sided}
-use Rattle.motion.specs.Motion.{rasterIndex}
-use Rattle.stores.specs.Stores.{Plan}
-
--- the value of pixel i is element i
-abbrev pub here : ℕ → ℕ
-here i = i
-
--- values from pixel p on, stored side by side from index to on
-abbrev pub beside : ℕ → ℕ → (ℕ → List ℕ → ℕ) → Plan
-beside to p value = record { blocks = 1; size = λ k. 8; target = λ k i. to + i; value = λ k i b. value (p + i) b }
-
--- the same in rows of eight, each w indices behind the one above: the 8x8 at to, 0 of a picture w wide
-abbrev pub stacked : ℕ → ℕ → ℕ → (ℕ → List ℕ → ℕ) → Plan
-stacked w to p value = record { blocks = 1; size = λ k. 64; target = λ k i. rasterIndex w to 0 i; value = λ k i b. value (p + i) b }
-
--- the eight values of a row
-abbrev pub rowOf : ℕ → ℕ → ℕ → ℕ → ℕ → ℕ → ℕ → ℕ → List ℕ
-rowOf a b c d e f g h = a ∷ b ∷ c ∷ d ∷ e ∷ f ∷ g ∷ h ∷ []
+use Rattle.stores.specs.Stores.{Plan, further}
+use Rattle.stores.specs.Loop.{Begun}
+use Rattle.paint.specs.Value.{pixelCount}
 
 abbrev pub colours : ℕ → ℕ → ℕ → ℕ → List ℕ
 colours a b c d = a ∷ b ∷ c ∷ d ∷ []
 
--- pixel i of a row of four colours in turn, each for step pixels
-unfoldable pub inTurn : ℕ → ℕ → ℕ
-inTurn step i = i / step % 4
+-- a block of 64 pixels, of which pixel i is what stands at from i
+pub record Sources (code : ℕ) (s : List ℕ) (w x y : ℕ) (from : ℕ → Source) : Type 0 where
+  pub all : 64 ≤ pixelCount (kindOf code s)
+  pub each : (i : ℕ) → i < 64 → from i ≡ source (kindOf code s) s w x y i
+
+-- The next n pixels of a block are those from pixel p on, stored side by side from index to on. They become value 0, value 1 and so on.
+pub record Beside (d : Plan) (p n : ℕ) (b : List ℕ) (to : ℕ) (value : ℕ → ℕ) : Type 0 where
+  -- the pixels before them stand
+  pub begun : Begun d 0 p b
+  pub listed : p + n ≤ d .size 0
+  pub targets : (i : ℕ) → i < n → to + i ≡ d .target 0 (p + i)
+  -- each as the stores before it leave the picture
+  pub values : (i : ℕ) → i < n → value i ≡ d .value 0 (p + i) (further d 0 b p i)
+  pub inside : to + n ≤ length b
 
 -- the indices differ by eight or more, so that the eight elements from the one on and the eight from the other on have none in common
 abbrev pub Disjoint : ℕ → ℕ → Type 0

@@ -1,80 +1,146 @@
 // A whole block of each family, row by row: as quick as stores of one pixel allow. A row's index is that of the row above and the width: a sum, not a product.
+// Parameters that no code reads name the list of the block's stores, for the contracts. The compiler leaves them out.
 use block::cell_source;
 use motion::raster_index;
 use paint::put;
 use pattern::pattern_source;
 ghost use mathlib.Core.Path.{_≡_};
-ghost use Prim.Native.Nat.{_+_, _*_, _/_, _≤_, _<_};
+ghost use mathlib.Core.List.{_++_};
+ghost use Prim.Native.Nat.{_+_, _*_, _/_, _%_, _≤_, _<_};
 ghost use lib.ListN.{length, getD};
 ghost use Rattle.pattern.specs.Form.{numbers};
 ghost use Rattle.pattern.specs.Pattern.{Shaped, patternLength, patternSource};
 ghost use Rattle.motion.specs.Motion.{rasterIndex};
+ghost use Rattle.block.specs.declared.Source.the-variants.{Data, Front, Back};
 ghost use Rattle.block.specs.Block.{cellSource, ditherSource};
 ghost use Rattle.block.specs.Asked.{Sided};
-ghost use Rattle.stores.specs.Stores.{firstPixels};
-ghost use Rattle.paint.specs.Paint.{single, fixedValue, backValue};
+ghost use Rattle.stores.specs.Stores.{firstPixels, further};
+ghost use Rattle.stores.specs.Loop.{Begun};
+ghost use Rattle.paint.specs.Value.{planOf};
 ghost use Rattle.paint.specs.Asked.{Square};
-ghost use Rattle.rows.specs.Row.{here, rowOf, beside, stacked, colours, inTurn, Disjoint, Band};
+ghost use Rattle.rows.specs.Row.{colours, Sources, Beside, Disjoint, Band};
 
-// Eight pixels side by side from index to on. Nothing is read between the stores, so that the compiler may join them.
-fn put_eight(back: &mut [u8], to: usize, a: u8, b: u8, c: u8, d: u8, e: u8, f: u8, g: u8, h: u8)
-    requires { ⌜ to + 8 ≤ length (now back) ⌝ }
-    ensures { λ _. ⌜ now (back .exit) ≡ firstPixels (beside to 0 (fixedValue here (rowOf a b c d e f g h))) 0 (now (back .entry)) 8 ⌝ }
+// Four pixels side by side, from pixel p on.
+fn put_four(
+    code: u8,
+    s: &[u8],
+    front: &[u8],
+    back: &mut [u8],
+    w: usize,
+    x: usize,
+    y: usize,
+    p: usize,
+    to: usize,
+    a: u8,
+    b: u8,
+    c: u8,
+    d: u8,
+)
+    requires { ⌜ Beside (planOf code (now s) (now front) w x y) p 4 (now back) to (λ i. getD (colours a b c d) i 0) ⌝ }
+    ensures { λ _. ⌜ now (back .exit) ≡ further (planOf code (now (s .entry)) (now (front .entry)) w x y) 0 (now (back .entry)) p 4 ⌝ }
 {
-    put(back, to, a);
-    put(back, to + 1, b);
-    put(back, to + 2, c);
-    put(back, to + 3, d);
-    put(back, to + 4, e);
-    put(back, to + 5, f);
-    put(back, to + 6, g);
-    put(back, to + 7, h);
+    put(code, s, front, back, w, x, y, p, to, a);
+    put(code, s, front, back, w, x, y, p + 1, to + 1, b);
+    put(code, s, front, back, w, x, y, p + 2, to + 2, c);
+    put(code, s, front, back, w, x, y, p + 3, to + 3, d);
 }
 
-// Eight pixels side by side, those from index from on of s, stored from index to on.
-fn copied_row(s: &[u8], from: usize, back: &mut [u8], to: usize)
-    requires { ⌜ (from + 8 ≤ length (now s)) × (to + 8 ≤ length (now back)) ⌝ }
-    ensures { λ _. ⌜ now (back .exit) ≡ firstPixels (beside to from (fixedValue here (now (s .entry)))) 0 (now (back .entry)) 8 ⌝ }
+// Eight pixels side by side, from pixel p on. Nothing is read between the stores, so that the compiler may join them.
+fn put_eight(
+    code: u8,
+    s: &[u8],
+    front: &[u8],
+    back: &mut [u8],
+    w: usize,
+    x: usize,
+    y: usize,
+    p: usize,
+    to: usize,
+    a: u8,
+    b: u8,
+    c: u8,
+    d: u8,
+    e: u8,
+    f: u8,
+    g: u8,
+    h: u8,
+)
+    requires { ⌜ Beside (planOf code (now s) (now front) w x y) p 8 (now back) to (λ i. getD (colours a b c d ++ colours e f g h) i 0) ⌝ }
+    ensures { λ _. ⌜ now (back .exit) ≡ further (planOf code (now (s .entry)) (now (front .entry)) w x y) 0 (now (back .entry)) p 8 ⌝ }
 {
-    let a = s[from];
-    let b = s[from + 1];
-    let c = s[from + 2];
-    let d = s[from + 3];
-    let e = s[from + 4];
-    let f = s[from + 5];
-    let g = s[from + 6];
-    let h = s[from + 7];
-    put_eight(back, to, a, b, c, d, e, f, g, h);
+    put_four(code, s, front, back, w, x, y, p, to, a, b, c, d);
+    put_four(code, s, front, back, w, x, y, p + 4, to + 4, e, f, g, h);
+}
+
+// Eight pixels side by side, from pixel p on: those from index from on of t, which is front or the block's data.
+fn copied_row(
+    code: u8,
+    s: &[u8],
+    front: &[u8],
+    back: &mut [u8],
+    w: usize,
+    x: usize,
+    y: usize,
+    p: usize,
+    t: &[u8],
+    from: usize,
+    to: usize,
+)
+    requires { ⌜ (from + 8 ≤ length (now t)) × Beside (planOf code (now s) (now front) w x y) p 8 (now back) to (λ i. getD (now t) (from + i) 0) ⌝ }
+    ensures { λ _. ⌜ now (back .exit) ≡ further (planOf code (now (s .entry)) (now (front .entry)) w x y) 0 (now (back .entry)) p 8 ⌝ }
+{
+    let a = t[from];
+    let b = t[from + 1];
+    let c = t[from + 2];
+    let d = t[from + 3];
+    let e = t[from + 4];
+    let f = t[from + 5];
+    let g = t[from + 6];
+    let h = t[from + 7];
+    put_eight(code, s, front, back, w, x, y, p, to, a, b, c, d, e, f, g, h);
 }
 
 // The 8x8 at x, y, copied from the one at sx, sy of front.
 pub fn whole_front(
+    code: u8,
+    s: &[u8],
     front: &[u8],
     back: &mut [u8],
     w: usize,
-    sx: usize,
-    sy: usize,
     x: usize,
     y: usize,
+    sx: usize,
+    sy: usize,
 )
-    requires { ⌜ Square w sx sy (length (now front)) × Square w x y (length (now back)) ⌝ }
-    ensures { λ _. ⌜ now (back .exit) ≡ firstPixels (single (rasterIndex w x y) (fixedValue (rasterIndex w sx sy) (now (front .entry)))) 0 (now (back .entry)) 64 ⌝ }
+    requires { ⌜ Sources code (now s) w x y (λ i. Front (rasterIndex w sx sy i)) × Square w sx sy (length (now front)) × Square w x y (length (now back)) ⌝ }
+    ensures { λ _. ⌜ now (back .exit) ≡ firstPixels (planOf code (now (s .entry)) (now (front .entry)) w x y) 0 (now (back .entry)) 64 ⌝ }
 {
     let mut from = raster_index(w, sx, sy, 0);
     let mut to = raster_index(w, x, y, 0);
     let mut p: usize = 0;
     while p < 64 {
-        copied_row(front, from, back, to);
+        copied_row(code, s, front, back, w, x, y, p, front, from, to);
         from += w;
         to += w;
         p += 8;
     }
 }
 
-// Eight pixels side by side from index to on, copied from those from index from on of back itself. No pixel is among both, so that all may be read before the first is stored.
-fn back_row(back: &mut [u8], from: usize, to: usize)
-    requires { ⌜ (from + 8 ≤ length (now back)) × (to + 8 ≤ length (now back)) × Disjoint from to ⌝ }
-    ensures { λ _. ⌜ now (back .exit) ≡ firstPixels (beside to from (backValue here)) 0 (now (back .entry)) 8 ⌝ }
+// Eight pixels side by side, from pixel p on: those from index from on of back itself. No store changes one that is still to be read, so that all may be read before the first store.
+fn back_row(
+    code: u8,
+    s: &[u8],
+    front: &[u8],
+    back: &mut [u8],
+    w: usize,
+    x: usize,
+    y: usize,
+    p: usize,
+    from: usize,
+    to: usize,
+)
+    requires { ⌜ (from + 8 ≤ length (now back)) × Beside (planOf code (now s) (now front) w x y) p 8 (now back) to (λ i. getD (now back) (from + i) 0) ⌝ }
+    ensures { λ _. ⌜ now (back .exit) ≡ further (planOf code (now (s .entry)) (now (front .entry)) w x y) 0 (now (back .entry)) p 8 ⌝ }
 {
     let a = back[from];
     let b = back[from + 1];
@@ -84,19 +150,29 @@ fn back_row(back: &mut [u8], from: usize, to: usize)
     let f = back[from + 5];
     let g = back[from + 6];
     let h = back[from + 7];
-    put_eight(back, to, a, b, c, d, e, f, g, h);
+    put_eight(code, s, front, back, w, x, y, p, to, a, b, c, d, e, f, g, h);
 }
 
 // The 8x8 at x, y, copied from the one at sx, sy of back itself: no row overlaps the one that it is copied from.
-pub fn whole_back(back: &mut [u8], w: usize, sx: usize, sy: usize, x: usize, y: usize)
-    requires { ⌜ Square w sx sy (length (now back)) × Square w x y (length (now back)) × Disjoint (rasterIndex w sx sy 0) (rasterIndex w x y 0) ⌝ }
-    ensures { λ _. ⌜ now (back .exit) ≡ firstPixels (single (rasterIndex w x y) (backValue (rasterIndex w sx sy))) 0 (now (back .entry)) 64 ⌝ }
+pub fn whole_back(
+    code: u8,
+    s: &[u8],
+    front: &[u8],
+    back: &mut [u8],
+    w: usize,
+    x: usize,
+    y: usize,
+    sx: usize,
+    sy: usize,
+)
+    requires { ⌜ Sources code (now s) w x y (λ i. Back (rasterIndex w sx sy i)) × Square w sx sy (length (now back)) × Square w x y (length (now back)) × Disjoint (rasterIndex w sx sy 0) (rasterIndex w x y 0) ⌝ }
+    ensures { λ _. ⌜ now (back .exit) ≡ firstPixels (planOf code (now (s .entry)) (now (front .entry)) w x y) 0 (now (back .entry)) 64 ⌝ }
 {
     let mut from = raster_index(w, sx, sy, 0);
     let mut to = raster_index(w, x, y, 0);
     let mut p: usize = 0;
     while p < 64 {
-        back_row(back, from, to);
+        back_row(code, s, front, back, w, x, y, p, from, to);
         from += w;
         to += w;
         p += 8;
@@ -104,14 +180,14 @@ pub fn whole_back(back: &mut [u8], w: usize, sx: usize, sy: usize, x: usize, y: 
 }
 
 // Code B: a byte of s for each pixel.
-pub fn whole_raw(s: &[u8], back: &mut [u8], w: usize, x: usize, y: usize)
-    requires { ⌜ (64 ≤ length (now s)) × Square w x y (length (now back)) ⌝ }
-    ensures { λ _. ⌜ now (back .exit) ≡ firstPixels (single (rasterIndex w x y) (fixedValue (cellSource 1) (now (s .entry)))) 0 (now (back .entry)) 64 ⌝ }
+pub fn whole_raw(code: u8, s: &[u8], front: &[u8], back: &mut [u8], w: usize, x: usize, y: usize)
+    requires { ⌜ Sources code (now s) w x y (λ i. Data (cellSource 1 i)) × (64 ≤ length (now s)) × Square w x y (length (now back)) ⌝ }
+    ensures { λ _. ⌜ now (back .exit) ≡ firstPixels (planOf code (now (s .entry)) (now (front .entry)) w x y) 0 (now (back .entry)) 64 ⌝ }
 {
     let mut to = raster_index(w, x, y, 0);
     let mut p = 0;
     while p < 64 {
-        copied_row(s, p, back, to);
+        copied_row(code, s, front, back, w, x, y, p, s, p, to);
         to += w;
         p += 8;
     }
@@ -130,14 +206,40 @@ fn of_four(a: u8, b: u8, c: u8, d: u8, k: usize) -> u8
     }
 }
 
-// Codes C to F: eight pixels side by side from index to on, of four colours in turn, each for step pixels. Nothing is read between the stores, so that the compiler may join them.
-fn colours_row(a: u8, b: u8, c: u8, d: u8, step: usize, back: &mut [u8], to: usize)
-    requires { ⌜ (0 < step) × (to + 8 ≤ length (now back)) ⌝ }
-    ensures { λ _. ⌜ now (back .exit) ≡ firstPixels (beside to 0 (fixedValue (inTurn step) (colours a b c d))) 0 (now (back .entry)) 8 ⌝ }
+// Codes C to F: eight pixels side by side, from pixel p on, of four colours in turn, each for step pixels. Nothing is read between the stores, so that the compiler may join them.
+fn colours_row(
+    code: u8,
+    s: &[u8],
+    front: &[u8],
+    back: &mut [u8],
+    w: usize,
+    x: usize,
+    y: usize,
+    p: usize,
+    a: u8,
+    b: u8,
+    c: u8,
+    d: u8,
+    step: usize,
+    to: usize,
+)
+    requires { ⌜ (0 < step) × Beside (planOf code (now s) (now front) w x y) p 8 (now back) to (λ i. getD (colours a b c d) (i / step % 4) 0) ⌝ }
+    ensures { λ _. ⌜ now (back .exit) ≡ further (planOf code (now (s .entry)) (now (front .entry)) w x y) 0 (now (back .entry)) p 8 ⌝ }
 {
     let mut j = 0;
     while j < 8 {
-        put(back, to + j, of_four(a, b, c, d, j / step % 4));
+        put(
+            code,
+            s,
+            front,
+            back,
+            w,
+            x,
+            y,
+            p + j,
+            to + j,
+            of_four(a, b, c, d, j / step % 4),
+        );
         j += 1;
     }
 }
@@ -150,10 +252,21 @@ fn cell_colour(side: usize, s: &[u8], i: usize) -> u8
     s[cell_source(side, i)]
 }
 
-// Codes C to E: the rows of pixels that a row of cells gives, from pixel p on, stored from index to on. Each of its colours is read once.
-fn cells_band(side: usize, s: &[u8], p: usize, back: &mut [u8], w: usize, to: usize)
-    requires { ⌜ Band side p × (8 / side * (8 / side) ≤ length (now s)) × (w ≤ 640) × (to + side * w + 8 ≤ length (now back) + w) ⌝ }
-    ensures { λ _. ⌜ now (back .exit) ≡ firstPixels (stacked w to p (fixedValue (cellSource side) (now (s .entry)))) 0 (now (back .entry)) (8 * side) ⌝ }
+// Codes C to E: the rows of pixels that a row of cells gives, from pixel p on. Each of its colours is read once.
+fn cells_band(
+    code: u8,
+    s: &[u8],
+    front: &[u8],
+    back: &mut [u8],
+    w: usize,
+    x: usize,
+    y: usize,
+    p: usize,
+    side: usize,
+    to: usize,
+)
+    requires { ⌜ Sources code (now s) w x y (λ i. Data (cellSource side i)) × Band side p × (8 / side * (8 / side) ≤ length (now s)) × Square w x y (length (now back)) × Begun (planOf code (now s) (now front) w x y) 0 p (now back) × (to ≡ rasterIndex w x y p) ⌝ }
+    ensures { λ _. ⌜ now (back .exit) ≡ further (planOf code (now (s .entry)) (now (front .entry)) w x y) 0 (now (back .entry)) p (8 * side) ⌝ }
 {
     let a = cell_colour(side, s, p);
     let b = cell_colour(side, s, p + 2);
@@ -162,37 +275,46 @@ fn cells_band(side: usize, s: &[u8], p: usize, back: &mut [u8], w: usize, to: us
     let mut at = to;
     let mut r = 0;
     while r < 8 * side {
-        colours_row(a, b, c, d, 2, back, at);
+        colours_row(code, s, front, back, w, x, y, p + r, a, b, c, d, 2, at);
         at += w;
         r += 8;
     }
 }
 
 // Codes C to E: a byte of s for each cell, side pixels wide and high.
-pub fn whole_cells(side: usize, s: &[u8], back: &mut [u8], w: usize, x: usize, y: usize)
-    requires { ⌜ Sided side × (1 < side) × (8 / side * (8 / side) ≤ length (now s)) × Square w x y (length (now back)) ⌝ }
-    ensures { λ _. ⌜ now (back .exit) ≡ firstPixels (single (rasterIndex w x y) (fixedValue (cellSource side) (now (s .entry)))) 0 (now (back .entry)) 64 ⌝ }
+pub fn whole_cells(
+    code: u8,
+    s: &[u8],
+    front: &[u8],
+    back: &mut [u8],
+    w: usize,
+    x: usize,
+    y: usize,
+    side: usize,
+)
+    requires { ⌜ Sources code (now s) w x y (λ i. Data (cellSource side i)) × Sided side × (1 < side) × (8 / side * (8 / side) ≤ length (now s)) × Square w x y (length (now back)) ⌝ }
+    ensures { λ _. ⌜ now (back .exit) ≡ firstPixels (planOf code (now (s .entry)) (now (front .entry)) w x y) 0 (now (back .entry)) 64 ⌝ }
 {
     let mut to = raster_index(w, x, y, 0);
     let mut p = 0;
     while p < 64 {
-        cells_band(side, s, p, back, w, to);
+        cells_band(code, s, front, back, w, x, y, p, side, to);
         to += side * w;
         p += 8 * side;
     }
 }
 
 // Code F: the two bytes of s in turn, each read once.
-pub fn whole_dither(s: &[u8], back: &mut [u8], w: usize, x: usize, y: usize)
-    requires { ⌜ (2 ≤ length (now s)) × Square w x y (length (now back)) ⌝ }
-    ensures { λ _. ⌜ now (back .exit) ≡ firstPixels (single (rasterIndex w x y) (fixedValue ditherSource (now (s .entry)))) 0 (now (back .entry)) 64 ⌝ }
+pub fn whole_dither(code: u8, s: &[u8], front: &[u8], back: &mut [u8], w: usize, x: usize, y: usize)
+    requires { ⌜ Sources code (now s) w x y (λ i. Data (ditherSource i)) × (2 ≤ length (now s)) × Square w x y (length (now back)) ⌝ }
+    ensures { λ _. ⌜ now (back .exit) ≡ firstPixels (planOf code (now (s .entry)) (now (front .entry)) w x y) 0 (now (back .entry)) 64 ⌝ }
 {
     let mut a = s[0];
     let mut b = s[1];
     let mut to = raster_index(w, x, y, 0);
     let mut p: usize = 0;
     while p < 64 {
-        colours_row(a, b, a, b, 1, back, to);
+        colours_row(code, s, front, back, w, x, y, p, a, b, a, b, 1, to);
         let c = a;
         a = b;
         b = c;
@@ -201,50 +323,72 @@ pub fn whole_dither(s: &[u8], back: &mut [u8], w: usize, x: usize, y: usize)
     }
 }
 
-// Codes 7 to A: eight pixels from pixel p on, side by side from index to on. The trip count is computed, from the width of a part, so that the loop is unrolled only once that is a constant.
+// Codes 7 to A: eight pixels side by side, from pixel p on. The trip count is computed, from the width of a part, so that the loop is unrolled only once that is a constant.
 fn pattern_row(
+    code: u8,
+    s: &[u8],
+    front: &[u8],
+    back: &mut [u8],
+    w: usize,
+    x: usize,
+    y: usize,
+    p: usize,
     bits: usize,
     across: usize,
     down: usize,
     wide: usize,
     high: usize,
-    s: &[u8],
-    p: usize,
-    back: &mut [u8],
     to: usize,
 )
-    requires { ⌜ Shaped (numbers bits across down wide high) × (patternLength (numbers bits across down wide high) ≤ length (now s)) × (p ≤ 56) × (to + 8 ≤ length (now back)) ⌝ }
-    ensures { λ _. ⌜ now (back .exit) ≡ firstPixels (beside to p (fixedValue (patternSource (numbers bits across down wide high) (now (s .entry))) (now (s .entry)))) 0 (now (back .entry)) 8 ⌝ }
+    requires { ⌜ Shaped (numbers bits across down wide high) × (patternLength (numbers bits across down wide high) ≤ length (now s)) × Beside (planOf code (now s) (now front) w x y) p 8 (now back) to (λ i. getD (now s) (patternSource (numbers bits across down wide high) (now s) (p + i)) 0) ⌝ }
+    ensures { λ _. ⌜ now (back .exit) ≡ further (planOf code (now (s .entry)) (now (front .entry)) w x y) 0 (now (back .entry)) p 8 ⌝ }
 {
     let m = across * (8 / across);
     let mut j = 0;
     while j < m {
         let v = s[pattern_source(bits, across, down, wide, high, s, p + j)];
-        put(back, to + j, v);
+        put(code, s, front, back, w, x, y, p + j, to + j, v);
         j += 1;
     }
 }
 
 // Codes 7 to A: the colours that the fields of s choose.
 pub fn whole_pattern(
+    code: u8,
+    s: &[u8],
+    front: &[u8],
+    back: &mut [u8],
+    w: usize,
+    x: usize,
+    y: usize,
     bits: usize,
     across: usize,
     down: usize,
     wide: usize,
     high: usize,
-    s: &[u8],
-    back: &mut [u8],
-    w: usize,
-    x: usize,
-    y: usize,
 )
-    requires { ⌜ Shaped (numbers bits across down wide high) × (patternLength (numbers bits across down wide high) ≤ length (now s)) × Square w x y (length (now back)) ⌝ }
-    ensures { λ _. ⌜ now (back .exit) ≡ firstPixels (single (rasterIndex w x y) (fixedValue (patternSource (numbers bits across down wide high) (now (s .entry))) (now (s .entry)))) 0 (now (back .entry)) 64 ⌝ }
+    requires { ⌜ Sources code (now s) w x y (λ i. Data (patternSource (numbers bits across down wide high) (now s) i)) × Shaped (numbers bits across down wide high) × (patternLength (numbers bits across down wide high) ≤ length (now s)) × Square w x y (length (now back)) ⌝ }
+    ensures { λ _. ⌜ now (back .exit) ≡ firstPixels (planOf code (now (s .entry)) (now (front .entry)) w x y) 0 (now (back .entry)) 64 ⌝ }
 {
     let mut to = raster_index(w, x, y, 0);
     let mut p = 0;
     while p < 64 {
-        pattern_row(bits, across, down, wide, high, s, p, back, to);
+        pattern_row(
+            code,
+            s,
+            front,
+            back,
+            w,
+            x,
+            y,
+            p,
+            bits,
+            across,
+            down,
+            wide,
+            high,
+            to,
+        );
         to += w;
         p += 8;
     }

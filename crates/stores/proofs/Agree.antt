@@ -62,16 +62,16 @@ module _ (d e : Plan) (h : Alike d e) where
   count-agree m n = ap (λ (l : List Store). length (take n l)) (due-agree (m .place))
 
   module _ {R : Type 0} where
-    -- what a call leaves, what it answers with its count, and what it leaves where it is cut
+    -- what a call leaves, what it answers with its count and rows, and what it leaves where it is cut
     pub leave-agree : (m : Memory) (c : Call R) → leave d m c ≡ leave e m c
     unfolding leave
     leave-agree m (refused r) = refl
     leave-agree m (allowed n) = after-agree m n
 
-    pub outcome-agree : (m : Memory) (c : Call R) → outcome d m c ≡ outcome e m c
+    pub outcome-agree : {T : Type 0} (t none : T) (m : Memory) (c : Call R) → outcome d t none m c ≡ outcome e t none m c
     unfolding outcome
-    outcome-agree m (refused r) = refl
-    outcome-agree m (allowed n) = rw (after-agree m n, count-agree m n, h .blocks)
+    outcome-agree t none m (refused r) = refl
+    outcome-agree t none m (allowed n) = rw (after-agree m n, count-agree m n, h .blocks)
 
     pub cut-agree : (m : Memory) (c : Call R) (j : ℕ) → leaveCut d m c j ≡ leaveCut e m c j
     unfolding leaveCut

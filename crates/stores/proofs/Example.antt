@@ -3,7 +3,7 @@
 -- that brings another plan, one that ends the drawing, and one after the end.
 use mathlib.Core.Path.{_≡_, refl, ap}
 use mathlib.Core.List.{List, [], _∷_}
-use Prim.Native.Nat.{ℕ, zero, suc, _+_, _*_}
+use Prim.Native.Nat.{ℕ, zero, suc, _+_, _-_, _*_}
 use native.Mathlib.Omega.{arith}
 use lib.ListN.{getD}
 use Rattle.stores.specs.Stores.{Plan, pixels, stores, following, Memory, memory, apply, run, firstPixels, after, count, stage, final, Own, Lawful}
@@ -33,8 +33,9 @@ abbrev met : Ask → Memory → Call ℕ
 met (draw n) m = allowed n
 met stray m = refused 9
 
-abbrev asked : Calling Ask ℕ
-asked = record { plan = planOf; meets = met }
+-- the last block that a plan touches; 99 where a call is refused
+abbrev asked : Calling Ask ℕ ℕ
+asked = record { plan = planOf; rows = λ a. planOf a .blocks - 1; none = 99; meets = met }
 
 abbrev asks : List (Event Ask)
 asks = returns (draw 1) ∷ cut (draw 100) 4 ∷ returns stray ∷ returns (draw 100) ∷ returns (draw 5) ∷ []
@@ -43,8 +44,8 @@ asks = returns (draw 1) ∷ cut (draw 100) 4 ∷ returns stray ∷ returns (draw
 abbrev found : Memory
 found = memory (1 ∷ 2 ∷ 3 ∷ 4 ∷ []) 0
 
-abbrev gives : Answer ℕ → ℕ → Outcome ℕ
-gives a n = record { answer = a; count = n }
+abbrev gives : Answer ℕ → ℕ → ℕ → Outcome ℕ ℕ
+gives a n t = record { answer = a; count = n; rows = t }
 
 -- ---- computed
 
@@ -52,7 +53,7 @@ the-final : final two (found .picture) ≡ 4 ∷ 5 ∷ 14 ∷ 15 ∷ []
 unfolding stage firstPixels pixels run apply
 the-final = refl
 
-the-outcomes : outcomes asked found asks ≡ gives unfinished 1 ∷ gives (refusal 9) 0 ∷ gives whole 3 ∷ gives whole 0 ∷ []
+the-outcomes : outcomes asked found asks ≡ gives unfinished 1 1 ∷ gives (refusal 9) 0 99 ∷ gives whole 3 1 ∷ gives whole 0 1 ∷ []
 unfolding outcomes happens says outcome answered leave leaveCut after count pixels stores following run apply
 the-outcomes = refl
 
@@ -65,7 +66,7 @@ the-memory : finally asked found asks ≡ memory (4 ∷ 5 ∷ 14 ∷ 15 ∷ []) 
 unfolding finally happens leave leaveCut after pixels stores following run apply
 the-memory = refl
 
-the-book : bookFinally asked two (found .picture) found (returns (draw 1) ∷ cut (draw 100) 4 ∷ []) ≡ memory (4 ∷ 5 ∷ 14 ∷ 4 ∷ []) 1
+the-book : bookFinally asked two 1 (found .picture) found (returns (draw 1) ∷ cut (draw 100) 4 ∷ []) ≡ memory (4 ∷ 5 ∷ 14 ∷ 4 ∷ []) 1
 unfolding bookFinally bookHappens leave fed after stage firstPixels pixels stores following run apply
 the-book = refl
 
@@ -83,12 +84,15 @@ lawful =
       own = λ k hk. own k;
     }
 
-never : (n : ℕ) → _≡_ {A = Call ℕ} (refused 9) (allowed n) → other ≡ two
+same : (m n : ℕ) → _≡_ {A = Call ℕ} (allowed m) (allowed n) → (two ≡ two) × (_≡_ {A = ℕ} 1 1)
+same m n e = (refl, refl)
+
+never : (n : ℕ) → _≡_ {A = Call ℕ} (refused 9) (allowed n) → (other ≡ two) × (_≡_ {A = ℕ} 6 1)
 never n e = let z : _≡_ {A = ℕ} 0 1 = cc in absurd (let y : ⊥ = omega arith in y)
 
-fair : Fair asked two found asks
+fair : Fair asked two 1 found asks
 unfolding Fair Each callOf happens CutWithin leave leaveCut outcome after count pixels stores following run apply
-fair = ((λ n e. refl, tt), ((λ n e. refl, omega arith), ((never, tt), ((λ n e. refl, tt), ((λ n e. refl, tt), tt)))))
+fair = ((same _, tt), ((same _, omega arith), ((never, tt), ((same _, tt), ((same _, tt), tt)))))
 
-booked-so : AsBooked asked two (found .picture) asks
-booked-so = as-booked _ _ _ lawful _ fair
+booked-so : AsBooked asked two 1 (found .picture) asks
+booked-so = as-booked _ _ _ _ lawful _ fair

@@ -6,3 +6,4 @@ pub mod Calls
 pub mod Within
 pub mod Example
 pub mod Agree
+pub mod Order

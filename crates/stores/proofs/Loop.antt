@@ -6,11 +6,10 @@ use Prim.Native.Nat.{ℕ, suc, _+_, _≤_, _<_}
 use native.Mathlib.Nat.{zero-add}
 use native.Mathlib.Numerals.{add-one}
 use native.Mathlib.Omega.{arith}
-use borrow.Author.Tests.{eq-eqb, ne-eqb}
 use lib.ListN.{length, set, take, drop, length-append, length-drop}
 use lib.Seq.{take-all, take-at, drop-at, take-add, drop-drop, length-take-le}
 use Rattle.stores.specs.Stores.{Plan, Store, place, pixels, due, rest, Memory, memory, apply, run, firstPixels, after, count}
-use Rattle.stores.specs.Calls.{Call, refused, allowed, whole, unfinished, refusal, answered, leave, outcome}
+use Rattle.stores.specs.Calls.{Call, refused, allowed, refusal, leave, outcome}
 use Rattle.stores.specs.Loop.{Made, Called}
 use Rattle.stores.proofs.Steps.{run-append, run-length, run-pixels, pixels-length, due-end, due-rest, rest-pixels, rest-place, after-part}
 
@@ -122,19 +121,11 @@ module _ {R : Type 0} (d : Plan) (m₀ : Memory) (v : Call R) where
   unfolding leave
   refused-leaves r e = rw e
 
-  pub refused-answers : (r : R) → v ≡ refused r → record { answer = refusal r; count = 0 } ≡ outcome d m₀ v
+  pub refused-answers : {T : Type 0} (t none : T) (r : R) → v ≡ refused r → record { answer = refusal r; count = 0; rows = none } ≡ outcome d t none m₀ v
   unfolding outcome
-  refused-answers r e = rw e
+  refused-answers t none r e = rw e
 
   module _ (n : ℕ) (b : List ℕ) (k j : ℕ) (h : Called d m₀ n b k j) (e : v ≡ allowed n) where
     pub called-leaves : memory b k ≡ leave d m₀ v
     unfolding leave
     called-leaves = rw e (h .leaves)
-
-    pub called-whole : k ≡ d .blocks → record { answer = whole; count = j } ≡ outcome d m₀ v
-    unfolding outcome answered
-    called-whole q = rw (e, ← h .counts, ← h .leaves, eq-eqb k (d .blocks) q) refl
-
-    pub called-unfinished : (k ≡ d .blocks → ⊥) → record { answer = unfinished; count = j } ≡ outcome d m₀ v
-    unfolding outcome answered
-    called-unfinished q = rw (e, ← h .counts, ← h .leaves, ne-eqb k (d .blocks) q) refl

@@ -1,6 +1,5 @@
 -- Laws of `firstPixels`, the picture while the pixels of one block are stored: one pixel more, the same pixels by another plan, what they leave
--- alone, what they leave, and a block begun again. In the laws for code numbers go up by `+ 1`, and each value that code has found is a variable
--- with an equation.
+-- alone, what they leave, and a block begun again.
 use mathlib.Core.Path.{_≡_, refl, sym, ap, _∙_}
 use mathlib.Core.Logic.{_≢_, ⊎-elim}
 use mathlib.Core.List.{List, [], _∷_, _++_}
@@ -29,18 +28,10 @@ first-suc d k b n =
     ap (λ (l : List Store). run d (memory b k) l .picture) q
     ∙ ap (λ (m : Memory). m .picture) (run-append d (memory b k) (pixels k 0 n) (pixel k n ∷ []))
 
--- a turn that stores at t the value v on the picture c
-pub first-more : (d : Plan) (k : ℕ) (b : List ℕ) (i : ℕ) (c b′ : List ℕ) (t v : ℕ)
-    → c ≡ firstPixels d k b i → t ≡ d .target k i → v ≡ d .value k i c → b′ ≡ set c t v → b′ ≡ firstPixels d k b (i + 1)
-first-more d k b i c b′ t v ec et ev e = rw (e, ev, et, ec, add-one i) (sym (first-suc d k b i))
-
 -- the picture keeps its length
 pub first-long : (d : Plan) (k : ℕ) (b : List ℕ) (n : ℕ) → length (firstPixels d k b n) ≡ length b
 unfolding firstPixels
 first-long d k b n = run-length d (memory b k) (pixels k 0 n)
-
-pub first-length : (d : Plan) (k : ℕ) (b : List ℕ) (n : ℕ) (c : List ℕ) → c ≡ firstPixels d k b n → length c ≡ length b
-first-length d k b n c e = ap length e ∙ first-long d k b n
 
 -- ---- the same pixels by another plan
 
@@ -54,15 +45,6 @@ first-along d d′ k k′ b i (suc n) ts vs =
     let s : i + suc n ≡ suc (i + n) = omega arith in
     first-suc d′ k′ (firstPixels d k b i) n
     ∙ rw (e, ts n (omega arith), vs n (omega arith), s) (sym (first-suc d k b (i + n)))
-
--- pixels i to i + n - 1 made by a plan of their own
-pub first-join : (d d′ : Plan) (k k′ : ℕ) (b : List ℕ) (i n : ℕ) (c b′ : List ℕ) → c ≡ firstPixels d k b i → b′ ≡ firstPixels d′ k′ c n
-    → ((x : ℕ) → x < n → d′ .target k′ x ≡ d .target k (i + x))
-    → ((x : ℕ) → x < n → (a : List ℕ) → length a ≡ length b → d′ .value k′ x a ≡ d .value k (i + x) a)
-    → b′ ≡ firstPixels d k b (i + n)
-first-join d d′ k k′ b i n c b′ ec e ts vs =
-    rw (e, ec)
-    (first-along d d′ k k′ b i n ts (λ x h. vs x h (firstPixels d k b (i + x)) (first-long d k b (i + x))))
 
 -- two plans that agree on the first n pixels of a block, on the pictures met
 pub first-met : (d d′ : Plan) (k k′ : ℕ) (b : List ℕ) (n : ℕ) → ((i : ℕ) → i < n → d .target k i ≡ d′ .target k′ i)

@@ -16,7 +16,7 @@ use Rattle.stores.proofs.Pixels.{first-long, first-met, first-off, firs
 
 -- ---- the picture block by block
 
-stage-length : (d : Plan) (first : List ℕ) (k : ℕ) → length (stage d first k) ≡ length first
+pub stage-length : (d : Plan) (first : List ℕ) (k : ℕ) → length (stage d first k) ≡ length first
 unfolding stage
 stage-length d first zero = refl
 stage-length d first (suc k) = first-long d k (stage d first k) (d .size k) ∙ stage-length d first k

@@ -1,5 +1,6 @@
 -- Lists of calls, and the claim of demand 3 about them (`AsBooked`). What a call brings is any type C: a `Calling` says which plan a call of C draws,
--- and whether it is refused at the memory that it finds, with an answer of any type R, or allowed a number of stores.
+-- which rows it touches, told in any type T, and whether it is refused at the memory that it finds, with an answer of any type R, or allowed a number
+-- of stores.
 -- A call of the list returns, or it is cut: document 01's "cut point j of a call, from 0 to the stores it would make".
 use mathlib.Core.Path.{_≡_}
 use mathlib.Core.Logic.{_⊎_}
@@ -23,10 +24,11 @@ pub data Answer (R : Type 0) : Type 0 where
   unfinished : Answer R
   refusal : R → Answer R
 
--- the answer, and the number of stores made
-pub record Outcome (R : Type 0) : Type 0 where
+-- the answer, the number of stores made, and the rows that the drawing touches (document 02, W2: "the answers in demand 3's book pass it on")
+pub record Outcome (R T : Type 0) : Type 0 where
   pub answer : Answer R
   pub count : ℕ
+  pub rows : T
 
 module _ {R : Type 0} where
   -- the answer by the test "is the place the block count?"
@@ -39,10 +41,10 @@ module _ {R : Type 0} where
   leave d m (refused r) = m
   leave d m (allowed n) = after d m n
 
-  -- its answer and count
-  unfoldable pub outcome : Plan → Memory → Call R → Outcome R
-  outcome d m (refused r) = record { answer = refusal r; count = 0 }
-  outcome d m (allowed n) = record { answer = answered (eqb (after d m n .place) (d .blocks)); count = count d m n }
+  -- its answer, count and rows: t, those of the whole drawing whatever the place and the count; none where it is refused
+  unfoldable pub outcome : {T : Type 0} → Plan → T → T → Memory → Call R → Outcome R T
+  outcome d t none m (refused r) = record { answer = refusal r; count = 0; rows = none }
+  outcome d t none m (allowed n) = record { answer = answered (eqb (after d m n .place) (d .blocks)); count = count d m n; rows = t }
 
   -- the memory that it leaves where it is cut after j stores: of the stores that it would make, the first j are made and the others not at all
   unfoldable pub leaveCut : Plan → Memory → Call R → ℕ → Memory
@@ -61,9 +63,11 @@ module _ {R : Type 0} where
 
 -- ---- lists of calls
 
--- plan c: what the call c draws. meets c m: what it comes to at the memory m.
-pub record Calling (C R : Type 0) : Type 0 where
+-- plan c: what the call c draws. rows c: the rows that it touches. none: what a refused call tells of rows. meets c m: what c comes to at the memory m.
+pub record Calling (C R T : Type 0) : Type 0 where
   pub plan : C → Plan
+  pub rows : C → T
+  pub none : T
   pub meets : C → Memory → Call R
 
 -- a call that returns with its answer, or one that is cut after j stores and gives none
@@ -81,67 +85,68 @@ unfoldable pub Returning : {C : Type 0} → (Memory → C → Type 0) → Memory
 Returning P m (returns c) = P m c
 Returning P m (cut c j) = Unit
 
-module _ {C R : Type 0} where
+module _ {C R T : Type 0} where
   -- a call c that finds the memory m: the memory that it leaves
-  abbrev pub step : Calling C R → Memory → C → Memory
+  abbrev pub step : Calling C R T → Memory → C → Memory
   step s m c = leave (s .plan c) m (s .meets c m)
 
-  -- and its answer and count
-  abbrev pub reply : Calling C R → Memory → C → Outcome R
-  reply s m c = outcome (s .plan c) m (s .meets c m)
+  -- and its answer, count and rows
+  abbrev pub reply : Calling C R T → Memory → C → Outcome R T
+  reply s m c = outcome (s .plan c) (s .rows c) (s .none) m (s .meets c m)
 
   -- the memory that an event leaves
-  unfoldable pub happens : Calling C R → Memory → Event C → Memory
+  unfoldable pub happens : Calling C R T → Memory → Event C → Memory
   happens s m (returns c) = step s m c
   happens s m (cut c j) = leaveCut (s .plan c) m (s .meets c m) j
 
-  -- the answer and count that it gives; a cut call gives none
-  unfoldable pub says : Calling C R → Memory → Event C → List (Outcome R)
+  -- the answer, count and rows that it gives; a cut call gives none
+  unfoldable pub says : Calling C R T → Memory → Event C → List (Outcome R T)
   says s m (returns c) = reply s m c ∷ []
   says s m (cut c j) = []
 
   -- 1 for a call that returns, is not refused and is allowed more than p stores; a cut call does not count
-  unfoldable pub ampleAt : Calling C R → ℕ → Memory → Event C → ℕ
+  unfoldable pub ampleAt : Calling C R T → ℕ → Memory → Event C → ℕ
   ampleAt s p m (returns c) = ample p (s .meets c m)
   ampleAt s p m (cut c j) = 0
 
   -- a cut point is at most the number of stores that the call would make
-  unfoldable pub CutWithin : Calling C R → Memory → Event C → Type 0
+  unfoldable pub CutWithin : Calling C R T → Memory → Event C → Type 0
   CutWithin s m (returns c) = Unit
   CutWithin s m (cut c j) = j ≤ reply s m c .count
 
   -- the memory after a list of events
-  unfoldable pub finally : Calling C R → Memory → List (Event C) → Memory
+  unfoldable pub finally : Calling C R T → Memory → List (Event C) → Memory
   finally s m [] = m
   finally s m (e ∷ es) = finally s (happens s m e) es
 
-  -- the answer and count of each call that returns
-  unfoldable pub outcomes : Calling C R → Memory → List (Event C) → List (Outcome R)
+  -- the answer, count and rows of each call that returns
+  unfoldable pub outcomes : Calling C R T → Memory → List (Event C) → List (Outcome R T)
   outcomes s m [] = []
   outcomes s m (e ∷ es) = says s m e ++ outcomes s (happens s m e) es
 
   -- how many calls return, are not refused and are allowed more than p stores
-  unfoldable pub ampleCalls : Calling C R → ℕ → Memory → List (Event C) → ℕ
+  unfoldable pub ampleCalls : Calling C R T → ℕ → Memory → List (Event C) → ℕ
   ampleCalls s p m [] = 0
   ampleCalls s p m (e ∷ es) = ampleAt s p m e + ampleCalls s p (happens s m e) es
 
   -- P holds of each event and the memory that it finds
-  unfoldable pub Each : Calling C R → (Memory → Event C → Type 0) → Memory → List (Event C) → Type 0
+  unfoldable pub Each : Calling C R T → (Memory → Event C → Type 0) → Memory → List (Event C) → Type 0
   Each s P m [] = Unit
   Each s P m (e ∷ es) = P m e × Each s P (happens s m e) es
 
-  -- each call that is not refused at the memory that it finds has the plan d, and each cut point is one of its call; of the plan of a refused call
-  -- nothing is asked
-  unfoldable pub Fair : Calling C R → Plan → Memory → List (Event C) → Type 0
-  Fair s d m es =
-      Each s (λ m e. ((n : ℕ) → s .meets (callOf e) m ≡ allowed n → s .plan (callOf e) ≡ d) × CutWithin s m e) m es
+  -- each call that is not refused at the memory that it finds has the plan d and the rows t, and each cut point is one of its call; of the plan and the
+  -- rows of a refused call nothing is asked
+  unfoldable pub Fair : Calling C R T → Plan → T → Memory → List (Event C) → Type 0
+  Fair s d t m es =
+      Each s (λ m e. ((n : ℕ) → s .meets (callOf e) m ≡ allowed n → (s .plan (callOf e) ≡ d) × (s .rows (callOf e) ≡ t)) × CutWithin s m e) m es
 
 -- ---- the book
 
--- The same calls at the book of d: a call that is not refused makes the book's stores, and a call cut at j is fed as one allowed j.
-module _ {C R : Type 0} (s : Calling C R) (d : Plan) (first : List ℕ) where
-  abbrev pub booked : Calling C R
-  booked = record { plan = λ c. book d first; meets = s .meets }
+-- The same calls at the book of d, which touches the rows t: a call that is not refused makes the book's stores and is told the book's rows, and a
+-- call cut at j is fed as one allowed j.
+module _ {C R T : Type 0} (s : Calling C R T) (d : Plan) (t : T) (first : List ℕ) where
+  abbrev pub booked : Calling C R T
+  booked = record { plan = λ c. book d first; rows = λ c. t; none = s .none; meets = s .meets }
 
   unfoldable pub bookHappens : Memory → Event C → Memory
   bookHappens m (returns c) = step booked m c
@@ -151,18 +156,19 @@ module _ {C R : Type 0} (s : Calling C R) (d : Plan) (first : List ℕ) where
   bookFinally m [] = m
   bookFinally m (e ∷ es) = bookFinally (bookHappens m e) es
 
-  unfoldable pub bookOutcomes : Memory → List (Event C) → List (Outcome R)
+  unfoldable pub bookOutcomes : Memory → List (Event C) → List (Outcome R T)
   bookOutcomes m [] = []
   bookOutcomes m (e ∷ es) = says booked m e ++ bookOutcomes (bookHappens m e) es
 
 -- ---- demand 3
 
--- The claim about a list of events es that finds the picture first and the place 0, where d is the plan of the calls that are not refused.
-pub record AsBooked {C R : Type 0} (s : Calling C R) (d : Plan) (first : List ℕ) (es : List (Event C)) : Type 0 where
+-- The claim about a list of events es that finds the picture first and the place 0, where d is the plan of the calls that are not refused, and t are
+-- the rows that it touches.
+pub record AsBooked {C R T : Type 0} (s : Calling C R T) (d : Plan) (t : T) (first : List ℕ) (es : List (Event C)) : Type 0 where
   -- the picture drawn on and the place are then the book's
-  pub leaves : finally s (memory first 0) es ≡ bookFinally s d first (memory first 0) es
-  -- every answer and every count is the book's
-  pub answers : outcomes s (memory first 0) es ≡ bookOutcomes s d first (memory first 0) es
+  pub leaves : finally s (memory first 0) es ≡ bookFinally s d t first (memory first 0) es
+  -- every answer, every count and all rows told are the book's
+  pub answers : outcomes s (memory first 0) es ≡ bookOutcomes s d t first (memory first 0) es
   -- a call that answers "whole" has left the picture of demand 2
   pub whole-is-final : Each s (Returning (λ m c. reply s m c .answer ≡ whole → step s m c .picture ≡ final d first)) (memory first 0) es
   -- a call that returns, is not refused and is allowed more than p stores, where no block stores more than p pixels, raises the place or answers "whole"

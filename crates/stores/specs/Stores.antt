@@ -74,6 +74,10 @@ run d m (s ∷ ss) = run d (apply d m s) ss
 unfoldable pub firstPixels : Plan → ℕ → List ℕ → ℕ → List ℕ
 firstPixels d k b n = run d (memory b k) (pixels k 0 n) .picture
 
+-- the picture after n pixel stores of block k on the picture b, from pixel i on
+unfoldable pub further : Plan → ℕ → List ℕ → ℕ → ℕ → List ℕ
+further d k b i n = run d (memory b k) (pixels k i n) .picture
+
 -- ---- a call allowed n stores: it makes the first n of those due from the first pixel of the block at the place, or all
 
 -- the memory that it leaves

@@ -20,16 +20,15 @@ use Rattle.sound.specs.Format.{chosen, formatOf, possibleFormat, afresh}
 use Rattle.sound.specs.Step as sound
 use Rattle.sound.specs.Sound.{answer, initializeAudio, audioData, audioSilence}
 use Rattle.sound.proofs.Kept.{data-kept, silence-kept}
-use Rattle.state.specs.declared.Map.{Map}
-use Rattle.state.specs.declared.Map.the-variants.{Missing, Part}
 use Rattle.state.specs.declared.State.{State}
 use Rattle.heads.specs.declared.Opcode.{Opcode}
 use Rattle.heads.specs.Heads.{hears}
-use Rattle.next.specs.Next.{Standing}
-use Rattle.next.specs.Next as found
 use Rattle.opcodes.specs.Opcodes.{heardStep, drawnAs}
-use Rattle.film.specs.Film.{Lent, withRoom, swap, Outcome, after, called, drawSecond, drawOn, part, drawBy, act, heardBy, hear, takeOn, standing, stepOf}
-use Rattle.walk.specs.Apart.{RoomKept, OthersKept, Apart}
+use Rattle.film.specs.Film.{Lent, withRoom, swap, Outcome, after, called, drawSecond, drawOn, part, heardBy, hear, takeOn, standing, stepOf}
+use Rattle.walk.specs.Draws.{packetOf}
+use Rattle.walk.specs.View.{endOf, View, refuses, ends, enters, sounds, maps, colours, undrawn, draws, others}
+use Rattle.walk.specs.Apart.{RoomKept, OthersKept, AtSound, Apart}
+use Rattle.walk.proofs.View.{view-of}
 
 silent-by : (l : Lent) (b : Bool) {x y : Outcome} → RoomKept l x → RoomKept l y → RoomKept l (cond b x y)
 silent-by l true p q = p
@@ -52,28 +51,13 @@ module _ (film : List ℕ) (st : State) (allowed : Allowed) (l : Lent) where
   unfolding called
   second-silent p map packet m e =
       let r = report (memory (m .second) (m .place)) (request (st .columns) (st .rows) map packet (m .first) allowed) in
-      silent l e (drawn-silent st p (r .outcome .answer) (r .outcome .count) (r .rows))
+      silent l e (drawn-silent st p (r .answer) (r .count) (r .rows))
 
   on-silent : (p : ℕ) (map packet : List ℕ) → RoomKept l (drawOn st p map packet allowed l)
   unfolding drawOn
   on-silent p map packet =
       let x = second-silent p map packet (swap l) refl in
       silent-by l (eqb (st .front) 0) (second-silent p map packet l refl) (silent l (x .room) (x .bytes))
-
-  by-silent : (map : Map) (body : List ℕ) (p : ℕ) → RoomKept l (drawBy map film st body p allowed l)
-  unfolding drawBy
-  by-silent Missing body p = silent l refl refl
-  by-silent (Part s long) body p =
-      silent-by l (eqb (st .columns) 0) (silent l refl refl) (on-silent p (part film s (s + long)) (part body 14 (length body)))
-
-  act-silent : (kind version s : ℕ) (body : List ℕ) (p : ℕ) → RoomKept l (act film st kind version s body p allowed l)
-  unfolding act
-  act-silent kind version s body p =
-      silent-by l (eqb kind 15) (silent l refl refl)
-      (silent-by l (eqb kind 17) (by-silent (st .map) body p)
-      (silent-by l (eqb kind 11) (silent l refl refl)
-      (silent-by l (eqb kind 12) (silent l refl refl)
-      (silent-by l (eqb kind 13) (silent l refl refl) (silent l refl refl)))))
 
   -- ---- sound
 
@@ -113,26 +97,17 @@ module _ (film : List ℕ) (st : State) (allowed : Allowed) (l : Lent) where
       (heard-apart (o .start + o .long) (heardBy (st .sound) (o .kind) (o .version) body (length (l .room)))
       (sound-fits (st .sound) (o .kind) (o .version) body))
 
-  taken-other : (o : Opcode) → hears (chosen (st .sound .stream)) (o .kind) ≡ false → RoomKept l (takeOn film st o allowed l)
-  unfolding takeOn
-  taken-other o e =
-      rw e (act-silent (o .kind) (o .version) (o .start) (part film (o .start) (o .start + o .long)) (o .start + o .long))
-
-  standing-other : (s : Standing) → ((o : Opcode) → s ≡ found.opcode o → hears (chosen (st .sound .stream)) (o .kind) ≡ false) → RoomKept l (standing s film st allowed l)
-  unfolding standing
-  standing-other (found.refused n k) f = silent l refl refl
-  standing-other found.ended f = silent l refl refl
-  standing-other (found.chunk c) f = silent l refl refl
-  standing-other (found.opcode o) f = taken-other o (f o refl)
-
-  not-acted : (b : Bool) → (b ≡ true → ⊥) → b ≡ false
-  not-acted true f = absurd (f refl)
-  not-acted false f = refl
+  silent-view : {o : Outcome} → View film st allowed l o → (AtSound film st l → ⊥) → RoomKept l o
+  silent-view (refuses n k e) f = silent l refl refl
+  silent-view (ends e v) f = silent l refl refl
+  silent-view (enters c e v) f = silent l refl refl
+  silent-view (sounds o a h) f = absurd (f (record { found = o; stands = a .stands; acted = h }))
+  silent-view (maps o a u e) f = silent l refl refl
+  silent-view (colours o x a u c) f = silent l refl refl
+  silent-view (undrawn o a u e m) f = silent l refl refl
+  silent-view (draws o start long a u e m c) f = on-silent (endOf o) (part film start (start + long)) (packetOf film o)
+  silent-view (others o a u x) f = silent l refl refl
 
   pub step-apart : Apart film st allowed l
   unfolding stepOf standing
-  step-apart =
-      record {
-        sound = λ a. rw (a .stands) (taken-sound (a .found) (a .acted));
-        other = λ n. standing-other _ (λ o e. not-acted _ (λ q. n (record { found = o; stands = e; acted = q })));
-      }
+  step-apart = record { sound = λ a. rw (a .stands) (taken-sound (a .found) (a .acted)); other = silent-view (view-of film st allowed l) }

@@ -14,7 +14,7 @@ use Rattle.stores.specs.Stores.{Memory, memory}
 use Rattle.stores.specs.Calls.{refusal, returns, cut, callOf, leave, leaveCut, outcome, happens, step}
 use Rattle.stores.proofs.Within.{take-short}
 use Rattle.draw.specs.declared.Allowed.{Allowed}
-use Rattle.draw.specs.Call.{Request, request, reason, comes, calling, reporting, rowsOf, report}
+use Rattle.draw.specs.Call.{Request, request, reason, comes, calling, report, reporting}
 use Rattle.draw.proofs.Judged.{judged-6}
 use Rattle.book.specs.Beyond.{showing, SameCalls}
 use Rattle.book.specs.Beyond.{SameTo as SameMemory}
@@ -35,7 +35,10 @@ use Rattle.next.specs.Next.{Standing, nextOf}
 use Rattle.next.specs.Next as found
 use Rattle.opcodes.specs.Opcodes.{quiet, heardStep, paletteAnswer, drawnStep}
 use Rattle.film.specs.Film.{Lent, swap, Outcome, after, called, drawSecond, drawOn, part, drawBy, update, act, heardBy, hear, takeOn, standing, stepOf}
+use Rattle.walk.specs.Draws.{packetOf}
+use Rattle.walk.specs.View.{endOf, View, refuses, ends, enters, sounds, maps, colours, undrawn, draws, others}
 use Rattle.walk.specs.Beyond.{bytes, KeptFrom, Unwritten, SameTo, SameSteps, Unread}
+use Rattle.walk.proofs.View.{view-of}
 
 -- ---- a drawing call of any size
 
@@ -49,8 +52,8 @@ module _ (q : Request) (m : Memory) (e : legalSize (q .columns) (q .rows) ≡ fa
   unfolding happens leaveCut comes
   refused-cuts j = rw (← judged-6 (q .allowed .spare) (q .columns) (q .rows) (q .map) (q .bytes) (length (q .front)) (length (m .picture)) (m .place) e) refl
 
-  refused-tells : report m q ≡ reporting (record { answer = refusal (reason 6 0); count = 0 }) None
-  unfolding outcome comes rowsOf
+  refused-tells : report m q ≡ reporting (refusal (reason 6 0)) 0 None
+  unfolding outcome comes
   refused-tells = rw (← judged-6 (q .allowed .spare) (q .columns) (q .rows) (q .map) (q .bytes) (length (q .front)) (length (m .picture)) (m .place) e) refl
 
 draw-kept : (q : Request) (m : Memory) → drop (area (q .columns) (q .rows)) (step calling m q .picture) ≡ drop (area (q .columns) (q .rows)) (m .picture)
@@ -105,32 +108,20 @@ module _ (film : List ℕ) (st : State) (allowed : Allowed) where
       kept-by (bytes st) l (eqb (st .front) 0) _ _ (kept-drawn p map packet l)
       (kept-swapped (bytes st) l _ (kept-drawn p map packet (swap l)))
 
-  kept-map : (map : Map) (body : List ℕ) (p : ℕ) (l : Lent) → KeptFrom (bytes st) l (drawBy map film st body p allowed l)
-  unfolding drawBy
-  kept-map Missing body p l = kept (bytes st) l _ refl refl
-  kept-map (Part s long) body p l = kept-by (bytes st) l (eqb (st .columns) 0) _ _ (kept (bytes st) l _ refl refl) (kept-on p (part film s (s + long)) (part body 14 (length body)) l)
-
-  kept-act : (kind version s : ℕ) (body : List ℕ) (p : ℕ) (l : Lent) → KeptFrom (bytes st) l (act film st kind version s body p allowed l)
-  unfolding act
-  kept-act kind version s body p l =
-      kept-by (bytes st) l (eqb kind 15) _ _ (kept (bytes st) l _ refl refl)
-      (kept-by (bytes st) l (eqb kind 17) _ _ (kept-map (st .map) body p l)
-      (kept-by (bytes st) l (eqb kind 11) _ _ (kept (bytes st) l _ refl refl)
-      (kept-by (bytes st) l (eqb kind 12) _ _ (kept (bytes st) l _ refl refl)
-      (kept-by (bytes st) l (eqb kind 13) _ _ (kept (bytes st) l _ refl refl) (kept (bytes st) l _ refl refl)))))
-
-  kept-standing : (s : Standing) (l : Lent) → KeptFrom (bytes st) l (standing s film st allowed l)
-  unfolding standing takeOn hear
-  kept-standing (found.refused n k) l = kept (bytes st) l _ refl refl
-  kept-standing found.ended l = kept (bytes st) l _ refl refl
-  kept-standing (found.chunk c) l = kept (bytes st) l _ refl refl
-  kept-standing (found.opcode o) l =
-      kept-by (bytes st) l (hears (chosen (st .sound .stream)) (o .kind)) _ _ (kept (bytes st) l _ refl refl)
-      (kept-act (o .kind) (o .version) (o .start) (part film (o .start) (o .start + o .long)) (o .start + o .long) l)
+  kept-view : {l : Lent} {o : Outcome} → View film st allowed l o → KeptFrom (bytes st) l o
+  unfolding hear
+  kept-view {l} (refuses n k e) = kept (bytes st) l _ refl refl
+  kept-view {l} (ends e v) = kept (bytes st) l _ refl refl
+  kept-view {l} (enters c e v) = kept (bytes st) l _ refl refl
+  kept-view {l} (sounds o a h) = kept (bytes st) l _ refl refl
+  kept-view {l} (maps o a u e) = kept (bytes st) l _ refl refl
+  kept-view {l} (colours o x a u c) = kept (bytes st) l _ refl refl
+  kept-view {l} (undrawn o a u e m) = kept (bytes st) l _ refl refl
+  kept-view {l} (draws o start long a u e m c) = kept-on (endOf o) (part film start (start + long)) (packetOf film o) l
+  kept-view {l} (others o a u x) = kept (bytes st) l _ refl refl
 
   pub step-unwritten : (l : Lent) → Unwritten film st allowed l
-  unfolding stepOf
-  step-unwritten l = kept-standing (nextOf film st (length (l .palette)) (length (l .first)) (length (l .second))) l
+  step-unwritten l = kept-view (view-of film st allowed l)
 
 -- ---- none is read
 

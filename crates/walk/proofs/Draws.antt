@@ -3,9 +3,9 @@
 use mathlib.Core.Path.{_≡_, refl, ap, _∙_}
 use mathlib.Core.Bool.{Bool, true, false, cond}
 use mathlib.Core.List.{List}
-use Prim.Native.Nat.{ℕ, _+_, _-_, _≤_}
+use Prim.Native.Nat.{ℕ, _+_, _≤_}
 use native.Mathlib.Omega.{arith}
-use borrow.Author.Tests.{ltb-false, ne-eqb, eqb-true}
+use borrow.Author.Tests.{ltb-false, ne-eqb}
 use lib.Dec.{eqb, ltb}
 use lib.ListN.{length}
 use Rattle.words.specs.Word.{wordAt}
@@ -17,14 +17,14 @@ use Rattle.packet.proofs.Sizes.{is-size}
 use Rattle.stores.specs.Stores.{Memory, memory}
 use Rattle.stores.specs.Calls.{answered, outcome}
 use Rattle.draw.specs.declared.Allowed.{Allowed}
-use Rattle.draw.specs.Call.{Request, request, packetOf as packetIn, drawVerdict, comes, calling, reporting, rowsOf, report}
+use Rattle.draw.specs.Call.{Request, request, drawVerdict, comes, calling, report}
 use Rattle.draw.specs.Taken.{DrawAccepts}
 use Rattle.draw.proofs.Exactly.{drawn-exactly}
 use Rattle.state.specs.declared.Map.{Map}
-use Rattle.state.specs.declared.Map.the-variants.{Missing, Part}
+use Rattle.state.specs.declared.Map.the-variants.{Part}
 use Rattle.state.specs.declared.State.{State}
 use Rattle.state.specs.State.{area, lentVerdict}
-use Rattle.state.specs.Moves.{behind, atEnd, sized, sent, mapped, heard}
+use Rattle.state.specs.Moves.{behind, atEnd, sized, sent, heard}
 use Rattle.sound.specs.Format.{chosen}
 use Rattle.sound.specs.Step as sound
 use Rattle.sound.specs.Sound.{answer}
@@ -33,12 +33,11 @@ use Rattle.heads.specs.Heads.{hears}
 use Rattle.next.proofs.Standing.{not-17}
 use Rattle.next.specs.Next.{Standing, on, nextOf}
 use Rattle.next.specs.Next as found
-use Rattle.palette.specs.Gradient.{createGradient}
-use Rattle.palette.specs.Entries.{setPalette}
-use Rattle.palette.specs.Mask.{setPaletteCompressed}
-use Rattle.opcodes.specs.Opcodes.{Answer, taken, ended, refused, quiet, sizeAnswer, colourOf, quietAnswer, heardStep, paletteAnswer, drawnAs, drawnStep}
-use Rattle.film.specs.Film.{Lent, withPictures, swap, after, called, drawSecond, drawOn, part, drawBy, update, act, actOn, heardBy, hear, takeOn, standing, stepOf}
-use Rattle.walk.specs.Draws.{bodyOf, Draws, Drew}
+use Rattle.opcodes.specs.Opcodes.{Answer, taken, ended, refused, sizeAnswer, colourOf, quietAnswer, heardStep, paletteAnswer, drawnAs, drawnStep}
+use Rattle.film.specs.Film.{Lent, swap, Outcome, after, called, drawSecond, drawOn, part, drawBy, act, actOn, heardBy, hear, takeOn, standing, stepOf}
+use Rattle.walk.specs.Draws.{bodyOf, packetOf, Draws, Drew}
+use Rattle.walk.specs.View.{endOf, View, refuses, ends, enters, sounds, maps, colours, undrawn, draws, others}
+use Rattle.walk.proofs.View.{view-of}
 
 -- ---- a drawing call that is not refused
 
@@ -56,7 +55,7 @@ module _ (st : State) (p : ℕ) (q : Request) (m : Memory) where
   unfolding outcome comes drawnAs Drew
   accepted-drew = by (drawVerdict q m)
     where
-      by : (v : Verdict) → Drew (drawnStep st p (reporting (outcome (calling .plan q) m (comes v (q .allowed .stores))) (rowsOf v (packetIn q))) .answer) → v ≡ accept
+      by : (v : Verdict) → Drew (drawnStep st p (outcome (calling .plan q) (calling .rows q) (calling .none) m (comes v (q .allowed .stores))) .answer) → v ≡ accept
       by accept d = refl
       by (refuse n k) d = absurd d
 
@@ -67,16 +66,16 @@ unfolding on
 on-opcode accept s o e = (refl, e)
 on-opcode (refuse n k) s o e = absurd (let z : _≡_ {A = ℕ} 0 1 = cc in let y : ⊥ = omega arith in y)
 
-refuses : (n k : ℕ) → refuse n k ≡ accept → ⊥
-refuses n k e = let z : _≡_ {A = ℕ} 0 1 = cc in omega arith
+no-accept : (n k : ℕ) → refuse n k ≡ accept → ⊥
+no-accept n k e = let z : _≡_ {A = ℕ} 0 1 = cc in omega arith
 
 -- both pictures are as long as the size asks
 room-is : (n p a b : ℕ) → lentVerdict n p a b ≡ accept → (n ≤ a) × (n ≤ b)
 unfolding lentVerdict
 room-is n p a b r =
-    let x = first (eqb p 768) _ _ _ (refuses 8 0) r in
-    let y = not-first (ltb a n) _ _ _ (refuses 8 0) (x .1) in
-    let z = not-first (ltb b n) _ accept _ (refuses 8 0) (y .1) in
+    let x = first (eqb p 768) _ _ _ (no-accept 8 0) r in
+    let y = not-first (ltb a n) _ _ _ (no-accept 8 0) (x .1) in
+    let z = not-first (ltb b n) _ accept _ (no-accept 8 0) (y .1) in
     (ltb-false a n (y .0), ltb-false b n (z .0))
 
 long-enough : (film : List ℕ) (st : State) (p a b : ℕ) (o : Opcode) → nextOf film st p a b ≡ found.opcode o
@@ -86,7 +85,7 @@ long-enough film st p a b o e = room-is (area (st .columns) (st .rows)) p a b (o
 
 -- ---- answers that are none of a drawing
 
-not-taken : (s : State) → Drew (taken s) → ⊥
+pub not-taken : (s : State) → Drew (taken s) → ⊥
 unfolding Drew
 not-taken s d = d
 
@@ -94,7 +93,7 @@ pub not-refused : (n k : ℕ) → Drew (refused n k) → ⊥
 unfolding Drew
 not-refused n k d = d
 
-not-ended : (s : State) → Drew (ended s) → ⊥
+pub not-ended : (s : State) → Drew (ended s) → ⊥
 unfolding Drew
 not-ended s d = d
 
@@ -102,7 +101,7 @@ not-by : (b : Bool) (x y : Answer) → (Drew x → ⊥) → (Drew y → ⊥) →
 not-by true x y f g d = f d
 not-by false x y f g d = g d
 
-not-palette : (st : State) (p : ℕ) (v : Verdict) → Drew (paletteAnswer st p v) → ⊥
+pub not-palette : (st : State) (p : ℕ) (v : Verdict) → Drew (paletteAnswer st p v) → ⊥
 unfolding paletteAnswer
 not-palette st p accept = not-taken (behind st p)
 not-palette st p (refuse n k) = not-refused n k
@@ -114,12 +113,17 @@ not-sized st p columns rows colour =
     not-by (eqb (st .columns) 0) _ (refused 6 0)
     (not-by (legalSize columns rows) _ (refused 6 0) (not-by (eqb colour 0) (taken (sized st p columns rows)) (refused 6 0) (not-taken (sized st p columns rows)) no) no) no
 
-not-quiet : (film : ℕ) (st : State) (kind version : ℕ) (body : List ℕ) (p : ℕ) → Drew (quietAnswer film st kind version body p) → ⊥
+pub not-quiet : (film : ℕ) (st : State) (kind version : ℕ) (body : List ℕ) (p : ℕ) → Drew (quietAnswer film st kind version body p) → ⊥
 unfolding quietAnswer
 not-quiet film st kind version body p =
     not-by (eqb kind 0) (taken (atEnd st film)) _ (not-taken (atEnd st film))
     (not-by (eqb kind 5) (sizeAnswer st p (wordAt body 0) (wordAt body 2) (colourOf body version)) _ (not-sized st p (wordAt body 0) (wordAt body 2) (colourOf body version))
     (not-by (eqb kind 7) (taken (sent st p)) (taken (behind st p)) (not-taken (sent st p)) (not-taken (behind st p))))
+
+pub not-heard : (st : State) (p : ℕ) (x : sound.Step) → Drew (heardStep st p (answer x) .answer) → ⊥
+unfolding heardStep answer
+not-heard st p (sound.taken s bytes) = not-taken (heard st p s)
+not-heard st p (sound.refused n k) = not-refused n k
 
 -- ---- opcode 11
 
@@ -176,57 +180,19 @@ module _ (film : List ℕ) (st : State) (allowed : Allowed) where
   unfolding takeOn
   drew-taken o l e d = rw (ap (hears (chosen (st .sound .stream))) e ∙ not-17 (chosen (st .sound .stream))) d
 
-  not-heard : (p : ℕ) (x : sound.Step) → Drew (heardStep st p (answer x) .answer) → ⊥
-  unfolding heardStep answer
-  not-heard p (sound.taken s bytes) = not-taken (heard st p s)
-  not-heard p (sound.refused n k) = not-refused n k
-
-  taken-drew : (o : Opcode) (l : Lent) → Drew (takeOn film st o allowed l .step .answer) → Drew (actOn film st o allowed l .step .answer)
-  unfolding takeOn hear
-  taken-drew o l = by (hears (chosen (st .sound .stream)) (o .kind))
-    where
-      by : (b : Bool)
-          → Drew (cond b (hear st (o .kind) (o .version) (bodyOf film o) (o .start + o .long) l) (actOn film st o allowed l) .step .answer)
-          → Drew (actOn film st o allowed l .step .answer)
-      by true d = absurd (not-heard (o .start + o .long) (heardBy (st .sound) (o .kind) (o .version) (bodyOf film o) (length (l .room))) d)
-      by false d = d
-
-  -- a pending map, with which the packet in a body is accepted
-  record Mapped (map : Map) (body : List ℕ) (l : Lent) : Type 0 where
-    start : ℕ
-    long : ℕ
-    is : map ≡ Part start long
-    taken : Accepted (part film start (start + long)) (part body 14 (length body)) l
-
-  by-drew : (map : Map) (body : List ℕ) (p : ℕ) (l : Lent) → Drew (drawBy map film st body p allowed l .step .answer) → Mapped map body l
-  unfolding drawBy
-  by-drew Missing body p l d = absurd (not-refused 9 0 d)
-  by-drew (Part start long) body p l d = by (eqb (st .columns) 0) d
-    where
-      by : (b : Bool) → Drew (cond b (after (quiet (refused 9 0)) l) (drawOn st p (part film start (start + long)) (part body 14 (length body)) allowed l) .step .answer)
-          → Mapped (Part start long) body l
-      by true d = absurd (not-refused 9 0 d)
-      by false d = record { start = start; long = long; is = refl; taken = on-drew p (part film start (start + long)) (part body 14 (length body)) l d }
-
-  act-drew : (kind version s : ℕ) (body : List ℕ) (p : ℕ) (l : Lent) → Drew (act film st kind version s body p allowed l .step .answer)
-      → (kind ≡ 17) × Mapped (st .map) body l
-  unfolding act
-  act-drew kind version s body p l d = by (eqb kind 15) (eqb kind 17) refl (eqb kind 11) (eqb kind 12) (eqb kind 13) d
-    where
-      by : (b15 b17 : Bool) → eqb kind 17 ≡ b17 → (b11 b12 b13 : Bool)
-          → Drew (cond b15 (after (quiet (taken (mapped st p (Part s (p - s))))) (withPictures l (l .first) (l .second) 0))
-          (cond b17 (drawBy (st .map) film st body p allowed l)
-          (cond b11 (update st p (createGradient body) l)
-          (cond b12 (update st p (setPalette body) l)
-          (cond b13 (update st p (setPaletteCompressed body) l)
-          (after (quiet (quietAnswer (length film) st kind version body p)) l))))) .step .answer)
-          → (kind ≡ 17) × Mapped (st .map) body l
-      by true b17 e b11 b12 b13 d = absurd (not-taken _ d)
-      by false true e b11 b12 b13 d = (eqb-true kind 17 e, by-drew (st .map) body p l d)
-      by false false e true b12 b13 d = absurd (not-palette st p _ d)
-      by false false e false true b13 d = absurd (not-palette st p _ d)
-      by false false e false false true d = absurd (not-palette st p _ d)
-      by false false e false false false d = absurd (not-quiet (length film) st kind version body p d)
+  view-drew : {l : Lent} {o : Outcome} → View film st allowed l o → Drew (o .step .answer) → Draws (allowed .spare) film st l
+  unfolding hear
+  view-drew (refuses n k e) d = absurd (not-refused n k d)
+  view-drew (ends e v) d = absurd (not-ended st d)
+  view-drew (enters c e v) d = absurd (not-taken _ d)
+  view-drew {l} (sounds o a h) d = absurd (not-heard st (endOf o) (heardBy (st .sound) (o .kind) (o .version) (bodyOf film o) (length (l .room))) d)
+  view-drew (maps o a u e) d = absurd (not-taken _ d)
+  view-drew (colours o x a u c) d = absurd (not-palette st (endOf o) _ d)
+  view-drew (undrawn o a u e m) d = absurd (not-refused 9 0 d)
+  view-drew {l} (draws o start long a u e m c) d =
+      let x = on-drew (endOf o) (part film start (start + long)) (packetOf film o) l d in
+      record { found = o; stands = a .stands; is-11 = e; start = start; long = long; mapped = m; accepted = x .accepted; within = x .within }
+  view-drew (others o a u x) d = absurd (not-quiet (length film) st (o .kind) (o .version) (bodyOf film o) (endOf o) d)
 
   pub draws-exactly : (l : Lent) → (Draws (allowed .spare) film st l → Drew (stepOf film st allowed l .step .answer)) × (Drew (stepOf film st allowed l .step .answer) → Draws (allowed .spare) film st l)
   unfolding stepOf standing area
@@ -242,23 +208,5 @@ module _ (film : List ℕ) (st : State) (allowed : Allowed) where
         (drew-act (o .kind) (o .version) (o .start) (bodyOf film o) (o .start + o .long) l (d .is-11)
         (drew-by (st .map) (d .start) (d .long) (d .mapped) n (bodyOf film o) (o .start + o .long) l
         (record { accepted = a; front-long = rw e at (r .0); back-long = rw e at (r .1); within = d .within })))),
-    λ x. by (nextOf film st (length (l .palette)) (length (l .first)) (length (l .second))) refl x,
+    view-drew (view-of film st allowed l),
   )
-    where
-      by : (s : Standing) → nextOf film st (length (l .palette)) (length (l .first)) (length (l .second)) ≡ s → Drew (standing s film st allowed l .step .answer) → Draws (allowed .spare) film st l
-      by (found.refused n k) e d = absurd (not-refused n k d)
-      by found.ended e d = absurd (not-ended st d)
-      by (found.chunk c) e d = absurd (not-taken _ d)
-      by (found.opcode o) e d =
-          let x = act-drew (o .kind) (o .version) (o .start) (bodyOf film o) (o .start + o .long) l (taken-drew o l d) in
-          let m = x .1 in
-          record {
-            found = o;
-            stands = e;
-            is-11 = x .0;
-            start = m .start;
-            long = m .long;
-            mapped = m .is;
-            accepted = m .taken .accepted;
-            within = m .taken .within;
-          }

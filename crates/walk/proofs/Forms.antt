@@ -11,12 +11,14 @@ use lib.Dec.{eqb}
 use lib.ListN.{length}
 use Rattle.refusal.specs.Number.{Verdict}
 use Rattle.packet.specs.Packet.{packet, blocks, start}
+use Rattle.packet.specs.declared.Touched.the-variants.{None}
+use Rattle.packet.specs.Rows.{touched}
 use Rattle.packet.specs.Verdict.{default, strict}
 use Rattle.packet.specs.Forms.{OneOver}
 use Rattle.stores.specs.Stores.{Memory, memory}
 use Rattle.stores.specs.Calls.{leave, outcome}
 use Rattle.draw.specs.Forms.{inForm}
-use Rattle.draw.specs.Call.{Request, within, request, packetOf as packetIn, drawVerdict, comes, reporting, rowsOf}
+use Rattle.draw.specs.Call.{Request, within, request, packetOf as packetIn, drawVerdict, comes}
 use Rattle.draw.specs.Drawing.{plan}
 use Rattle.packet.proofs.Forms.{Differ as DifferAs}
 use Rattle.draw.proofs.Forms.{verdicts-differ}
@@ -45,7 +47,7 @@ differ-by l false x x′ y y′ p q = q
 module _ (film : List ℕ) (st : State) (n : ℕ) where
   second-differ : (p : ℕ) (map packet : List ℕ) (l : Lent)
       → Differ l (drawSecond st p map packet (within n default) l) (drawSecond st p map packet (within n strict) l)
-  unfolding called outcome leave comes drawnAs rowsOf
+  unfolding called outcome leave comes drawnAs
   second-differ p map packet l = by (verdicts-differ q m)
     where
       q : Request
@@ -56,7 +58,7 @@ module _ (film : List ℕ) (st : State) (n : ℕ) where
 
       outcomeBy : Verdict → Outcome
       outcomeBy v =
-          after (drawnStep st p (reporting (outcome (plan (packetIn q) (l .first)) m (comes v n)) (rowsOf v (packetIn q))))
+          after (drawnStep st p (outcome (plan (packetIn q) (l .first)) (touched (packetIn q)) None m (comes v n)))
           (withPictures l (l .first) (leave (plan (packetIn q) (l .first)) m (comes v n) .picture) (leave (plan (packetIn q) (l .first)) m (comes v n) .place))
 
       by : DifferAs (OneOver (packetIn q)) (drawVerdict q m) (drawVerdict (inForm strict q) m)
@@ -176,6 +178,8 @@ module _ (film : List ℕ) (st : State) (n : ℕ) where
     step-forms =
         record {
           same = same-step;
+          nothing-over =
+              λ n. same-step (λ o. let d = o .draws in let z : ⊥ = omega (arith, n (d .found) (d .start) (d .long) (d .stands) (d .is-11) (d .mapped), o .over) in z);
           odd = λ o. (exactly default .0 (o .draws), odd-refused o);
           strict-draws = λ d. same-step (none-over (exactly strict .1 d));
         }

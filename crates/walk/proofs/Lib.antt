@@ -1,5 +1,8 @@
+pub mod View
 pub mod Walk
+pub mod Possible
 pub mod Draws
+pub mod Play
 pub mod Beyond
 pub mod Apart
 pub mod Forms

@@ -5,26 +5,24 @@ use mathlib.Core.Bool.{Bool, true, false, cond}
 use mathlib.Core.List.{List}
 use Prim.Native.Nat.{ℕ, _+_}
 use lib.Dec.{eqb}
-use lib.ListN.{length}
 use Rattle.refusal.specs.Number.{Verdict, accept, refuse}
 use Rattle.packet.specs.declared.Touched.{Touched}
-use Rattle.packet.specs.Rows.{Outside}
+use Rattle.packet.specs.declared.Touched.the-variants.{None}
+use Rattle.packet.specs.Rows.{touched, Outside}
 use Rattle.stores.specs.Stores.{Memory, memory}
 use Rattle.stores.specs.Calls.{answered, returns, callOf, outcome, happens}
 use Rattle.draw.specs.declared.Allowed.{Allowed}
 use Rattle.draw.specs.Drawing.{plan}
-use Rattle.draw.specs.Call.{Request, request, packetOf, drawVerdict, comes, reporting, rowsOf}
+use Rattle.draw.specs.Call.{Request, request, drawVerdict, comes}
+use Rattle.draw.specs.Call.{packetOf as packetIn}
 use Rattle.book.proofs.Rows.{rows-unchanged}
-use Rattle.state.specs.declared.Map.{Map}
-use Rattle.state.specs.declared.Map.the-variants.{Missing, Part}
 use Rattle.state.specs.declared.State.{State}
-use Rattle.sound.specs.Format.{chosen}
-use Rattle.heads.specs.Heads.{hears}
-use Rattle.next.specs.Next.{Standing, nextOf}
-use Rattle.next.specs.Next as found
 use Rattle.opcodes.specs.Opcodes.{drawnAs, drawnStep}
-use Rattle.film.specs.Film.{Lent, swap, Outcome, called, drawSecond, drawOn, part, drawBy, act, hear, takeOn, standing, stepOf}
+use Rattle.film.specs.Film.{Lent, swap, Outcome, called, drawSecond, drawOn, part, hear}
+use Rattle.walk.specs.Draws.{packetOf}
+use Rattle.walk.specs.View.{endOf, View, refuses, ends, enters, sounds, maps, colours, undrawn, draws, others}
 use Rattle.walk.specs.Rows.{PixelKept, Unchanged}
+use Rattle.walk.proofs.View.{view-of}
 
 -- what lies outside the rows that an outcome tells stays
 abbrev Keeps : ℕ → ℕ → Lent → Outcome → Type 0
@@ -45,9 +43,9 @@ drawn-rows columns t st p true n u o = o
 drawn-rows columns t st p false n u o = o
 
 rows-drawn : (columns t : ℕ) (st : State) (p : ℕ) (v : Verdict) (q : Request) (m : Memory)
-    → Outside columns (drawnStep st p (reporting (outcome (plan (packetOf q) (q .front)) m (comes v (q .allowed .stores))) (rowsOf v (packetOf q))) .rows) t
-    → Outside columns (rowsOf v (packetOf q)) t
-unfolding outcome comes drawnAs rowsOf Outside
+    → Outside columns (drawnStep st p (outcome (plan (packetIn q) (q .front)) (touched (packetIn q)) None m (comes v (q .allowed .stores))) .rows) t
+    → Outside columns (outcome (plan (packetIn q) (q .front)) (touched (packetIn q)) None m (comes v (q .allowed .stores)) .rows) t
+unfolding outcome comes drawnAs Outside
 rows-drawn columns t st p (refuse n k) q m o = tt
 rows-drawn columns t st p accept q m o = drawn-rows columns t st p _ _ _ o
 
@@ -65,31 +63,17 @@ module _ (film : List ℕ) (st : State) (n : Allowed) (t : ℕ) where
       keeps-by (st .columns) t l (eqb (st .front) 0) _ _ (second-keeps p map packet l)
       (λ o. let k = second-keeps p map packet (swap l) o in record { first = k .second; second = k .first })
 
-  map-keeps : (map : Map) (body : List ℕ) (p : ℕ) (l : Lent) → Keeps (st .columns) t l (drawBy map film st body p n l)
-  unfolding drawBy
-  map-keeps Missing body p l = keeps-all (st .columns) t l _ refl refl
-  map-keeps (Part s long) body p l =
-      keeps-by (st .columns) t l (eqb (st .columns) 0) _ _ (keeps-all (st .columns) t l _ refl refl)
-      (on-keeps p (part film s (s + long)) (part body 14 (length body)) l)
-
-  act-keeps : (kind version s : ℕ) (body : List ℕ) (p : ℕ) (l : Lent) → Keeps (st .columns) t l (act film st kind version s body p n l)
-  unfolding act
-  act-keeps kind version s body p l =
-      keeps-by (st .columns) t l (eqb kind 15) _ _ (keeps-all (st .columns) t l _ refl refl)
-      (keeps-by (st .columns) t l (eqb kind 17) _ _ (map-keeps (st .map) body p l)
-      (keeps-by (st .columns) t l (eqb kind 11) _ _ (keeps-all (st .columns) t l _ refl refl)
-      (keeps-by (st .columns) t l (eqb kind 12) _ _ (keeps-all (st .columns) t l _ refl refl)
-      (keeps-by (st .columns) t l (eqb kind 13) _ _ (keeps-all (st .columns) t l _ refl refl) (keeps-all (st .columns) t l _ refl refl)))))
-
-  standing-keeps : (s : Standing) (l : Lent) → Keeps (st .columns) t l (standing s film st n l)
-  unfolding standing takeOn hear
-  standing-keeps (found.refused k b) l = keeps-all (st .columns) t l _ refl refl
-  standing-keeps found.ended l = keeps-all (st .columns) t l _ refl refl
-  standing-keeps (found.chunk c) l = keeps-all (st .columns) t l _ refl refl
-  standing-keeps (found.opcode o) l =
-      keeps-by (st .columns) t l (hears (chosen (st .sound .stream)) (o .kind)) _ _ (keeps-all (st .columns) t l _ refl refl)
-      (act-keeps (o .kind) (o .version) (o .start) (part film (o .start) (o .start + o .long)) (o .start + o .long) l)
+  view-keeps : {l : Lent} {o : Outcome} → View film st n l o → Keeps (st .columns) t l o
+  unfolding hear
+  view-keeps {l} (refuses k b e) = keeps-all (st .columns) t l _ refl refl
+  view-keeps {l} (ends e v) = keeps-all (st .columns) t l _ refl refl
+  view-keeps {l} (enters c e v) = keeps-all (st .columns) t l _ refl refl
+  view-keeps {l} (sounds o a h) = keeps-all (st .columns) t l _ refl refl
+  view-keeps {l} (maps o a u e) = keeps-all (st .columns) t l _ refl refl
+  view-keeps {l} (colours o x a u c) = keeps-all (st .columns) t l _ refl refl
+  view-keeps {l} (undrawn o a u e m) = keeps-all (st .columns) t l _ refl refl
+  view-keeps {l} (draws o start long a u e m c) = on-keeps (endOf o) (part film start (start + long)) (packetOf film o) l
+  view-keeps {l} (others o a u x) = keeps-all (st .columns) t l _ refl refl
 
 pub step-unchanged : (film : List ℕ) (st : State) (allowed : Allowed) (l : Lent) → Unchanged film st allowed l
-unfolding stepOf
-step-unchanged film st n l t = standing-keeps film st n t (nextOf film st (length (l .palette)) (length (l .first)) (length (l .second))) l
+step-unchanged film st n l t = view-keeps film st n t (view-of film st n l)

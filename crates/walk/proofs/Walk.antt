@@ -3,39 +3,37 @@
 use mathlib.Core.Path.{_≡_, refl, ap, subst}
 use mathlib.Core.Bool.{Bool, true, false, cond}
 use mathlib.Core.List.{List}
-use Prim.Native.Nat.{ℕ, _+_, _-_, _*_, _≤_}
+use Prim.Native.Nat.{ℕ, _+_, _*_, _≤_}
 use native.Mathlib.Omega.{arith}
 use lib.Dec.{eqb}
 use lib.ListN.{length}
 use Rattle.words.specs.Word.{wordAt}
 use Rattle.refusal.specs.Number.{Verdict, accept, refuse}
 use Rattle.packet.specs.declared.Touched.{Touched}
+use Rattle.packet.specs.declared.Touched.the-variants.{None}
+use Rattle.packet.specs.Rows.{touched}
 use Rattle.packet.specs.Verdict.{legalSize}
 use Rattle.stores.specs.Stores.{Plan, memory, count, after as afterStores}
 use Rattle.stores.specs.Calls.{Call, allowed as allows, refused as denied, answered, leave, outcome, step}
 use Rattle.draw.specs.Drawing.{plan}
 use Rattle.draw.specs.declared.Allowed.{Allowed}
-use Rattle.draw.specs.Call.{Request, request, packetOf, drawVerdict, Reason, comes, rowsOf}
-use Rattle.palette.specs.Store.{applied}
+use Rattle.draw.specs.Call.{Request, request, packetOf, drawVerdict, Reason, comes}
+use Rattle.listed.specs.Store.{applied}
 use Rattle.palette.specs.Update.{Update, verdictOn, onAccept, paletteAfter}
-use Rattle.palette.specs.Gradient.{createGradient}
-use Rattle.palette.specs.Entries.{setPalette}
-use Rattle.palette.specs.Mask.{setPaletteCompressed}
 use Rattle.state.specs.declared.Map.{Map}
-use Rattle.state.specs.declared.Map.the-variants.{Missing, Part}
 use Rattle.state.specs.declared.State.{State}
 use Rattle.state.specs.Moves.{cursorBehind, cursorAtEnd, at, behind, atEnd, sized, sent, mapped, heard, finished}
 use Rattle.sound.specs.declared.Sound.{Sound}
-use Rattle.sound.specs.Format.{chosen}
 use Rattle.sound.specs.Step as sound
 use Rattle.sound.specs.Sound.{answer}
-use Rattle.heads.specs.Heads.{hears}
-use Rattle.next.specs.Next.{Standing, nextOf}
-use Rattle.next.specs.Next as found
-use Rattle.next.proofs.Standing.{found-ready, found-chunk}
-use Rattle.opcodes.specs.Opcodes.{Answer, Step, taken, whole, unfinished, ended, refused, quiet, sizeAnswer, colourOf, quietAnswer, heardStep, paletteAnswer, drawnAs}
-use Rattle.film.specs.Film.{Lent, withPalette, withPictures, withRoom, swap, Outcome, after, called, drawOn, part, drawBy, update, act, heardBy, hear, takeOn, standing, stepOf}
+use Rattle.heads.specs.declared.Opcode.{Opcode}
+use Rattle.next.proofs.Standing.{possible, found-chunk}
+use Rattle.opcodes.specs.Opcodes.{Answer, Step, taken, whole, unfinished, ended, refused, quiet, sizeAnswer, colourOf, quietAnswer, heardStep, paletteAnswer, drawnAs, drawnStep}
+use Rattle.film.specs.Film.{Lent, withPalette, withPictures, withRoom, swap, Outcome, after, called, drawOn, update, heardBy, hear, stepOf}
+use Rattle.walk.specs.Draws.{bodyOf}
+use Rattle.walk.specs.View.{endOf, AtOpcode, View, refuses, ends, enters, sounds, maps, colours, undrawn, draws, others}
 use Rattle.walk.specs.Walk.{Forward, Moves, Still, Keeps, GoesTo, Walked, none, more}
+use Rattle.walk.proofs.View.{view-of}
 
 -- what holds of a step
 record Good (film : ℕ) (st : State) (l : Lent) (o : Outcome) : Type 0 where
@@ -109,13 +107,13 @@ module _ (film : List ℕ) (st : State) (p : ℕ) (rises : st .cursor .position 
       by (refuse n k) e = quiet-good l (refused n k) tt
 
   -- 11, on the second picture
-  plan-good : (d : Plan) (l : Lent) (v : Call Reason) (t : Touched)
+  plan-good : (d : Plan) (t : Touched) (l : Lent) (v : Call Reason)
       → Good (length film) st l
-      (after (drawnAs st p (outcome d (memory (l .second) (l .place)) v .answer) (outcome d (memory (l .second) (l .place)) v .count) t)
+      (after (drawnStep st p (outcome d t None (memory (l .second) (l .place)) v))
       (withPictures l (l .first) (leave d (memory (l .second) (l .place)) v .picture) (leave d (memory (l .second) (l .place)) v .place)))
   unfolding drawnAs Moves Still outcome answered leave
-  plan-good d l (denied r) t = quiet-good l (refused (r .number) (r .block)) tt
-  plan-good d l (allows n) t = by (eqb (afterStores d (memory (l .second) (l .place)) n .place) (d .blocks))
+  plan-good d t l (denied r) = quiet-good l (refused (r .number) (r .block)) tt
+  plan-good d t l (allows n) = by (eqb (afterStores d (memory (l .second) (l .place)) n .place) (d .blocks))
     where
       by : (b : Bool)
           → Good (length film) st l
@@ -126,7 +124,7 @@ module _ (film : List ℕ) (st : State) (p : ℕ) (rises : st .cursor .position 
 
   called-good : (q : Request) (l : Lent) → Good (length film) st l (called st p q l)
   unfolding called
-  called-good q l = plan-good (plan (packetOf q) (q .front)) l (comes (drawVerdict q (memory (l .second) (l .place))) (q .allowed .stores)) (rowsOf (drawVerdict q (memory (l .second) (l .place))) (packetOf q))
+  called-good q l = plan-good (plan (packetOf q) (q .front)) (touched (packetOf q)) l (comes (drawVerdict q (memory (l .second) (l .place))) (q .allowed .stores))
 
   on-good : (map packet : List ℕ) (n : Allowed) (l : Lent) → Good (length film) st l (drawOn st p map packet n l)
   unfolding drawOn
@@ -139,34 +137,6 @@ module _ (film : List ℕ) (st : State) (p : ℕ) (rises : st .cursor .position 
           → Good (length film) st l (cond t (called st p (q (l .first)) l) (after (called st p (q (l .second)) (swap l) .step) (swap (called st p (q (l .second)) (swap l) .lent))))
       by true = called-good (q (l .first)) l
       by false = let g = called-good (q (l .second)) (swap l) in record { moves = g .moves; keeps = λ s. ap (λ (m : Lent). swap m) (g .keeps s) }
-
-  by-good : (m : Map) (body : List ℕ) (n : Allowed) (l : Lent) → Good (length film) st l (drawBy m film st body p n l)
-  unfolding drawBy Moves
-  by-good Missing body n l = quiet-good l (refused 9 0) tt
-  by-good (Part start long) body n l = by (eqb (st .columns) 0)
-    where
-      by : (t : Bool) → Good (length film) st l (cond t (after (quiet (refused 9 0)) l) (drawOn st p (part film start (start + long)) (part body 14 (length body)) n l))
-      by true = quiet-good l (refused 9 0) tt
-      by false = on-good (part film start (start + long)) (part body 14 (length body)) n l
-
-  act-good : (kind version s : ℕ) (body : List ℕ) (n : Allowed) (l : Lent) → Good (length film) st l (act film st kind version s body p n l)
-  unfolding act Moves Still
-  act-good kind version s body n l = by (eqb kind 15) (eqb kind 17) (eqb kind 11) (eqb kind 12) (eqb kind 13)
-    where
-      by : (t15 t17 t11 t12 t13 : Bool)
-          → Good (length film) st l
-          (cond t15 (after (quiet (taken (mapped st p (Part s (p - s))))) (withPictures l (l .first) (l .second) 0))
-          (cond t17 (drawBy (st .map) film st body p n l)
-          (cond t11 (update st p (createGradient body) l)
-          (cond t12 (update st p (setPalette body) l)
-          (cond t13 (update st p (setPaletteCompressed body) l)
-          (after (quiet (quietAnswer (length film) st kind version body p)) l))))))
-      by true t17 t11 t12 t13 = record { moves = on-mapped (Part s (p - s)); keeps = λ s. absurd s }
-      by false true t11 t12 t13 = by-good (st .map) body n l
-      by false false true t12 t13 = update-good (createGradient body) l
-      by false false false true t13 = update-good (setPalette body) l
-      by false false false false true = update-good (setPaletteCompressed body) l
-      by false false false false false = quiet-good l (quietAnswer (length film) st kind version body p) (quiet-moves kind version body)
 
   -- sound
   heard-good : (x : sound.Step) (l : Lent) → Good (length film) st l (after (heardStep st p (answer x)) (withRoom l (sound.roomAfter x (l .room))))
@@ -181,28 +151,30 @@ module _ (film : List ℕ) (st : State) (p : ℕ) (rises : st .cursor .position 
 -- ---- a step
 
 module _ (film : List ℕ) (st : State) (n : Allowed) (l : Lent) where
-  by-sound : (b : Bool) {x y : Outcome} → Good (length film) st l x → Good (length film) st l y → Good (length film) st l (cond b x y)
-  by-sound true g h = g
-  by-sound false g h = h
+  rises : (o : Opcode) → AtOpcode film st l o → st .cursor .position + 4 ≤ endOf o
+  rises o a = omega (arith, a .ready .behind)
 
-  standing-good : (s : Standing) → nextOf film st (length (l .palette)) (length (l .first)) (length (l .second)) ≡ s → Good (length film) st l (standing s film st n l)
-  unfolding standing takeOn Moves Still at
-  standing-good (found.refused i k) e = record { moves = tt; keeps = λ s. refl }
-  standing-good found.ended e = record { moves = refl; keeps = λ s. refl }
-  standing-good (found.chunk c) e =
+  inside : (o : Opcode) → AtOpcode film st l o → st .cursor .«chunk_end» ≤ length film
+  inside o a = possible st (length film) (a .accepted) .inside
+
+  good : {o : Outcome} → View film st n l o → Good (length film) st l o
+  unfolding Moves Still at
+  good (refuses i k e) = record { moves = tt; keeps = λ s. refl }
+  good (ends e v) = record { moves = refl; keeps = λ s. refl }
+  good (enters c e v) =
       let f = found-chunk film st (length (l .palette)) (length (l .first)) (length (l .second)) c e in
       record { moves = record { rises = omega (arith, f .1, f .2 .behind); ordered = f .2 .ordered; inside = f .2 .inside }; keeps = λ s. refl }
-  standing-good (found.opcode o) e =
-      let f = found-ready film st (length (l .palette)) (length (l .first)) (length (l .second)) o e in
-      let r : st .cursor .position + 4 ≤ o .start + o .long = omega (arith, f .1 .behind) in
-      by-sound (hears (chosen (st .sound .stream)) (o .kind))
-      (hear-good film st (o .start + o .long) r (f .1 .within) (f .0 .inside) (o .kind) (o .version) (part film (o .start) (o .start + o .long)) l)
-      (act-good film st (o .start + o .long) r (f .1 .within) (f .0 .inside) (o .kind) (o .version) (o .start)
-      (part film (o .start) (o .start + o .long)) n l)
+  good (sounds o a h) = hear-good film st (endOf o) (rises o a) (a .ready .within) (inside o a) (o .kind) (o .version) (bodyOf film o) l
+  good (maps o a u e) = record { moves = on-mapped film st (endOf o) (rises o a) (a .ready .within) (inside o a) _; keeps = λ s. absurd s }
+  good (colours o x a u c) = update-good film st (endOf o) (rises o a) (a .ready .within) (inside o a) x l
+  good (undrawn o a u e m) = record { moves = tt; keeps = λ s. refl }
+  good (draws o start long a u e m c) = on-good film st (endOf o) (rises o a) (a .ready .within) (inside o a) _ _ n l
+  good (others o a u x) =
+      quiet-good film st (endOf o) (rises o a) (a .ready .within) (inside o a) l _
+      (quiet-moves film st (endOf o) (rises o a) (a .ready .within) (inside o a) (o .kind) (o .version) (bodyOf film o))
 
   step-good : Good (length film) st l (stepOf film st n l)
-  unfolding stepOf
-  step-good = standing-good (nextOf film st (length (l .palette)) (length (l .first)) (length (l .second))) refl
+  step-good = good (view-of film st n l)
 
   -- the state that a step gives is further on in the film, or the one that came in
   pub step-moves : Moves (length film) st (stepOf film st n l .step .answer)

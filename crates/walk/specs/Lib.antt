@@ -1,5 +1,8 @@
 pub mod Walk
 pub mod Draws
+pub mod View
+pub mod Possible
+pub mod Play
 pub mod Beyond
 pub mod Apart
 pub mod Forms

@@ -1,4 +1,4 @@
--- Each family of blocks stores the pixels of its kind: what the family's function asks, and that what it stores is the block's plan.
+-- Each family of blocks: what its function asks, its room in the pictures and the sources of its pixels.
 -- Assumes nothing.
 use mathlib.Core.Path.{_≡_, refl, sym, ap, _∙_, subst}
 use mathlib.Core.Logic.{_⊎_, inl, inr, ⊎-elim}
@@ -15,16 +15,13 @@ use Rattle.motion.specs.Motion.{negated, rasterIndex, copiedIndex, Short, Onwar
 use Rattle.motion.proofs.Vectors.{ahead-onward, negated-twice, inside-each, onward-past}
 use Rattle.block.specs.declared.Source.{Source}
 use Rattle.block.specs.declared.Source.the-variants.{Data, Front, Back}
-use Rattle.block.specs.Block.{Side, pixels, Kind, same, patterned, celled, dithered, kindOf, dataLength, cellSource, ditherSource, source, fetched}
+use Rattle.block.specs.Block.{Side, pixels, Kind, same, patterned, celled, dithered, kindOf, dataLength, cellSource, ditherSource, source}
 use Rattle.block.specs.Asked.{vectorOf}
 use Rattle.block.proofs.Codes.{kind-0, kind-1, kind-back, copy-judged}
 use Rattle.pixel.proofs.Sources.{same-source, back-source, front-source, form-source-is, cell-source-is, dither-source-is}
-use Rattle.stores.specs.Stores.{firstPixels}
-use Rattle.stores.proofs.Pixels.{first-agree}
-use Rattle.paint.specs.Paint.{single, fixedValue, backValue}
-use Rattle.paint.specs.Value.{pixelCount, pixelValue, blockPlan}
+use Rattle.paint.specs.Value.{pixelCount}
 use Rattle.paint.specs.Asked.{Square, Canvas, Drawable}
-use Rattle.rows.specs.Row.{Disjoint}
+use Rattle.rows.specs.Row.{Sources, Disjoint}
 use Rattle.whole.specs.Asked.{Pointed, Clear}
 
 -- ---- the picture
@@ -77,30 +74,22 @@ module _ (w h x y front back : ℕ) (c : Canvas w h x y front back) where
 pub pointed-front : (w h x y front back : ℕ) → Canvas w h x y front back → (v : Vector) → Pointed v w h x y → Square w (x + v .right - v .left) (y + v .down - v .up) front
 pointed-front w h x y front back c v p = front-square _ _ _ _ _ _ (pointed-canvas w h x y front back c v p)
 
--- ---- the same pixels by another account of their values
+-- ---- the same sources in other words
 
-module _ (target : ℕ → ℕ) (b b′ : List ℕ) (n : ℕ) where
-  same-pixels : (u v : ℕ → List ℕ → ℕ) → ((i : ℕ) (a : List ℕ) → u i a ≡ v i a)
-      → b′ ≡ firstPixels (single target u) 0 b n → b′ ≡ firstPixels (single target v) 0 b n
-  same-pixels u v h e = e ∙ first-agree (single target u) (single target v) 0 0 b n (λ i l. refl) (λ i l a g. h i a)
+module _ (code : ℕ) (s : List ℕ) (w x y : ℕ) where
+  pub front-pointed : (v : Vector) → Sources code s w x y (λ i. Front (copiedIndex v w x y i))
+      → Sources code s w x y (λ i. Front (rasterIndex w (x + v .right - v .left) (y + v .down - v .up) i))
+  unfolding copiedIndex
+  front-pointed v q = q
 
-pub front-copied : (v : Vector) (w x y n : ℕ) (front b b′ : List ℕ)
-    → b′ ≡ firstPixels (single (rasterIndex w x y) (fixedValue (rasterIndex w (x + v .right - v .left) (y + v .down - v .up)) front)) 0 b n
-    → b′ ≡ firstPixels (single (rasterIndex w x y) (fixedValue (copiedIndex v w x y) front)) 0 b n
-unfolding fixedValue copiedIndex
-front-copied v w x y n front b b′ e = same-pixels (rasterIndex w x y) b b′ n _ _ (λ i a. refl) e
+  pub back-pointed : (v : Vector) → Sources code s w x y (λ i. Back (copiedIndex v w x y i))
+      → Sources code s w x y (λ i. Back (rasterIndex w (x + v .right - v .left) (y + v .down - v .up) i))
+  unfolding copiedIndex
+  back-pointed v q = q
 
-pub back-copied : (v : Vector) (w x y n : ℕ) (b b′ : List ℕ)
-    → b′ ≡ firstPixels (single (rasterIndex w x y) (backValue (rasterIndex w (x + v .right - v .left) (y + v .down - v .up)))) 0 b n
-    → b′ ≡ firstPixels (single (rasterIndex w x y) (backValue (copiedIndex v w x y))) 0 b n
-unfolding backValue copiedIndex
-back-copied v w x y n b b′ e = same-pixels (rasterIndex w x y) b b′ n _ _ (λ i a. refl) e
-
-pub form-painted : (f g : Form) (q : Shape) (target : ℕ → ℕ) (s b b′ : List ℕ) (n : ℕ) → f ≡ g → shape g ≡ q
-    → b′ ≡ firstPixels (single target (fixedValue (patternSource q s) s)) 0 b n
-    → b′ ≡ firstPixels (single target (fixedValue (patternSource (shape f) s) s)) 0 b n
-form-painted f g q target s b b′ n e k h =
-    subst (λ (x : Shape). b′ ≡ firstPixels (single target (fixedValue (patternSource x s) s)) 0 b n) (sym (ap shape e ∙ k)) h
+  pub form-shaped : (f g : Form) (q : Shape) → f ≡ g → shape g ≡ q
+      → Sources code s w x y (λ i. Data (patternSource (shape f) s i)) → Sources code s w x y (λ i. Data (patternSource q s i))
+  form-shaped f g q e k = subst (λ (z : Shape). Sources code s w x y (λ i. Data (patternSource z s i))) (ap shape e ∙ k)
 
 -- ---- what each kind asks
 
@@ -131,51 +120,27 @@ module _ (code : ℕ) (s : List ℕ) (w h x y n : ℕ) (d : Drawable code s w h 
       below-2 (suc zero) h = inr refl
       below-2 (suc (suc c)) h = absurd (let z : ⊥ = omega arith in z)
 
--- ---- what each family's function stores
+-- ---- the sources of each kind
 
-module _ (code : ℕ) (s : List ℕ) (w x y n : ℕ) (front b b′ : List ℕ) where
-  -- a family whose pixels are what stands at the sources of the block's code
-  by-source : (u : ℕ → List ℕ → ℕ) (from : ℕ → Source) → ((i : ℕ) (a : List ℕ) → u i a ≡ fetched (from i) s front a)
-      → ((i : ℕ) → from i ≡ source (kindOf code s) s w x y i)
-      → b′ ≡ firstPixels (single (rasterIndex w x y) u) 0 b n → b′ ≡ firstPixels (blockPlan (kindOf code s) s w x y front) 0 b n
-  unfolding pixelValue
-  by-source u from h k e =
-      e
-      ∙ first-agree (single (rasterIndex w x y) u) (blockPlan (kindOf code s) s w x y front) 0 0 b n (λ i l. refl)
-      (λ i l a g. h i a ∙ ap (λ (z : Source). fetched z s front a) (k i))
+module _ (code : ℕ) (s : List ℕ) (w h x y : ℕ) (d : Drawable code s w h x y 64) where
+  of-kind : (from : ℕ → Source) → ((i : ℕ) → from i ≡ source (kindOf code s) s w x y i) → Sources code s w x y from
+  of-kind from e = record { all = d .count; each = λ i l. e i }
 
-  pub paints-same : kindOf code s ≡ same → b′ ≡ firstPixels (single (rasterIndex w x y) (fixedValue (rasterIndex w x y) front)) 0 b n
-      → b′ ≡ firstPixels (blockPlan (kindOf code s) s w x y front) 0 b n
-  unfolding fixedValue fetched
-  paints-same k = by-source _ (λ i. Front (rasterIndex w x y i)) (λ i a. refl) (λ i. same-source code s w x y i _ k refl)
+  pub same-sources : kindOf code s ≡ same → Sources code s w x y (λ i. Front (rasterIndex w x y i))
+  same-sources k = of-kind _ (λ i. same-source code s w x y i _ k refl)
 
   -- codes 2 and 3 copy back, 4 and 5 front, by the vector of their kind
-  pub paints-back : (v : Vector) → 1 < code → code < 4 → v ≡ vectorOf (kindOf code s)
-      → b′ ≡ firstPixels (single (rasterIndex w x y) (backValue (copiedIndex v w x y))) 0 b n
-      → b′ ≡ firstPixels (blockPlan (kindOf code s) s w x y front) 0 b n
-  unfolding backValue fetched
-  paints-back v g l e = by-source _ (λ i. Back (copiedIndex v w x y i)) (λ i a. refl) (λ i. back-source code s w x y i _ v g l e refl)
+  pub back-sources : (v : Vector) → 1 < code → code < 4 → v ≡ vectorOf (kindOf code s) → Sources code s w x y (λ i. Back (copiedIndex v w x y i))
+  back-sources v g l e = of-kind _ (λ i. back-source code s w x y i _ v g l e refl)
 
-  pub paints-front : (v : Vector) → 3 < code → code < 6 → v ≡ vectorOf (kindOf code s)
-      → b′ ≡ firstPixels (single (rasterIndex w x y) (fixedValue (copiedIndex v w x y) front)) 0 b n
-      → b′ ≡ firstPixels (blockPlan (kindOf code s) s w x y front) 0 b n
-  unfolding fixedValue fetched
-  paints-front v g l e = by-source _ (λ i. Front (copiedIndex v w x y i)) (λ i a. refl) (λ i. front-source code s w x y i _ v g l e refl)
+  pub front-sources : (v : Vector) → 3 < code → code < 6 → v ≡ vectorOf (kindOf code s) → Sources code s w x y (λ i. Front (copiedIndex v w x y i))
+  front-sources v g l e = of-kind _ (λ i. front-source code s w x y i _ v g l e refl)
 
-  pub paints-form : (f : Form) → kindOf code s ≡ patterned f
-      → b′ ≡ firstPixels (single (rasterIndex w x y) (fixedValue (patternSource (shape f) s) s)) 0 b n
-      → b′ ≡ firstPixels (blockPlan (kindOf code s) s w x y front) 0 b n
-  unfolding fixedValue fetched
-  paints-form f k = by-source _ (λ i. Data (patternSource (shape f) s i)) (λ i a. refl) (λ i. form-source-is code s w x y i _ f k refl)
+  pub form-sources : (f : Form) → kindOf code s ≡ patterned f → Sources code s w x y (λ i. Data (patternSource (shape f) s i))
+  form-sources f k = of-kind _ (λ i. form-source-is code s w x y i _ f k refl)
 
-  pub paints-cells : (c : Side) → kindOf code s ≡ celled c
-      → b′ ≡ firstPixels (single (rasterIndex w x y) (fixedValue (cellSource (pixels c)) s)) 0 b n
-      → b′ ≡ firstPixels (blockPlan (kindOf code s) s w x y front) 0 b n
-  unfolding fixedValue fetched
-  paints-cells c k = by-source _ (λ i. Data (cellSource (pixels c) i)) (λ i a. refl) (λ i. cell-source-is code s w x y i _ c k refl)
+  pub cell-sources : (c : Side) → kindOf code s ≡ celled c → Sources code s w x y (λ i. Data (cellSource (pixels c) i))
+  cell-sources c k = of-kind _ (λ i. cell-source-is code s w x y i _ c k refl)
 
-  pub paints-dither : kindOf code s ≡ dithered
-      → b′ ≡ firstPixels (single (rasterIndex w x y) (fixedValue ditherSource s)) 0 b n
-      → b′ ≡ firstPixels (blockPlan (kindOf code s) s w x y front) 0 b n
-  unfolding fixedValue fetched
-  paints-dither k = by-source _ (λ i. Data (ditherSource i)) (λ i a. refl) (λ i. dither-source-is code s w x y i _ k refl)
+  pub dither-sources : kindOf code s ≡ dithered → Sources code s w x y (λ i. Data (ditherSource i))
+  dither-sources k = of-kind _ (λ i. dither-source-is code s w x y i _ k refl)

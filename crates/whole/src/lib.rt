@@ -17,36 +17,69 @@ ghost use Prim.Native.Nat.{_≤_, _<_};
 ghost use lib.ListN.{length};
 ghost use Rattle.pattern.specs.Form.{shape};
 ghost use Rattle.pattern.specs.Pattern.{patternLength, patternSource};
-ghost use Rattle.motion.specs.Motion.{rasterIndex, copiedIndex};
+ghost use Rattle.motion.specs.Motion.{copiedIndex};
+ghost use Rattle.block.specs.declared.Source.the-variants.{Data, Front, Back};
 ghost use Rattle.block.specs.Block.{kindOf};
 ghost use Rattle.stores.specs.Stores.{firstPixels};
-ghost use Rattle.paint.specs.Paint.{single, fixedValue, backValue};
-ghost use Rattle.paint.specs.Value.{pixelCount, blockPlan};
+ghost use Rattle.paint.specs.Value.{pixelCount, planOf};
 ghost use Rattle.paint.specs.Asked.{Square, Canvas, Drawable};
+ghost use Rattle.rows.specs.Row.{Sources};
 ghost use Rattle.whole.specs.Asked.{Pointed, Clear};
 
 // A copy of the 8x8 of front that v points at.
-fn front_by(v: Vector, front: &[u8], back: &mut [u8], w: usize, h: usize, x: usize, y: usize)
-    requires { ⌜ Pointed v w h x y × Canvas w h x y (length (now front)) (length (now back)) ⌝ }
-    ensures { λ _. ⌜ now (back .exit) ≡ firstPixels (single (rasterIndex w x y) (fixedValue (copiedIndex v w x y) (now (front .entry)))) 0 (now (back .entry)) 64 ⌝ }
+fn front_by(
+    code: u8,
+    s: &[u8],
+    front: &[u8],
+    back: &mut [u8],
+    w: usize,
+    h: usize,
+    x: usize,
+    y: usize,
+    v: Vector,
+)
+    requires { ⌜ Sources code (now s) w x y (λ i. Front (copiedIndex v w x y i)) × Pointed v w h x y × Canvas w h x y (length (now front)) (length (now back)) ⌝ }
+    ensures { λ _. ⌜ now (back .exit) ≡ firstPixels (planOf code (now (s .entry)) (now (front .entry)) w x y) 0 (now (back .entry)) 64 ⌝ }
 {
     whole_front(
+        code,
+        s,
         front,
         back,
         w,
-        x + v.right - v.left,
-        y + v.down - v.up,
         x,
         y,
+        x + v.right - v.left,
+        y + v.down - v.up,
     )
 }
 
 // A copy of the 8x8 of back that v points at.
-fn back_by(v: Vector, back: &mut [u8], w: usize, h: usize, x: usize, y: usize)
-    requires { ⌜ Pointed v w h x y × Clear v × Canvas w h x y (length (now back)) (length (now back)) ⌝ }
-    ensures { λ _. ⌜ now (back .exit) ≡ firstPixels (single (rasterIndex w x y) (backValue (copiedIndex v w x y))) 0 (now (back .entry)) 64 ⌝ }
+fn back_by(
+    code: u8,
+    s: &[u8],
+    front: &[u8],
+    back: &mut [u8],
+    w: usize,
+    h: usize,
+    x: usize,
+    y: usize,
+    v: Vector,
+)
+    requires { ⌜ Sources code (now s) w x y (λ i. Back (copiedIndex v w x y i)) × Pointed v w h x y × Clear v × Canvas w h x y (length (now back)) (length (now back)) ⌝ }
+    ensures { λ _. ⌜ now (back .exit) ≡ firstPixels (planOf code (now (s .entry)) (now (front .entry)) w x y) 0 (now (back .entry)) 64 ⌝ }
 {
-    whole_back(back, w, x + v.right - v.left, y + v.down - v.up, x, y)
+    whole_back(
+        code,
+        s,
+        front,
+        back,
+        w,
+        x,
+        y,
+        x + v.right - v.left,
+        y + v.down - v.up,
+    )
 }
 
 // A block of code 2 to 5: a branch with two ways, since four are mispredicted more often.
@@ -61,33 +94,42 @@ fn copy_by(
     y: usize,
 )
     requires { ⌜ Drawable code (now s) w h x y 64 × Canvas w h x y (length (now front)) (length (now back)) × (1 < code) × (code < 6) ⌝ }
-    ensures { λ _. ⌜ now (back .exit) ≡ firstPixels (blockPlan (kindOf code (now (s .entry))) (now (s .entry)) w x y (now (front .entry))) 0 (now (back .entry)) 64 ⌝ }
+    ensures { λ _. ⌜ now (back .exit) ≡ firstPixels (planOf code (now (s .entry)) (now (front .entry)) w x y) 0 (now (back .entry)) 64 ⌝ }
 {
     let v = copied_vector(code, s);
     if code < 4 {
-        return back_by(v, back, w, h, x, y);
+        return back_by(code, s, front, back, w, h, x, y, v);
     }
-    front_by(v, front, back, w, h, x, y)
+    front_by(code, s, front, back, w, h, x, y, v)
 }
 
 // A patterned block. The numbers of each form are literals, so that each form has a loop of its own.
-fn whole_form(form: Form, s: &[u8], back: &mut [u8], w: usize, x: usize, y: usize)
-    requires { ⌜ (patternLength (shape form) ≤ length (now s)) × Square w x y (length (now back)) ⌝ }
-    ensures { λ _. ⌜ now (back .exit) ≡ firstPixels (single (rasterIndex w x y) (fixedValue (patternSource (shape form) (now (s .entry))) (now (s .entry)))) 0 (now (back .entry)) 64 ⌝ }
+fn whole_form(
+    code: u8,
+    s: &[u8],
+    front: &[u8],
+    back: &mut [u8],
+    w: usize,
+    x: usize,
+    y: usize,
+    form: Form,
+)
+    requires { ⌜ Sources code (now s) w x y (λ i. Data (patternSource (shape form) (now s) i)) × (patternLength (shape form) ≤ length (now s)) × Square w x y (length (now back)) ⌝ }
+    ensures { λ _. ⌜ now (back .exit) ≡ firstPixels (planOf code (now (s .entry)) (now (front .entry)) w x y) 0 (now (back .entry)) 64 ⌝ }
 {
     match form {
-        Form::Two1x1 => whole_pattern(1, 8, 8, 1, 1, s, back, w, x, y),
-        Form::Two2x2 => whole_pattern(1, 8, 8, 2, 2, s, back, w, x, y),
-        Form::TwoQuarters => whole_pattern(1, 4, 4, 1, 1, s, back, w, x, y),
-        Form::TwoLeftRight => whole_pattern(1, 4, 8, 1, 1, s, back, w, x, y),
-        Form::TwoTopBottom => whole_pattern(1, 8, 4, 1, 1, s, back, w, x, y),
-        Form::Four1x1 => whole_pattern(2, 8, 8, 1, 1, s, back, w, x, y),
-        Form::Four2x2 => whole_pattern(2, 8, 8, 2, 2, s, back, w, x, y),
-        Form::Four2x1 => whole_pattern(2, 8, 8, 2, 1, s, back, w, x, y),
-        Form::Four1x2 => whole_pattern(2, 8, 8, 1, 2, s, back, w, x, y),
-        Form::FourQuarters => whole_pattern(2, 4, 4, 1, 1, s, back, w, x, y),
-        Form::FourLeftRight => whole_pattern(2, 4, 8, 1, 1, s, back, w, x, y),
-        Form::FourTopBottom => whole_pattern(2, 8, 4, 1, 1, s, back, w, x, y),
+        Form::Two1x1 => whole_pattern(code, s, front, back, w, x, y, 1, 8, 8, 1, 1),
+        Form::Two2x2 => whole_pattern(code, s, front, back, w, x, y, 1, 8, 8, 2, 2),
+        Form::TwoQuarters => whole_pattern(code, s, front, back, w, x, y, 1, 4, 4, 1, 1),
+        Form::TwoLeftRight => whole_pattern(code, s, front, back, w, x, y, 1, 4, 8, 1, 1),
+        Form::TwoTopBottom => whole_pattern(code, s, front, back, w, x, y, 1, 8, 4, 1, 1),
+        Form::Four1x1 => whole_pattern(code, s, front, back, w, x, y, 2, 8, 8, 1, 1),
+        Form::Four2x2 => whole_pattern(code, s, front, back, w, x, y, 2, 8, 8, 2, 2),
+        Form::Four2x1 => whole_pattern(code, s, front, back, w, x, y, 2, 8, 8, 2, 1),
+        Form::Four1x2 => whole_pattern(code, s, front, back, w, x, y, 2, 8, 8, 1, 2),
+        Form::FourQuarters => whole_pattern(code, s, front, back, w, x, y, 2, 4, 4, 1, 1),
+        Form::FourLeftRight => whole_pattern(code, s, front, back, w, x, y, 2, 4, 8, 1, 1),
+        Form::FourTopBottom => whole_pattern(code, s, front, back, w, x, y, 2, 8, 4, 1, 1),
     }
 }
 
@@ -103,24 +145,24 @@ fn paint_all(
     y: usize,
 )
     requires { ⌜ Drawable code (now s) w h x y 64 × Canvas w h x y (length (now front)) (length (now back)) ⌝ }
-    ensures { λ _. ⌜ now (back .exit) ≡ firstPixels (blockPlan (kindOf code (now (s .entry))) (now (s .entry)) w x y (now (front .entry))) 0 (now (back .entry)) 64 ⌝ }
+    ensures { λ _. ⌜ now (back .exit) ≡ firstPixels (planOf code (now (s .entry)) (now (front .entry)) w x y) 0 (now (back .entry)) 64 ⌝ }
 {
     if code < 2 {
-        return whole_front(front, back, w, x, y, x, y);
+        return whole_front(code, s, front, back, w, x, y, x, y);
     }
     if code < 6 {
         return copy_by(code, s, front, back, w, h, x, y);
     }
     match code {
-        7 => whole_form(form_of_7(s), s, back, w, x, y),
-        8 => whole_form(form_of_8(s), s, back, w, x, y),
-        9 => whole_form(form_of_9(s), s, back, w, x, y),
-        10 => whole_form(form_of_a(s), s, back, w, x, y),
-        11 => whole_raw(s, back, w, x, y),
-        12 => whole_cells(2, s, back, w, x, y),
-        13 => whole_cells(4, s, back, w, x, y),
-        14 => whole_cells(8, s, back, w, x, y),
-        15 => whole_dither(s, back, w, x, y),
+        7 => whole_form(code, s, front, back, w, x, y, form_of_7(s)),
+        8 => whole_form(code, s, front, back, w, x, y, form_of_8(s)),
+        9 => whole_form(code, s, front, back, w, x, y, form_of_9(s)),
+        10 => whole_form(code, s, front, back, w, x, y, form_of_a(s)),
+        11 => whole_raw(code, s, front, back, w, x, y),
+        12 => whole_cells(code, s, front, back, w, x, y, 2),
+        13 => whole_cells(code, s, front, back, w, x, y, 4),
+        14 => whole_cells(code, s, front, back, w, x, y, 8),
+        15 => whole_dither(code, s, front, back, w, x, y),
         _ => {}
     }
 }
@@ -137,7 +179,7 @@ pub fn paint_whole(
     y: usize,
 )
     requires { ⌜ Drawable code (now s) w h x y (pixelCount (kindOf code (now s))) × Canvas w h x y (length (now front)) (length (now back)) ⌝ }
-    ensures { λ _. ⌜ now (back .exit) ≡ firstPixels (blockPlan (kindOf code (now (s .entry))) (now (s .entry)) w x y (now (front .entry))) 0 (now (back .entry)) (pixelCount (kindOf code (now (s .entry)))) ⌝ }
+    ensures { λ _. ⌜ now (back .exit) ≡ firstPixels (planOf code (now (s .entry)) (now (front .entry)) w x y) 0 (now (back .entry)) (pixelCount (kindOf code (now (s .entry)))) ⌝ }
 {
     if code == 1 {
         return;

@@ -13,7 +13,7 @@ use Rattle.stores.specs.Calls.{answered, leave, outcome}
 use Rattle.paint.specs.Value.{pixelCount, pixelValue}
 use Rattle.draw.specs.Drawing.{sizeAt, targetAt, valueAt}
 use Rattle.draw.specs.Call.{callVerdict, comes}
-use Rattle.palette.specs.Store.{applied, each, byte}
+use Rattle.listed.specs.Store.{applied, each, byte}
 use Rattle.palette.specs.Update.{legal as legalStores, verdict as paletteVerdict, verdictFor, onAccept, paletteAfter}
 use Rattle.palette.specs.Gradient.{fits, level, component}
 use Rattle.worked.specs.Cases.{Case, valuesFrom, pixels, offset, palette, example, answer, twoHalves, cases}

@@ -10,8 +10,8 @@ use Rattle.block.specs.Block.{codeAt, kindOf}
 use Rattle.paint.specs.Value.{pixelValue}
 use Rattle.packet.specs.Verdict.{default}
 use Rattle.stores.specs.Stores.{Memory, memory}
-use Rattle.stores.specs.Calls.{Answer, whole, unfinished, refusal, Outcome, reply}
-use Rattle.draw.specs.Call.{Request, within, request, Reason, calling, leaves}
+use Rattle.stores.specs.Calls.{Answer, whole, unfinished, refusal}
+use Rattle.draw.specs.Call.{Request, within, request, Reason, leaves, Report, report}
 use Rattle.palette.specs.Update.{paletteAfter}
 use Rattle.palette.specs.Gradient.{createGradient}
 
@@ -54,8 +54,8 @@ example n = request 2 1 (0xe2 ∷ []) (0x00 ∷ 0x07 ∷ []) (replicate 128 0) (
 abbrev pub drawn : ℕ → Memory
 drawn n = leaves (example n) (memory (replicate 128 5) 0) .drawn
 
-abbrev pub said : ℕ → Outcome Reason
-said n = reply calling (memory (replicate 128 5) 0) (example n)
+abbrev pub said : ℕ → Report
+said n = report (memory (replicate 128 5) 0) (example n)
 
 -- "whole" as 1, "unfinished" as 2, a refusal as 4
 unfoldable pub answer : Answer Reason → ℕ

@@ -19,6 +19,12 @@ impl<A: Decoder, B: Decoder> Comparison<A, B> {
     /// Compares the answer to an opening, with the state, and the palette and the place that it
     /// leaves. A refusal leaves both as found.
     pub fn begin(&mut self, opening: &Opening) -> Result<(), Difference> {
+        self.tally.films += 1;
+        self.begun(opening).map(drop)
+    }
+
+    /// The same, with what the first decoder answers and leaves.
+    pub(crate) fn begun(&mut self, opening: &Opening) -> Result<Left, Difference> {
         let one = Left::by(&self.first, opening);
         let other = Left::by(&self.second, opening);
         one.agrees(&other)?;
@@ -27,16 +33,16 @@ impl<A: Decoder, B: Decoder> Comparison<A, B> {
             one.agrees(&Left { by: "as found", answer: one.answer, palette, place })?;
         }
         self.tally.begun(opening, one.answer);
-        Ok(())
+        Ok(one)
     }
 }
 
 /// What an opening answers and leaves.
-struct Left {
+pub(crate) struct Left {
     by: &'static str,
-    answer: Begun,
-    palette: Vec<u8>,
-    place: usize,
+    pub(crate) answer: Begun,
+    pub(crate) palette: Vec<u8>,
+    pub(crate) place: usize,
 }
 
 impl Left {

@@ -1,12 +1,13 @@
 //! Comparing two decoders on films.
 
-use crate::cases::Walk;
+use crate::cases::{Opening, Walk};
 use crate::comparison::Comparison;
 use crate::decoder::{Decoder, Step, Walked};
 use crate::difference::{difference_outside, first_difference, Difference, Part};
 use maker::states::Start;
 use reference::film::State;
 use reference::refusal;
+use reference::sound::NO_STREAM;
 use reference::{CallForm, Rows};
 use std::fmt;
 
@@ -16,16 +17,9 @@ impl<A: Decoder, B: Decoder> Comparison<A, B> {
     /// taken again with room enough, and one that the strict form refuses for what its packet leaves
     /// over (15) in the default form. Each decoder has memory of its own.
     pub fn walk(&mut self, walk: &Walk) -> Result<(), Difference> {
-        let (film, stream) = (&walk.film, walk.stream);
-        let (one, other) = (self.first.open(film, stream), self.second.open(film, stream));
-        if one != other {
-            let (call, names) = ((0, CallForm::Default), (self.first.name(), self.second.name()));
-            return differs(call, Part::Answer, (names.0, one), (names.1, other));
-        }
-        self.tally.opened(one);
-        let Some(state) = walk.state.or(one.ok()) else { return Ok(()) };
-
-        let mut first = lent(walk, state);
+        self.tally.films += 1;
+        let film = &walk.film;
+        let Some(mut first) = self.start(walk)? else { return Ok(()) };
         let mut second = first.clone();
         let mut again = None;
         for (number, (&allowed, &form)) in walk.allowances.iter().zip(&walk.forms).enumerate() {
@@ -45,6 +39,31 @@ impl<A: Decoder, B: Decoder> Comparison<A, B> {
             }
         }
         Ok(())
+    }
+
+    /// Compares the opening. What the first step is given; none where the film cannot be opened.
+    ///
+    /// A film that is walked without sound is opened up to its size by one call (02, W8). Separate
+    /// calls open a film with sound, of which the samples before the size are compared; a film that is
+    /// refused before its size, of which every step up to there is compared; and one that is walked
+    /// from a state in its middle.
+    fn start(&mut self, walk: &Walk) -> Result<Option<Start>, Difference> {
+        let Walk { film, stream, state, palette, place, .. } = walk;
+        if state.is_none() && *stream >= NO_STREAM {
+            let (film, palette) = (film.clone(), palette.clone());
+            let left = self.begun(&Opening { film, stream: *stream, palette, place: *place })?;
+            if let Ok(state) = left.answer {
+                let (palette, place) = (left.palette, left.place);
+                return Ok(Some(Start { palette, place, ..lent(walk, state) }));
+            }
+        }
+        let (one, other) = (self.first.open(film, *stream), self.second.open(film, *stream));
+        if one != other {
+            let (call, names) = ((0, CallForm::Default), (self.first.name(), self.second.name()));
+            return differs(call, Part::Answer, (names.0, one), (names.1, other));
+        }
+        self.tally.opened(one);
+        Ok(state.or(one.ok()).map(|state| lent(walk, state)))
     }
 }
 
@@ -187,12 +206,12 @@ impl<'a> Seen<'a> {
     }
 }
 
-fn differs<T: fmt::Debug>(
+fn differs<R, T: fmt::Debug>(
     (call, form): (usize, CallForm),
     part: Part,
     one: (&'static str, T),
     other: (&'static str, T),
-) -> Result<(), Difference> {
+) -> Result<R, Difference> {
     let accounts = [one, other].map(|(by, value)| (by, format!("{value:?}")));
     Err(Difference { call, form, part, accounts })
 }

@@ -201,7 +201,6 @@ impl Tally {
 
     /// Counts an opening.
     pub(crate) fn opened(&mut self, answer: Result<State, Refusal>) {
-        self.films += 1;
         match answer {
             Err(refusal) => self.refused(refusal),
             Ok(_) => self.note(Event::Opened),
@@ -210,7 +209,6 @@ impl Tally {
 
     /// Counts an opening up to the size, with what the steps up to there took.
     pub(crate) fn begun(&mut self, opening: &Opening, answer: Begun) {
-        self.films += 1;
         let Opening { film, stream, .. } = opening;
         let (end, number) = match answer {
             Ok(state) => {

@@ -15,6 +15,7 @@ fn films() {
     let compared = comparison.run(Kind::Films, SEED, 0..FILMS);
     compared.unwrap_or_else(|found| panic!("{found}"));
     let answers = [
+        Event::Begun(false),
         Event::Opened,
         Event::Taken,
         Event::Whole,

@@ -2,8 +2,10 @@
 //! each step is allowed few stores, and where it goes on from a saved state.
 
 use maker::{film, sound, sound_damage, Seeded};
-use mve::{Event, Memory, Player, Refusal, PALETTE_BYTES, PICTURE_BYTES, ROOM_BYTES};
-use reference::pictures;
+use mve::{Error, Event, Memory, Player, Refusal};
+use mve::{NO_STREAM, PALETTE_BYTES, PICTURE_BYTES, ROOM_BYTES};
+use reference::film::HEADER;
+use reference::{begin, pictures};
 
 /// What a loop gave: the colours of each picture, the samples, how often it was unfinished, and the
 /// refusal.
@@ -34,6 +36,20 @@ impl Given {
     }
 }
 
+/// A player at the beginning of a film. Without sound, one call opens the film up to its size (02, W8).
+/// With sound, separate calls do: the samples before the size are to be heard.
+fn opened<'a>(
+    film: &'a [u8],
+    stream: usize,
+    memory: Memory<'a>,
+) -> Result<Player<'a, 'a>, Refusal> {
+    if stream < NO_STREAM {
+        Player::open(film, stream, memory)
+    } else {
+        Player::begin(film, stream, memory).map_err(|unbegun| unbegun.refusal)
+    }
+}
+
 /// Plays a film, by a new player after every so many steps: it has the state that the last one gave,
 /// and the same memory.
 fn play(film: &[u8], stream: usize, allowed: usize, steps: usize) -> Given {
@@ -51,7 +67,7 @@ fn play(film: &[u8], stream: usize, allowed: usize, steps: usize) -> Given {
         };
         let player = match saved {
             Some(state) => Ok(Player::resume(film, state, memory)),
-            None => Player::open(film, stream, memory),
+            None => opened(film, stream, memory),
         };
         let mut player = match player {
             Ok(player) => player.allowed(allowed),
@@ -70,8 +86,12 @@ fn play(film: &[u8], stream: usize, allowed: usize, steps: usize) -> Given {
 
 fn assert_given(film: &[u8], stream: usize, allowed: usize, steps: usize) -> Given {
     let (given, second) = (play(film, stream, allowed, steps), pictures::play(film, stream));
+    // The second decoder plays by separate calls, and those do not refuse a film without a size (21).
+    let begun = begin::begin(film, stream, &mut [0; PALETTE_BYTES], &mut 0);
+    let unbegun = begun.err().filter(|_| stream >= NO_STREAM).map(|unbegun| unbegun.refusal);
+    let expected = unbegun.or(second.refusal);
     let refusal = given.refusal.map(|refusal| (refusal.number(), refusal.block));
-    assert_eq!(refusal, second.refusal.map(|refusal| (refusal.number, refusal.block)));
+    assert_eq!(refusal, expected.map(|refusal| (refusal.number, refusal.block)));
     assert_eq!(given.pictures.len(), second.pictures.len());
     for (number, (picture, ppm)) in given.pictures.iter().zip(&second.pictures).enumerate() {
         assert!(ppm.ends_with(picture) && ppm.len() - picture.len() < 60, "picture {number}");
@@ -89,32 +109,39 @@ fn films() {
         let stream = rng.below(16);
         let film = sound::with_frames(rng, stream, 3).bytes();
         for (allowed, steps) in [(mve::ALL_STORES, usize::MAX), (mve::BLOCK_STORES, 7), (1000, 1)] {
-            let given = assert_given(&film, stream, allowed, steps);
-            pictures += given.pictures.len();
-            samples += given.samples.len();
-            unfinished += given.unfinished;
-            assert_eq!(given.refusal, None, "seed {seed}");
+            for stream in [stream, NO_STREAM] {
+                let given = assert_given(&film, stream, allowed, steps);
+                pictures += given.pictures.len();
+                samples += given.samples.len();
+                unfinished += given.unfinished;
+                assert_eq!(given.refusal, None, "seed {seed}");
+            }
         }
     }
     assert!(
-        pictures >= 300 && samples >= 10_000 && unfinished >= 1000,
+        pictures >= 600 && samples >= 10_000 && unfinished >= 2000,
         "{pictures} {samples} {unfinished}"
     );
 }
 
 #[test]
 fn refused_films() {
-    let mut refused = 0;
+    let (mut refused, mut silent, mut unsized_films) = (0, 0, 0);
     for seed in 0..60 {
         let rng = &mut Seeded::new(seed);
-        for film in [film::hostile(rng), sound::scratched(rng, 0), sound::hostile(rng), Vec::new()]
-        {
+        let any = [film::hostile(rng), sound::scratched(rng, 0), sound::hostile(rng)];
+        let damaged =
+            sound_damage::Damage::ALL.map(|damage| sound_damage::damaged(rng, 0, damage).bytes());
+        for film in any.into_iter().chain(damaged).chain([Vec::new(), HEADER.to_vec()]) {
             refused += usize::from(assert_given(&film, 0, 1000, 5).refusal.is_some());
-        }
-        for damage in sound_damage::Damage::ALL {
-            let film = sound_damage::damaged(rng, 0, damage).bytes();
-            refused += usize::from(assert_given(&film, 0, 1000, 5).refusal.is_some());
+            if let Some(refusal) = assert_given(&film, NO_STREAM, 1000, 5).refusal {
+                silent += 1;
+                unsized_films += usize::from(refusal.error == Error::NoSize);
+            }
         }
     }
-    assert!(refused >= 200, "{refused}");
+    assert!(
+        refused >= 200 && silent >= 150 && unsized_films >= 60,
+        "{refused} {silent} {unsized_films}"
+    );
 }

@@ -87,7 +87,8 @@ macro_rules! errors {
 }
 
 errors! {
-    /// The film's header is wrong or short. Only [`open`](crate::open) meets it.
+    /// The film's header is wrong or short. Only [`open`](crate::open) and [`begin`](crate::begin())
+    /// meet it.
     Header = 1, "the film does not begin with the header of an MVE film";
     /// A chunk or its head passes the end of the film.
     Chunk = 2, "a chunk or its head passes the end of the film";
@@ -125,7 +126,7 @@ errors! {
     SoundLength = 18, "the sound's data or its count of samples has a wrong length";
     /// A room that is too small for the samples.
     Room = 19, "the room is too small for the samples";
-    /// A film that ends without a frame size; only [`begin`](crate::begin()).
+    /// A film that ends without a frame size. Only [`begin`](crate::begin()) meets it.
     NoSize = 21, "the film ends without a frame size";
     /// A position outside the picture. Only [`origin`](crate::origin()) meets it.
     Position = 22, "the position lies outside the picture";

@@ -138,7 +138,8 @@ fn refusals() {
     assert_eq!(refused(&long, 16), (3, 50));
     // 1 comes first, and has a state of zeros; then 8, by the first step, before 2.
     let unbegun = begin(&whole[..25], 3, &mut [], &mut 0).unwrap_err();
-    let zeros = Unbegun { refusal: Refusal { error: Error::Header, block: 0 }, state: State::default() };
+    let zeros =
+        Unbegun { refusal: Refusal { error: Error::Header, block: 0 }, state: State::default() };
     assert_eq!(unbegun, zeros);
     for length in [0, 767, 769] {
         let unbegun = begin(&whole[..27], 3, &mut vec![0; length], &mut 0).unwrap_err();

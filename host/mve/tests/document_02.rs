@@ -58,7 +58,8 @@ struct Heard {
 }
 
 /// Every step is checked to leave the rest of the room as it was, and the whole room where it is
-/// refused; every step that is no chosen sound to write nothing.
+/// refused; every step that is no chosen sound to write nothing. The film is opened by separate calls:
+/// it has no size, and the opening call drops the samples before one.
 fn hear(film: &[u8], stream: usize) -> Heard {
     let mut state = open(film, stream).expect("a header");
     let mut samples = Vec::new();

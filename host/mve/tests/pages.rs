@@ -1,5 +1,6 @@
-//! The pages: every link leads to a file, a folder or a heading that is there, and the figures in
-//! README.md are those of the pages that they are taken from.
+//! The pages: every link leads to a file, a folder or a heading that is there, every definition,
+//! function, theorem, test and edit that docs/TRACE.md and docs/DECISIONS.md name is there, and the
+//! figures in README.md are those of the pages that they are taken from.
 
 use std::fs;
 use std::path::{Path, PathBuf};
@@ -66,6 +67,81 @@ fn links_lead_somewhere() {
         }
     }
     assert!(found >= 50, "{found} links");
+}
+
+/// Whether a definition, a law, a record, a field or a constructor of this name stands in a source
+/// of antt: a word before the first colon, equals sign or bracket of a line.
+fn defines(source: &str, name: &str) -> bool {
+    source.lines().any(|line| {
+        let head = line.split([':', '=', '(', '{']).next().unwrap_or_default();
+        head.split_whitespace().any(|word| word == name)
+    })
+}
+
+/// Whether a source of Rattle or Rust has a function of this name.
+fn has_function(source: &str, name: &str) -> bool {
+    let mut behind = source.split("fn ").skip(1);
+    behind.any(|rest| rest.strip_prefix(name).is_some_and(|rest| rest.starts_with(['(', '<'])))
+}
+
+/// The Rattle sources of a crate.
+fn sources(name: &str) -> Vec<String> {
+    let files = fs::read_dir(root().join("crates").join(name).join("src")).expect("the sources");
+    files.map(|file| read(&file.expect("a file").path())).collect()
+}
+
+/// Whether what a page names is there; none where it names nothing of the tree.
+fn is_there(name: &str) -> Option<bool> {
+    let is_crate = |name: &str| !name.is_empty() && root().join("crates").join(name).is_dir();
+    let is_name = |c: char| c.is_alphanumeric() || "_-/.:−′".contains(c);
+    if !name.chars().all(is_name) {
+        return None;
+    }
+    if let Some((path, test)) = name.split_once(".rs") {
+        let path = format!("{path}.rs");
+        let test = test.strip_prefix("::");
+        let source = fs::read_to_string(root().join("host").join(&path));
+        let source = source.or_else(|_| fs::read_to_string(root().join(&path))).unwrap_or_default();
+        return Some(!source.is_empty() && test.is_none_or(|test| has_function(&source, test)));
+    }
+    let parts: Vec<&str> = name.split('/').collect();
+    match parts[..] {
+        [of, "must-fail", _] if is_crate(of) => {
+            Some(root().join("crates").join(format!("{name}.edit")).exists())
+        }
+        [of, folder @ ("specs" | "proofs"), what] if is_crate(of) => {
+            let mut names = what.trim_end_matches(".antt").split('.');
+            let file = format!("{}.antt", names.next().unwrap_or_default());
+            let path = root().join("crates").join(of).join(folder).join(file);
+            let source = fs::read_to_string(path).unwrap_or_default();
+            Some(!source.is_empty() && names.all(|name| defines(&source, name)))
+        }
+        [_] => {
+            let (of, what) = name.split_once("::").filter(|(of, _)| is_crate(of))?;
+            let function = what.rsplit("::").next().unwrap_or_default();
+            let is_there = || sources(of).iter().any(|source| has_function(source, function));
+            (!function.starts_with(char::is_uppercase)).then(is_there)
+        }
+        _ => None,
+    }
+}
+
+#[test]
+fn names_are_there() {
+    let mut found = 0;
+    for page in ["docs/TRACE.md", "docs/DECISIONS.md"] {
+        let text = read(&root().join(page));
+        for name in text.split('`').skip(1).step_by(2) {
+            let Some(there) = is_there(name) else { continue };
+            assert!(there, "{page} names {name}, which is not there");
+            found += 1;
+        }
+    }
+    assert!(found >= 1500, "{found} names");
+    for gone in ["packet/specs/Verdict.gone", "packet::gone", "packet/must-fail/gone"] {
+        assert_eq!(is_there(gone), Some(false), "{gone}");
+    }
+    assert_eq!(is_there("compare/tests/films.rs::gone"), Some(false));
 }
 
 /// The cells of the first row of a table that begins so.

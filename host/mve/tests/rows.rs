@@ -2,7 +2,7 @@
 //! worked out by hand from the documents.
 
 use mve::{
-    check, check_strict, draw, draw_strict, open, step, step_strict, Drawn, Error, Refusal, Rows,
+    begin, check, check_strict, draw, draw_strict, step, step_strict, Drawn, Error, Refusal, Rows,
     State, Step, NO_STREAM,
 };
 
@@ -94,8 +94,8 @@ fn code_0() {
     assert_eq!(back, front);
 }
 
-/// A film of one column and three rows. Its first frame touches the middle row, its second one none,
-/// its third one the last two rows.
+/// A film of one column and three rows. Its first chunk has the size, its second one the frames: the
+/// first touches the middle row, the second none, the third the last two rows.
 fn film() -> Vec<u8> {
     let word = |number: usize| (number as u16).to_le_bytes();
     let opcode = |kind, body: &[u8]| [&word(body.len())[..], &[kind, 0], body].concat();
@@ -106,9 +106,9 @@ fn film() -> Vec<u8> {
     let size = opcode(0x05, &[word(1), word(3)].concat());
     let frames =
         [frame(&[0xE1, 0x01], &[7]), frame(&[0x11, 0x01], &[]), frame(&[0x01, 0x0E], &[9])];
-    let body = [size, frames.concat()].concat();
+    let chunk = |kind, body: &[u8]| [&word(body.len())[..], &word(kind), body].concat();
     let header = b"Interplay MVE File\x1A\0\x1A\0\0\x01\x33\x11";
-    [&header[..], &word(body.len()), &word(3), &body].concat()
+    [&header[..], &chunk(2, &size), &chunk(3, &frames.concat())].concat()
 }
 
 type StepCall = fn(
@@ -129,7 +129,7 @@ fn steps() {
     for call in [step as StepCall, step_strict] {
         let film = film();
         let (mut palette, mut a, mut b, mut place) = ([0; 768], [1; 192], [2; 192], 0);
-        let mut state = open(&film, NO_STREAM).expect("a header");
+        let mut state = begin(&film, NO_STREAM, &mut palette, &mut place).expect("a size");
         let mut told = Vec::new();
         loop {
             let found = (a, b);

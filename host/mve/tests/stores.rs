@@ -1,6 +1,8 @@
-//! One function for each store (01, "Stores"): of the library's functions `paint::put`,
-//! `paint::set_place`, `palette::put` and `room::put` store to what is lent, once each, and no other
-//! does. Read from the sources, since no contract says which function stores.
+//! One function for each store (01, "Stores"): of the library's functions `paint::put` stores a
+//! pixel, `paint::set_place` the place, `palette::put` a byte of the palette, and `dpcm::put`,
+//! `dpcm::put_start_byte`, `room::put_byte` and `room::put_value` a byte of sound, once each, and no
+//! other does. Their contracts ask that a store is the next of its list; that nothing else stores is
+//! read from the sources, since no contract says which function stores.
 //!
 //! Rattle stores by assignment alone; slices have no methods that do. Lent memory is assigned to by
 //! an index, through a reference, or as a field: an assignment to a mere name is to the function's
@@ -11,7 +13,15 @@ use std::fs;
 use std::path::{Path, PathBuf};
 
 /// The functions that store, in the order of their names.
-const STORING: [&str; 4] = ["paint::put", "paint::set_place", "palette::put", "room::put"];
+const STORING: [&str; 7] = [
+    "dpcm::put",
+    "dpcm::put_start_byte",
+    "paint::put",
+    "paint::set_place",
+    "palette::put",
+    "room::put_byte",
+    "room::put_value",
+];
 
 /// Operators with an equals sign that do not assign, and those that do.
 const OTHERS: [&str; 6] = ["..=", "==", "!=", "<=", ">=", "=>"];

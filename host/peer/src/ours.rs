@@ -15,7 +15,8 @@ pub struct Account {
     pub refusal: Option<Refusal>,
 }
 
-/// Plays a film from zero pictures and palette, with the sound of a stream.
+/// Plays a film from zero pictures and palette, with the sound of a stream. The films that are compared
+/// have no samples before their size, so one call opens them up to it.
 pub fn play(film: &[u8], stream: usize) -> Account {
     let mut played = Played::default();
     let refusal = walk(film, stream, &mut played).err();
@@ -28,7 +29,7 @@ fn walk(film: &[u8], stream: usize, played: &mut Played) -> Result<(), Refusal> 
     let mut place = 0;
     let memory =
         Memory { palette: &mut palette, a: &mut a, b: &mut b, place: &mut place, room: &mut room };
-    let mut player = Player::open(film, stream, memory)?;
+    let mut player = Player::begin(film, stream, memory).map_err(|unbegun| unbegun.refusal)?;
     while let Some(event) = player.step()? {
         match event {
             Event::Picture(shown) => played.pictures.push(picture(shown)),

@@ -168,6 +168,7 @@ fn begin(arguments: &Arguments) -> Result<Kept, Failure> {
         return Err(Failure::HasOutput(folder.clone()));
     }
     let film = fs::read(&arguments.film).map_err(Failure::Film)?;
+    // Not `mve::begin`, which drops the samples before the size.
     let first = mve::open(&film, arguments.stream)
         .map_err(|refusal| refused(refusal, 0, Sound::NONE, arguments))?;
     Ok(Kept::new(first))

@@ -58,8 +58,8 @@ fn no_array_is_reached() {
     let tree = Tree::new(&Sources::read(&root).expect("the sources")).expect("a tree");
     let reached = follow(&tree, &offered(&tree).expect("the offered calls"));
     // the functions that store are the deepest ones
-    for deep in ["paint::put", "paint::set_place", "palette::put", "room::put", "mve::mve_step_as"]
-    {
+    let storing = ["paint::put", "paint::set_place", "palette::put", "room::put_byte", "dpcm::put"];
+    for deep in storing.into_iter().chain(["mve::mve_step_as"]) {
         assert!(reached.functions.iter().any(|name| name == deep), "{deep} is not reached");
     }
     let faults: Vec<String> = reached.faults.iter().map(ToString::to_string).collect();

@@ -27,10 +27,10 @@ same-length : tie.Need-same-length
 same-length c = search needs
 
 returns : tie.Need-returns
-returns c = λ x big. begins x _ _ _ _ _ (c .before .before .before .before .before .before .before .before .«open» .ensures) _ (c .before .before .before .before .before .before .first .given .1) _ (c .before .before .begin-from .ensures x big)
+returns c = begins _ _ _ _ _ (c .before .before .before .before .before .before .before .before .«open» .ensures) _ (c .before .before .before .before .before .before .first .given .1) _ (c .before .before .begin-from .ensures)
 
 returns-2 : tie.Need-returns-2
-returns-2 c = λ x big. begins-not x _ _ _ _ _ (c .before .before .before .before .«open» .ensures) _ (c .before .before .r .given .1) _ (is-nowhere _ (c .new .ensures))
+returns-2 c = begins-not _ _ _ _ _ (c .before .before .before .before .«open» .ensures) _ (c .before .before .r .given .1) _ (is-nowhere _ (c .new .ensures))
 
 pub begin-spec : {M : Type 1} → statement M
 begin-spec =

@@ -19,7 +19,7 @@ abbrev μ-loop : tie.MeasureT-loop
 μ-loop film first palette₀ place₀ st₀ storing₀ palette place st storing = cond storing 0 (suc (length film)) + (length film - st .cursor .position)
 
 returns : tie.Need-returns Inv-loop μ-loop
-returns c = λ x big. short-stops _ _ _ _ (c .before .before .before .pre) (c .if1 .taken) x
+returns c = short-stops _ _ _ _ (c .before .before .before .pre) (c .if1 .taken)
 
 loop-holds : tie.Need-loop-holds Inv-loop μ-loop
 loop-holds c = passes-start _ _ _ _ (c .if1 .left) (c .before .before .before .pre)

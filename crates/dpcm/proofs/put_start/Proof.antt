@@ -1,38 +1,60 @@
-use Prim.Native.Nat.{_≤_}
-use native.Mathlib.Omega.{arith}
-use lib.ListN.{length}
-use Rattle.dpcm.proofs.Packet.{start-fits, start-written-mono, start-written-stereo}
+-- Byte after byte of the start words: `start-next-low` to `start-written-stereo`.
+use Rattle.dpcm.proofs.Packet.{start-next-low, start-next-high, start-other-low, start-other-high, start-written-mono, start-written-stereo}
 use borrow.Author.Needs.{needs}
 use Rattle.dpcm.proofs.put_start.Statement.{statement}
 use Rattle.dpcm.proofs.put_start.Tie as tie
 use Rattle.dpcm.proofs.put_start.Reads as reads
 use Rattle.dpcm.proofs.put_start.Lts as lts
-use Rattle.dpcm.proofs.put_sample.Reads as put-sample-reads
+use Rattle.dpcm.proofs.put_start_byte.Reads as put-start-byte-reads
 
-put-sample-requires : tie.Need-put-sample-requires
-put-sample-requires c κs = λ h. start-fits (c .before .before .args .stereo) (c .before .before .args .first) (c .before .before .args .room .now) (c .before .before .pre)
+cast-put-start-byte : tie.Need-cast-put-start-byte
+cast-put-start-byte c = search needs
 
-put-sample-requires-2 : tie.Need-put-sample-requires-2
-put-sample-requires-2 c κs = λ h. let n : 4 ≤ length (c .before .before .before .before .before .before .before .args .room .now) = rw (c .before .if1 .taken) at (c .before .before .before .before .before .before .before .pre) in omega (arith, n, c .before .before .before .before .put-sample .kept .0)
+put-start-byte-requires : tie.Need-put-start-byte-requires
+put-start-byte-requires c κs = start-next-low (c .before .before .before .args .stereo) (c .before .before .before .args .first) (c .before .before .before .args .room .now) (c .before .before .before .pre)
+
+cast-put-start-byte-2 : tie.Need-cast-put-start-byte-2
+cast-put-start-byte-2 c = search needs
+
+put-start-byte-requires-2 : tie.Need-put-start-byte-requires-2
+put-start-byte-requires-2 c κs = start-next-high (c .before .before .before .before .before .before .before .before .args .stereo) (c .before .before .before .before .before .before .before .before .args .first) (c .before .before .before .before .before .before .before .before .args .room .now) (c .before .before .before .before .before .before .before .before .pre) _ (c .before .before .before .before .put-start-byte .ensures)
+
+cast-put-start-byte-3 : tie.Need-cast-put-start-byte-3
+cast-put-start-byte-3 c = search needs
+
+put-start-byte-requires-3 : tie.Need-put-start-byte-requires-3
+put-start-byte-requires-3 c κs = start-other-low (c .before .before .before .before .before .before .before .before .before .before .before .before .before .before .args .stereo) (c .before .before .before .before .before .before .before .before .before .before .before .before .before .before .args .first) (c .before .before .before .before .before .before .before .before .before .before .before .before .before .before .args .room .now) (c .before .before .before .before .before .before .before .before .before .before .before .before .before .before .pre) _ (c .before .before .before .before .before .before .before .before .before .before .put-start-byte .ensures) _ (c .before .before .before .before .before .put-start-byte2 .ensures) (c .before .before .if1 .taken)
+
+cast-put-start-byte-4 : tie.Need-cast-put-start-byte-4
+cast-put-start-byte-4 c = search needs
+
+put-start-byte-requires-4 : tie.Need-put-start-byte-requires-4
+put-start-byte-requires-4 c κs = start-other-high (c .before .before .before .before .before .before .before .before .before .before .before .before .before .before .before .before .before .before .before .args .stereo) (c .before .before .before .before .before .before .before .before .before .before .before .before .before .before .before .before .before .before .before .args .first) (c .before .before .before .before .before .before .before .before .before .before .before .before .before .before .before .before .before .before .before .args .room .now) (c .before .before .before .before .before .before .before .before .before .before .before .before .before .before .before .before .before .before .before .pre) _ (c .before .before .before .before .before .before .before .before .before .before .before .before .before .before .before .put-start-byte .ensures) _ (c .before .before .before .before .before .before .before .before .before .before .put-start-byte2 .ensures) (c .before .before .before .before .before .before .before .if1 .taken) _ (c .before .before .before .before .put-start-byte3 .ensures)
 
 same-length : tie.Need-same-length
 same-length c = search needs
 
 returns : tie.Need-returns
-returns c = start-written-stereo _ _ _ (c .before .before .before .before .before .before .before .before .before .before .pre) _ _ (c .before .before .before .before .if1 .taken) (c .before .before .before .before .before .before .before .put-sample .ensures) (c .before .before .put-sample2 .ensures)
+returns c = start-written-stereo (c .before .before .before .before .before .before .before .before .before .before .before .before .before .before .before .before .before .before .before .before .before .before .args .stereo) (c .before .before .before .before .before .before .before .before .before .before .before .before .before .before .before .before .before .before .before .before .before .before .args .first) (c .before .before .before .before .before .before .before .before .before .before .before .before .before .before .before .before .before .before .before .before .before .before .args .room .now) (c .before .before .before .before .before .before .before .before .before .before .before .before .before .before .before .before .before .before .before .before .before .before .pre) _ (c .before .before .before .before .before .before .before .before .before .before .before .before .before .before .before .before .before .before .put-start-byte .ensures) _ (c .before .before .before .before .before .before .before .before .before .before .before .before .before .put-start-byte2 .ensures) (c .before .before .before .before .before .before .before .before .before .before .if1 .taken) _ (c .before .before .before .before .before .before .before .put-start-byte3 .ensures) _ (c .before .before .put-start-byte4 .ensures)
 
 same-length-2 : tie.Need-same-length-2
 same-length-2 c = search needs
 
 returns-2 : tie.Need-returns-2
-returns-2 c = start-written-mono _ _ _ (c .before .before .before .before .before .before .pre) _ (c .if1 .left) (c .before .before .before .put-sample .ensures)
+returns-2 c = start-written-mono (c .before .before .before .before .before .before .before .before .before .before .before .before .args .stereo) (c .before .before .before .before .before .before .before .before .before .before .before .before .args .first) (c .before .before .before .before .before .before .before .before .before .before .before .before .args .room .now) (c .before .before .before .before .before .before .before .before .before .before .before .before .pre) _ (c .before .before .before .before .before .before .before .before .put-start-byte .ensures) _ (c .before .before .before .put-start-byte2 .ensures) (c .if1 .left)
 
 pub put-start-spec : {M : Type 1} → statement M
 put-start-spec =
     tie.close
     (tie.spec
-    put-sample-requires
-    put-sample-requires-2
+    cast-put-start-byte
+    put-start-byte-requires
+    cast-put-start-byte-2
+    put-start-byte-requires-2
+    cast-put-start-byte-3
+    put-start-byte-requires-3
+    cast-put-start-byte-4
+    put-start-byte-requires-4
     same-length
     returns
     same-length-2

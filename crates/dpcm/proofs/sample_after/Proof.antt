@@ -4,7 +4,7 @@ use Rattle.dpcm.proofs.sample_after.Statement.{statement}
 use Rattle.dpcm.proofs.sample_after.Tie as tie
 use Rattle.dpcm.proofs.sample_after.Reads as reads
 use Rattle.dpcm.proofs.sample_after.Lts as lts
-use Rattle.dpcm.proofs.steps.step_of.Reads as step-of-reads
+use Rattle.steps.proofs.step_of.Reads as step-of-reads
 use Rattle.std.proofs.num.wrapping_add_u16.Reads as wrapping-add-u16-reads
 
 step-of-requires : tie.Need-step-of-requires

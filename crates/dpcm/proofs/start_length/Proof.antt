@@ -1,5 +1,6 @@
 use native.Mathlib.Omega.{arith}
-use Rattle.dpcm.proofs.Packet.{channels-most, length-begun, length-started}
+use Rattle.dpcm.proofs.Packet.{length-begun, length-started}
+use Rattle.dpcm.proofs.Stride.{channels-most}
 use borrow.Author.Needs.{needs}
 use Rattle.dpcm.proofs.start_length.Statement.{statement}
 use Rattle.dpcm.proofs.start_length.Tie as tie

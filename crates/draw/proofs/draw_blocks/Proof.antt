@@ -16,7 +16,7 @@ use Rattle.block.proofs.data_length.Reads as data-length-reads
 use Rattle.draw.proofs.pixel_count.Reads as pixel-count-reads
 use Rattle.packet.proofs.data_position.Reads as data-position-reads
 use Rattle.paint.proofs.paint_part.Reads as paint-part-reads
-use Rattle.paint.proofs.set_place.Reads as set-place-reads
+use Rattle.paint.proofs.set_next.Reads as set-next-reads
 use Rattle.whole.proofs.paint_whole.Reads as paint-whole-reads
 use Rattle.draw.proofs.data_from.Reads as data-from-reads
 
@@ -76,44 +76,44 @@ returns c = going-stop _ _ _ _ _ _ _ _ _ _ _ _ (c .before .before .before .befor
 paint-whole-requires : tie.Need-paint-whole-requires Inv-loop μ-loop
 paint-whole-requires c κs = (drawable _ _ _ _ _ _ _ _ _ _ _ _ (c .before .before .before .before .before .before .loop .inv) (c .before .before .before .before .before .before .before .before .before .before .before .before .before .pre) (c .before .before .before .before .before .loop-test .taken) _ _ (c .before .before .before .before .code-at .ensures .0) (c .before .before .before .data-from .ensures) _ (omega arith), canvas _ _ _ _ _ _ _ _ _ _ _ _ (c .before .before .before .before .before .before .loop .inv) (c .before .before .before .before .before .before .before .before .before .before .before .before .before .pre) (c .before .before .before .before .before .loop-test .taken) _ _ (c .before .before .before .before .code-at .ensures .0) (c .before .before .before .data-from .ensures))
 
-add-set-place : tie.Need-add-set-place Inv-loop μ-loop
-add-set-place c = omega (arith, blocks-few _ (c .before .before .before .before .before .before .before .before .before .before .before .before .before .before .before .before .before .pre .sized), c .before .before .before .before .before .before .before .before .before .loop-test .taken)
+add-set-next : tie.Need-add-set-next Inv-loop μ-loop
+add-set-next c = omega (arith, blocks-few _ (c .before .before .before .before .before .before .before .before .before .before .before .before .before .before .before .before .before .before .pre .sized), c .before .before .before .before .before .before .before .before .before .before .loop-test .taken)
 
-set-place-requires : tie.Need-set-place-requires Inv-loop μ-loop
-set-place-requires c κs = search needs
+set-next-requires : tie.Need-set-next-requires Inv-loop μ-loop
+set-next-requires c κs = (record { found = c .before .before .before .before .before .before .before .before .before .before .before .loop .back; made = c .before .before .before .before .paint-whole .ensures }, omega (arith, c .before .before .before .before .before .before .before .before .before .before .before .loop .inv .stands))
 
 add-left : tie.Need-add-left Inv-loop μ-loop
-add-left c = omega (arith, c .before .before .before .before .before .before .before .pixel-count .ensures, count-few (kindOf (c .before .before .before .before .before .before .before .before .before .code-at .result) (c .before .before .before .before .before .before .before .before .data-from .result .now)))
+add-left c = omega (arith, c .before .before .before .before .before .before .before .before .pixel-count .ensures, count-few (kindOf (c .before .before .before .before .before .before .before .before .before .before .code-at .result) (c .before .before .before .before .before .before .before .before .before .data-from .result .now)))
 
 sub-left : tie.Need-sub-left Inv-loop μ-loop
-sub-left c = omega (arith, c .before .before .before .before .before .before .if1 .left)
+sub-left c = omega (arith, c .before .before .before .before .before .before .before .if1 .left)
 
 data-length-requires : tie.Need-data-length-requires Inv-loop μ-loop
-data-length-requires c κs = c .before .before .before .before .before .before .before .before .before .code-at .ensures .1
+data-length-requires c κs = c .before .before .before .before .before .before .before .before .before .before .code-at .ensures .1
 
 add-at : tie.Need-add-at Inv-loop μ-loop
-add-at c = let q = at-small _ _ _ _ _ _ _ _ _ _ _ _ (c .before .before .before .before .before .before .before .before .before .before .before .before .loop .inv) (c .before .before .before .before .before .before .before .before .before .before .before .before .before .before .before .before .before .before .before .pre) (c .before .before .before .before .before .before .before .before .before .before .before .loop-test .taken) _ _ (c .before .before .before .before .before .before .before .before .before .before .code-at .ensures .0) (c .before .before .before .before .before .before .before .before .before .data-from .ensures) _ (c .data-length .ensures) in omega (arith, q, c .before .before .before .before .before .before .before .before .before .before .before .before .before .before .before .before .before .before .before .good .1 .1 .1 .0)
+add-at c = let q = at-small _ _ _ _ _ _ _ _ _ _ _ _ (c .before .before .before .before .before .before .before .before .before .before .before .before .before .loop .inv) (c .before .before .before .before .before .before .before .before .before .before .before .before .before .before .before .before .before .before .before .before .pre) (c .before .before .before .before .before .before .before .before .before .before .before .before .loop-test .taken) _ _ (c .before .before .before .before .before .before .before .before .before .before .before .code-at .ensures .0) (c .before .before .before .before .before .before .before .before .before .before .data-from .ensures) _ (c .data-length .ensures) in omega (arith, q, c .before .before .before .before .before .before .before .before .before .before .before .before .before .before .before .before .before .before .before .before .good .1 .1 .1 .0)
 
 add-k : tie.Need-add-k Inv-loop μ-loop
-add-k c = omega (arith, blocks-few _ (c .before .before .before .before .before .before .before .before .before .before .before .before .before .before .before .before .before .before .before .pre .sized), c .before .before .before .before .before .before .before .before .before .before .before .loop-test .taken)
+add-k c = omega (arith, blocks-few _ (c .before .before .before .before .before .before .before .before .before .before .before .before .before .before .before .before .before .before .before .before .pre .sized), c .before .before .before .before .before .before .before .before .before .before .before .before .loop-test .taken)
 
 add-x : tie.Need-add-x Inv-loop μ-loop
-add-x c = let q = canvas _ _ _ _ _ _ _ _ _ _ _ _ (c .before .before .before .before .before .before .before .before .before .before .before .before .loop .inv) (c .before .before .before .before .before .before .before .before .before .before .before .before .before .before .before .before .before .before .before .pre) (c .before .before .before .before .before .before .before .before .before .before .before .loop-test .taken) _ _ (c .before .before .before .before .before .before .before .before .before .before .code-at .ensures .0) (c .before .before .before .before .before .before .before .before .before .data-from .ensures) in omega (arith, q .across, q .width)
+add-x c = let q = canvas _ _ _ _ _ _ _ _ _ _ _ _ (c .before .before .before .before .before .before .before .before .before .before .before .before .before .loop .inv) (c .before .before .before .before .before .before .before .before .before .before .before .before .before .before .before .before .before .before .before .before .pre) (c .before .before .before .before .before .before .before .before .before .before .before .before .loop-test .taken) _ _ (c .before .before .before .before .before .before .before .before .before .before .before .code-at .ensures .0) (c .before .before .before .before .before .before .before .before .before .before .data-from .ensures) in omega (arith, q .across, q .width)
 
 add-y : tie.Need-add-y Inv-loop μ-loop
-add-y c = let q = canvas _ _ _ _ _ _ _ _ _ _ _ _ (c .before .before .before .before .before .before .before .before .before .before .before .before .before .loop .inv) (c .before .before .before .before .before .before .before .before .before .before .before .before .before .before .before .before .before .before .before .before .pre) (c .before .before .before .before .before .before .before .before .before .before .before .before .loop-test .taken) _ _ (c .before .before .before .before .before .before .before .before .before .before .before .code-at .ensures .0) (c .before .before .before .before .before .before .before .before .before .before .data-from .ensures) in omega (arith, q .down, q .height)
+add-y c = let q = canvas _ _ _ _ _ _ _ _ _ _ _ _ (c .before .before .before .before .before .before .before .before .before .before .before .before .before .before .loop .inv) (c .before .before .before .before .before .before .before .before .before .before .before .before .before .before .before .before .before .before .before .before .before .pre) (c .before .before .before .before .before .before .before .before .before .before .before .before .before .loop-test .taken) _ _ (c .before .before .before .before .before .before .before .before .before .before .before .before .code-at .ensures .0) (c .before .before .before .before .before .before .before .before .before .before .before .data-from .ensures) in omega (arith, q .down, q .height)
 
 loop-less : tie.Need-loop-less Inv-loop μ-loop
-loop-less c = omega (arith, c .before .before .before .before .before .before .before .before .before .before .before .before .loop-test .taken)
+loop-less c = omega (arith, c .before .before .before .before .before .before .before .before .before .before .before .before .before .loop-test .taken)
 
 loop-again : tie.Need-loop-again Inv-loop μ-loop
-loop-again c = going-block _ _ _ _ _ _ _ _ _ _ _ _ (c .before .before .before .before .before .before .before .before .before .before .before .before .before .loop .inv) (c .before .before .before .before .before .before .before .before .before .before .before .before .before .before .before .before .before .before .before .before .pre) (c .before .before .before .before .before .before .before .before .before .before .before .before .loop-test .taken) _ _ (c .before .before .before .before .before .before .before .before .before .before .before .code-at .ensures .0) (c .before .before .before .before .before .before .before .before .before .before .data-from .ensures) _ _ _ _ (c .before .before .before .before .before .before .before .before .before .pixel-count .ensures) (c .before .data-length .ensures) (c .before .before .before .before .before .before .before .before .if1 .left) (c .before .before .before .before .before .before .paint-whole .ensures) (c .before .before .set-place .ensures) _ _ (below _ _ _ _ _ _ _ _ _ _ _ _ (c .before .before .before .before .before .before .before .before .before .before .before .before .before .loop .inv) (c .before .before .before .before .before .before .before .before .before .before .before .before .before .before .before .before .before .before .before .before .pre) (c .before .before .before .before .before .before .before .before .before .before .before .before .loop-test .taken) _ _ (c .before .before .before .before .before .before .before .before .before .before .before .code-at .ensures .0) (c .before .before .before .before .before .before .before .before .before .before .data-from .ensures) (c .if2 .taken))
+loop-again c = going-block _ _ _ _ _ _ _ _ _ _ _ _ (c .before .before .before .before .before .before .before .before .before .before .before .before .before .before .loop .inv) (c .before .before .before .before .before .before .before .before .before .before .before .before .before .before .before .before .before .before .before .before .before .pre) (c .before .before .before .before .before .before .before .before .before .before .before .before .before .loop-test .taken) _ _ (c .before .before .before .before .before .before .before .before .before .before .before .before .code-at .ensures .0) (c .before .before .before .before .before .before .before .before .before .before .before .data-from .ensures) _ _ _ _ (c .before .before .before .before .before .before .before .before .before .before .pixel-count .ensures) (c .before .data-length .ensures) (c .before .before .before .before .before .before .before .before .before .if1 .left) (c .before .before .before .before .before .before .before .paint-whole .ensures) (c .before .before .set-next .ensures) _ _ (below _ _ _ _ _ _ _ _ _ _ _ _ (c .before .before .before .before .before .before .before .before .before .before .before .before .before .before .loop .inv) (c .before .before .before .before .before .before .before .before .before .before .before .before .before .before .before .before .before .before .before .before .before .pre) (c .before .before .before .before .before .before .before .before .before .before .before .before .before .loop-test .taken) _ _ (c .before .before .before .before .before .before .before .before .before .before .before .before .code-at .ensures .0) (c .before .before .before .before .before .before .before .before .before .before .before .data-from .ensures) (c .if2 .taken))
 
 loop-less-2 : tie.Need-loop-less-2 Inv-loop μ-loop
-loop-less-2 c = omega (arith, c .before .before .before .before .before .before .before .before .before .before .before .before .loop-test .taken)
+loop-less-2 c = omega (arith, c .before .before .before .before .before .before .before .before .before .before .before .before .before .loop-test .taken)
 
 loop-again-2 : tie.Need-loop-again-2 Inv-loop μ-loop
-loop-again-2 c = going-block _ _ _ _ _ _ _ _ _ _ _ _ (c .before .before .before .before .before .before .before .before .before .before .before .before .before .loop .inv) (c .before .before .before .before .before .before .before .before .before .before .before .before .before .before .before .before .before .before .before .before .pre) (c .before .before .before .before .before .before .before .before .before .before .before .before .loop-test .taken) _ _ (c .before .before .before .before .before .before .before .before .before .before .before .code-at .ensures .0) (c .before .before .before .before .before .before .before .before .before .before .data-from .ensures) _ _ _ _ (c .before .before .before .before .before .before .before .before .before .pixel-count .ensures) (c .before .data-length .ensures) (c .before .before .before .before .before .before .before .before .if1 .left) (c .before .before .before .before .before .before .paint-whole .ensures) (c .before .before .set-place .ensures) _ _ (right _ _ _ _ _ _ _ _ _ _ _ _ (c .before .before .before .before .before .before .before .before .before .before .before .before .before .loop .inv) (c .before .before .before .before .before .before .before .before .before .before .before .before .before .before .before .before .before .before .before .before .pre) (c .before .before .before .before .before .before .before .before .before .before .before .before .loop-test .taken) _ _ (c .before .before .before .before .before .before .before .before .before .before .before .code-at .ensures .0) (c .before .before .before .before .before .before .before .before .before .before .data-from .ensures) (c .if2 .left))
+loop-again-2 c = going-block _ _ _ _ _ _ _ _ _ _ _ _ (c .before .before .before .before .before .before .before .before .before .before .before .before .before .before .loop .inv) (c .before .before .before .before .before .before .before .before .before .before .before .before .before .before .before .before .before .before .before .before .before .pre) (c .before .before .before .before .before .before .before .before .before .before .before .before .before .loop-test .taken) _ _ (c .before .before .before .before .before .before .before .before .before .before .before .before .code-at .ensures .0) (c .before .before .before .before .before .before .before .before .before .before .before .data-from .ensures) _ _ _ _ (c .before .before .before .before .before .before .before .before .before .before .pixel-count .ensures) (c .before .data-length .ensures) (c .before .before .before .before .before .before .before .before .before .if1 .left) (c .before .before .before .before .before .before .before .paint-whole .ensures) (c .before .before .set-next .ensures) _ _ (right _ _ _ _ _ _ _ _ _ _ _ _ (c .before .before .before .before .before .before .before .before .before .before .before .before .before .before .loop .inv) (c .before .before .before .before .before .before .before .before .before .before .before .before .before .before .before .before .before .before .before .before .before .pre) (c .before .before .before .before .before .before .before .before .before .before .before .before .before .loop-test .taken) _ _ (c .before .before .before .before .before .before .before .before .before .before .before .before .code-at .ensures .0) (c .before .before .before .before .before .before .before .before .before .before .before .data-from .ensures) (c .if2 .left))
 
 sub-result : tie.Need-sub-result Inv-loop μ-loop
 sub-result c = c .before .loop .inv .room
@@ -146,8 +146,8 @@ draw-blocks-spec =
     same-length
     returns
     paint-whole-requires
-    add-set-place
-    set-place-requires
+    add-set-next
+    set-next-requires
     add-left
     sub-left
     data-length-requires

@@ -1,11 +1,11 @@
 use mathlib.Core.Path.{ap, _∙_}
-use Rattle.mve.specs.Answer.{ofFound}
+use Rattle.mve_answers.specs.Answer.{ofFound}
 use borrow.Author.Needs.{needs}
 use Rattle.mve.proofs.mve_check.Statement.{statement}
 use Rattle.mve.proofs.mve_check.Tie as tie
 use Rattle.mve.proofs.mve_check.Reads as reads
 use Rattle.mve.proofs.mve_check.Lts as lts
-use Rattle.mve.proofs.of_check.Reads as of-check-reads
+use Rattle.mve_answers.proofs.of_check.Reads as of-check-reads
 use Rattle.packet.proofs.check.Reads as check-reads
 
 check-requires : tie.Need-check-requires

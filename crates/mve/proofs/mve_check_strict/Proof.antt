@@ -1,11 +1,11 @@
 use mathlib.Core.Path.{ap, _∙_}
-use Rattle.mve.specs.Answer.{ofFound}
+use Rattle.mve_answers.specs.Answer.{ofFound}
 use borrow.Author.Needs.{needs}
 use Rattle.mve.proofs.mve_check_strict.Statement.{statement}
 use Rattle.mve.proofs.mve_check_strict.Tie as tie
 use Rattle.mve.proofs.mve_check_strict.Reads as reads
 use Rattle.mve.proofs.mve_check_strict.Lts as lts
-use Rattle.mve.proofs.of_check.Reads as of-check-reads
+use Rattle.mve_answers.proofs.of_check.Reads as of-check-reads
 use Rattle.packet.proofs.check_strict.Reads as check-strict-reads
 
 check-strict-requires : tie.Need-check-strict-requires

@@ -1,11 +1,11 @@
 use mathlib.Core.Path.{ap, _∙_}
-use Rattle.mve.specs.Trace.{ofTrace}
+use Rattle.mve_answers.specs.Trace.{ofTrace}
 use borrow.Author.Needs.{needs}
 use Rattle.mve.proofs.mve_origin.Statement.{statement}
 use Rattle.mve.proofs.mve_origin.Tie as tie
 use Rattle.mve.proofs.mve_origin.Reads as reads
 use Rattle.mve.proofs.mve_origin.Lts as lts
-use Rattle.mve.proofs.of_trace.Reads as of-trace-reads
+use Rattle.mve_answers.proofs.of_trace.Reads as of-trace-reads
 use Rattle.origin.proofs.trace.Reads as trace-reads
 
 trace-requires : tie.Need-trace-requires

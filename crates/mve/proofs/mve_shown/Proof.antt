@@ -4,7 +4,7 @@ use Rattle.mve.proofs.mve_shown.Statement.{statement}
 use Rattle.mve.proofs.mve_shown.Tie as tie
 use Rattle.mve.proofs.mve_shown.Reads as reads
 use Rattle.mve.proofs.mve_shown.Lts as lts
-use Rattle.mve.proofs.state_of.Reads as state-of-reads
+use Rattle.mve_states.proofs.state_of.Reads as state-of-reads
 use Rattle.state.proofs.shown.Reads as shown-reads
 
 state-of-requires : tie.Need-state-of-requires

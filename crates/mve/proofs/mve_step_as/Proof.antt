@@ -5,9 +5,9 @@ use Rattle.mve.proofs.mve_step_as.Tie as tie
 use Rattle.mve.proofs.mve_step_as.Reads as reads
 use Rattle.mve.proofs.mve_step_as.Lts as lts
 use Rattle.film.proofs.step_within.Reads as step-within-reads
-use Rattle.mve.proofs.of_step.Reads as of-step-reads
-use Rattle.mve.proofs.spare_of.Reads as spare-of-reads
-use Rattle.mve.proofs.state_of.Reads as state-of-reads
+use Rattle.mve_steps.proofs.of_step.Reads as of-step-reads
+use Rattle.mve_steps.proofs.spare_of.Reads as spare-of-reads
+use Rattle.mve_states.proofs.state_of.Reads as state-of-reads
 
 state-of-requires : tie.Need-state-of-requires
 state-of-requires c κs = search needs

@@ -1,11 +1,11 @@
-use Rattle.mve.proofs.Answers.{whole-as, unfinished-as, denied-as}
+use Rattle.mve_answers.proofs.Answers.{whole-as, unfinished-as, denied-as}
 use borrow.Author.Needs.{needs}
 use Rattle.mve.proofs.of_draw.Statement.{statement}
 use Rattle.mve.proofs.of_draw.Tie as tie
 use Rattle.mve.proofs.of_draw.Reads as reads
 use Rattle.mve.proofs.of_draw.Lts as lts
-use Rattle.mve.proofs.answered.Reads as answered-reads
-use Rattle.mve.proofs.refused.Reads as refused-reads
+use Rattle.mve_answers.proofs.answered.Reads as answered-reads
+use Rattle.mve_answers.proofs.refused.Reads as refused-reads
 
 enum-known-d : tie.Need-enum-known-d
 enum-known-d c = search needs

@@ -1,15 +1,9 @@
 use Prim.Native.Nat.{_-_}
 use native.Mathlib.Omega.{arith}
 use Rattle.block.specs.Block.{kindOf}
-use Rattle.paint.proofs.Part.{Part, part-start, part-more, part-end, part-length, part-readable, part-among, part-below}
+use Rattle.paint.proofs.Part.{Part, part-start, part-more, part-end, part-length, part-readable, part-among, part-next}
 use Rattle.paint.proofs.paint_part.Statement.{statement}
 use Rattle.paint.proofs.paint_part.Tie as tie
-use Rattle.paint.proofs.paint_part.Reads as reads
-use Rattle.paint.proofs.paint_part.Lts as lts
-use Rattle.motion.proofs.raster_index.Reads as raster-index-reads
-use Rattle.paint.proofs.put.Reads as put-reads
-use Rattle.pixel.proofs.fetch.Reads as fetch-reads
-use Rattle.pixel.proofs.source_of.Reads as source-of-reads
 
 abbrev Inv-loop : tie.InvT-loop
 Inv-loop code s front back₀ w h x y n i₀ back i = Part (kindOf code s) s w x y front back₀ n back i
@@ -30,7 +24,7 @@ raster-index-requires : tie.Need-raster-index-requires Inv-loop μ-loop
 raster-index-requires c κs = part-readable _ _ _ _ _ _ _ _ _ _ (c .before .before .before .before .before .before .before .before .before .pre .0) (c .before .before .before .before .before .before .before .before .before .pre .1) (c .before .before .before .before .loop-test .taken) .at
 
 put-requires : tie.Need-put-requires Inv-loop μ-loop
-put-requires c κs = part-below _ _ _ _ _ _ _ _ _ _ (c .before .before .before .before .before .before .before .before .before .before .pre .0) (c .before .before .before .before .before .before .before .before .before .before .pre .1) (c .before .before .before .before .before .loop-test .taken) _ (part-length _ _ _ _ _ _ _ _ _ _ (c .before .before .before .before .before .before .loop .inv)) _ (c .raster-index .ensures)
+put-requires c κs = part-next _ _ _ _ _ _ _ _ _ _ _ (c .before .before .before .before .before .before .before .before .before .before .pre .0) (c .before .before .before .before .before .before .before .before .before .before .pre .1) (c .before .before .before .before .before .before .loop .inv) (c .before .before .before .before .before .loop-test .taken) _ _ _ (c .before .before .before .before .source-of .ensures) (c .before .before .fetch .ensures) (c .raster-index .ensures)
 
 add-i : tie.Need-add-i Inv-loop μ-loop
 add-i c = omega (arith, c .before .before .before .before .before .before .before .before .before .before .before .before .before .fits, c .before .before .before .before .before .before .before .before .loop-test .taken)

@@ -1,8 +1,8 @@
 -- Turn i tests byte i: the loop keeps `Judging`, and one byte above 63 decides the whole list.
 use Prim.Native.Nat.{_-_}
 use native.Mathlib.Omega.{arith}
-use Rattle.palette.specs.Store.{byte, from}
-use Rattle.palette.proofs.Lists.{from-is}
+use Rattle.listed.specs.Store.{byte, from}
+use Rattle.listed.proofs.Lists.{from-is}
 use Rattle.palette.proofs.Judging.{Judging, judging-start, judging-more, judging-not, judging-end, byte-legal, byte-too-large}
 use Rattle.palette.proofs.are_components.Statement.{statement}
 use Rattle.palette.proofs.are_components.Tie as tie

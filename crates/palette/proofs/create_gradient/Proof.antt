@@ -1,8 +1,7 @@
 -- Judged whole before the first store: what is taken fits. Each way out is a law of `Gradients` or `Outcome`.
-use mathlib.Core.Path.{_∙_}
 use native.Mathlib.Omega.{arith}
 use Rattle.palette.proofs.Outcome.{keeps, stores-all}
-use Rattle.palette.proofs.Gradients.{both-fit, both-stored}
+use Rattle.palette.proofs.Gradients.{both-fit, both-stored, red-blue-next, red-green-next}
 use borrow.Author.Needs.{needs}
 use Rattle.palette.proofs.create_gradient.Statement.{statement}
 use Rattle.palette.proofs.create_gradient.Tie as tie
@@ -18,10 +17,10 @@ enum-told : tie.Need-enum-told
 enum-told c = search needs
 
 put-gradient-requires : tie.Need-put-gradient-requires
-put-gradient-requires c κs = let q = both-fit (c .before .before .before .before .before .before .args .body .now) _ _ (c .before .before .before .judge-gradient .ensures) (c .before .enum-told .given .1) in (omega arith, q .0, q .1)
+put-gradient-requires c κs = let q = both-fit (c .before .before .before .before .before .before .args .body .now) _ _ (c .before .before .before .judge-gradient .ensures) (c .before .enum-told .given .1) in (red-blue-next _ _ (q .0) (q .1) (q .2), omega arith)
 
 put-gradient-requires-2 : tie.Need-put-gradient-requires-2
-put-gradient-requires-2 c κs = let q = both-fit (c .before .before .before .before .before .before .before .before .before .before .args .body .now) _ _ (c .before .before .before .before .before .before .before .judge-gradient .ensures) (c .before .before .before .before .before .enum-told .given .1) in (omega arith, c .before .before .before .put-gradient .kept .0 ∙ q .0, q .2)
+put-gradient-requires-2 c κs = let q = both-fit (c .before .before .before .before .before .before .before .before .before .before .args .body .now) _ _ (c .before .before .before .before .before .before .before .judge-gradient .ensures) (c .before .before .before .before .before .enum-told .given .1) in (red-green-next _ _ (q .0) (q .1) (q .2) _ (c .before .before .before .put-gradient .ensures .1) _ (c .before .before .before .put-gradient .ensures .0), omega arith)
 
 enum-known-r : tie.Need-enum-known-r
 enum-known-r c = search needs
@@ -30,7 +29,7 @@ same-length : tie.Need-same-length
 same-length c = search needs
 
 returns : tie.Need-returns
-returns c = stores-all _ _ _ (c .before .before .before .before .before .before .before .before .before .before .judge-gradient .ensures) (c .before .before .before .before .before .before .before .before .enum-told .given .1) _ (both-stored (c .before .before .before .before .before .before .before .before .before .before .before .before .before .args .body .now) _ _ _ (c .before .before .before .before .before .before .put-gradient .ensures) (c .before .before .put-gradient2 .ensures))
+returns c = stores-all _ _ _ (c .before .before .before .before .before .before .before .before .before .before .judge-gradient .ensures) (c .before .before .before .before .before .before .before .before .enum-told .given .1) _ (both-stored (c .before .before .before .before .before .before .before .before .before .before .before .before .before .args .body .now) _ _ _ (c .before .before .before .before .before .before .put-gradient .ensures .1) (c .before .before .put-gradient2 .ensures .1))
 
 returns-2 : tie.Need-returns-2
 returns-2 c = keeps _ _ _ (c .before .before .before .judge-gradient .ensures) _ (c .before .r .given .1)

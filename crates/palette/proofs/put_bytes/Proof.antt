@@ -1,10 +1,11 @@
--- Turn i makes store i of the list: the loop keeps `Making`.
+-- Turn i makes store i of the part: the loop keeps `Making`.
 use mathlib.Core.Path.{refl}
 use Prim.Native.Nat.{_-_}
 use native.Mathlib.Omega.{arith}
-use Rattle.palette.specs.Store.{byte, from}
-use Rattle.palette.proofs.Lists.{applied-byte, from-is}
-use Rattle.palette.proofs.Making.{Making, making-start, making-more, making-end, making-length}
+use Rattle.listed.specs.Store.{byte, from}
+use Rattle.listed.proofs.Lists.{applied-byte, from-is}
+use Rattle.listed.proofs.Making.{Making, making-start, making-more, making-end, making-length}
+use Rattle.palette.proofs.Order.{bytes-few, bytes-inside, next-byte}
 use Rattle.palette.proofs.put_bytes.Statement.{statement}
 use Rattle.palette.proofs.put_bytes.Tie as tie
 use Rattle.palette.proofs.put_bytes.Reads as reads
@@ -12,25 +13,28 @@ use Rattle.palette.proofs.put_bytes.Lts as lts
 use Rattle.palette.proofs.put.Reads as put-reads
 
 abbrev Inv-loop : tie.InvT-loop
-Inv-loop palette₀ first body at n i₀ palette i = Making (byte first (from body at)) palette₀ n palette i
+Inv-loop palette₀ opcode body made first at n i₀ palette i = Making (byte first (from body at)) palette₀ n palette i
 
 abbrev μ-loop : tie.MeasureT-loop
-μ-loop palette₀ first body at n i₀ palette i = n - i
+μ-loop palette₀ opcode body made first at n i₀ palette i = n - i
 
 loop-holds : tie.Need-loop-holds Inv-loop μ-loop
 loop-holds c = making-start _ _ _
 
 add-put : tie.Need-add-put Inv-loop μ-loop
-add-put c = omega arith
+add-put c = omega (arith, bytes-few _ _ _ _ _ _ _ (c .before .before .before .before .before .pre .0))
 
 add-put-2 : tie.Need-add-put-2 Inv-loop μ-loop
-add-put-2 c = omega arith
+add-put-2 c = omega (arith, bytes-inside _ _ _ _ _ _ _ (c .before .before .before .before .before .pre .0) _ (c .before .loop-test .taken))
+
+add-put-3 : tie.Need-add-put-3 Inv-loop μ-loop
+add-put-3 c = omega arith
 
 shared-slice-read-put : tie.Need-shared-slice-read-put Inv-loop μ-loop
 shared-slice-read-put c = omega arith
 
 put-requires : tie.Need-put-requires Inv-loop μ-loop
-put-requires c κs = omega (arith, making-length _ _ _ _ _ (c .before .before .before .loop .inv))
+put-requires c κs = next-byte _ _ _ _ _ _ _ (c .before .before .before .before .before .before .pre .0) _ _ (c .before .before .before .loop .inv) (c .before .before .loop-test .taken) _ _ refl (from-is _ _ _)
 
 add-i : tie.Need-add-i Inv-loop μ-loop
 add-i c = omega arith
@@ -41,11 +45,14 @@ loop-less c = omega arith
 loop-again : tie.Need-loop-again Inv-loop μ-loop
 loop-again c = making-more _ _ _ _ _ (c .before .before .before .before .before .before .loop .inv) (c .before .before .before .before .before .loop-test .taken) _ (applied-byte _ _ _ _ _ _ _ refl (from-is _ _ _) (c .before .before .put .ensures))
 
+add-result : tie.Need-add-result Inv-loop μ-loop
+add-result c = omega (arith, bytes-few _ _ _ _ _ _ _ (c .before .before .before .before .pre .0))
+
 same-length : tie.Need-same-length Inv-loop μ-loop
 same-length c = making-length _ _ _ _ _ (c .before .loop .inv)
 
 returns : tie.Need-returns Inv-loop μ-loop
-returns c = making-end _ _ _ _ _ (c .before .loop .inv) (c .loop-test .left)
+returns c = (refl, making-end _ _ _ _ _ (c .before .loop .inv) (c .loop-test .left))
 
 pub put-bytes-spec : {M : Type 1} → statement M
 put-bytes-spec =
@@ -56,10 +63,12 @@ put-bytes-spec =
     loop-holds
     add-put
     add-put-2
+    add-put-3
     shared-slice-read-put
     put-requires
     add-i
     loop-less
     loop-again
+    add-result
     same-length
     returns)

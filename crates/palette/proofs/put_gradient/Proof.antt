@@ -1,13 +1,14 @@
 -- Turn i makes store i of the gradient: the loop keeps `Making`.
-use mathlib.Core.Path.{refl, _∙_}
+use mathlib.Core.Path.{refl}
 use Prim.Native.Nat.{_-_, _*_}
 use native.Mathlib.Omega.{arith}
 use borrow.Author.Needs.{needs}
-use Rattle.palette.specs.Store.{byte}
+use Rattle.listed.specs.Store.{byte}
 use Rattle.palette.specs.Gradient.{component}
-use Rattle.palette.proofs.Lists.{applied-byte}
-use Rattle.palette.proofs.Making.{Making, making-start, making-more, making-end, making-length}
-use Rattle.palette.proofs.Gradients.{product-below, stored-at, room-at}
+use Rattle.listed.proofs.Lists.{applied-byte}
+use Rattle.listed.proofs.Making.{Making, making-start, making-more, making-end, making-length}
+use Rattle.palette.proofs.Gradients.{product-below, next-at, count-at, stored-at}
+use Rattle.palette.proofs.Order.{next-few, next-byte}
 use Rattle.palette.proofs.put_gradient.Statement.{statement}
 use Rattle.palette.proofs.put_gradient.Tie as tie
 use Rattle.palette.proofs.put_gradient.Reads as reads
@@ -17,10 +18,10 @@ use Rattle.palette.proofs.number_at.Reads as number-at-reads
 use Rattle.palette.proofs.put.Reads as put-reads
 
 abbrev Inv-loop : tie.InvT-loop
-Inv-loop palette₀ body at second base rows columns n i₀ palette i = Making (byte (3 * base) (component rows columns second)) palette₀ n palette i
+Inv-loop palette₀ body made at second base rows columns n i₀ palette i = Making (byte (3 * base) (component rows columns second)) palette₀ n palette i
 
 abbrev μ-loop : tie.MeasureT-loop
-μ-loop palette₀ body at second base rows columns n i₀ palette i = n - i
+μ-loop palette₀ body made at second base rows columns n i₀ palette i = n - i
 
 number-at-requires : tie.Need-number-at-requires Inv-loop μ-loop
 number-at-requires c κs = search needs
@@ -46,17 +47,20 @@ mul-n-2 c = omega (arith, product-below _ _ (c .before .number-at2 .ensures .1) 
 loop-holds : tie.Need-loop-holds Inv-loop μ-loop
 loop-holds c = making-start _ _ _
 
+add-put : tie.Need-add-put Inv-loop μ-loop
+add-put c = omega (arith, next-few _ _ _ _ _ (c .before .before .before .before .before .before .before .before .pre .0), c .before .loop-test .taken, product-below _ _ (c .before .before .before .before .number-at2 .ensures .1) (c .before .before .before .number-at3 .ensures .1))
+
 mul-put : tie.Need-mul-put Inv-loop μ-loop
 mul-put c = omega (arith, c .before .before .before .before .before .number-at .ensures .1)
 
-add-put : tie.Need-add-put Inv-loop μ-loop
-add-put c = omega (arith, c .before .before .before .before .before .number-at .ensures .1, c .before .loop-test .taken, product-below _ _ (c .before .before .before .before .number-at2 .ensures .1) (c .before .before .before .number-at3 .ensures .1))
+add-put-2 : tie.Need-add-put-2 Inv-loop μ-loop
+add-put-2 c = omega (arith, c .before .before .before .before .before .number-at .ensures .1, c .before .loop-test .taken, product-below _ _ (c .before .before .before .before .number-at2 .ensures .1) (c .before .before .before .number-at3 .ensures .1))
 
 component-of-requires : tie.Need-component-of-requires Inv-loop μ-loop
 component-of-requires c κs = record { few-rows = c .before .before .before .before .number-at2 .ensures .1; few-columns = c .before .before .before .number-at3 .ensures .1; within = c .before .loop-test .taken }
 
 put-requires : tie.Need-put-requires Inv-loop μ-loop
-put-requires c κs = room-at (c .before .before .before .before .before .before .before .before .before .args .body .now) (c .before .before .before .before .before .before .before .before .before .args .at) (c .before .before .before .before .before .before .before .before .before .args .second) _ _ _ (c .before .before .before .before .before .before .number-at .ensures .0) (c .before .before .before .before .before .number-at2 .ensures .0) (c .before .before .before .before .number-at3 .ensures .0) (c .before .before .before .before .before .before .before .before .before .pre .2) _ (c .before .before .loop-test .taken) _ (making-length _ _ _ _ _ (c .before .before .before .loop .inv) ∙ c .before .before .before .before .before .before .before .before .before .pre .1)
+put-requires c κs = next-byte _ _ _ _ _ _ _ (next-at (c .before .before .before .before .before .before .before .before .before .args .body .now) (c .before .before .before .before .before .before .before .before .before .args .at) (c .before .before .before .before .before .before .before .before .before .args .second) _ _ _ (c .before .before .before .before .before .before .number-at .ensures .0) (c .before .before .before .before .before .number-at2 .ensures .0) (c .before .before .before .before .number-at3 .ensures .0) _ _ (c .before .before .before .before .before .before .before .before .before .pre .0)) _ _ (c .before .before .before .loop .inv) (c .before .before .loop-test .taken) _ _ refl (c .component-of .ensures)
 
 add-i : tie.Need-add-i Inv-loop μ-loop
 add-i c = omega (arith, c .before .before .before .before .before .loop-test .taken, product-below _ _ (c .before .before .before .before .before .before .before .before .number-at2 .ensures .1) (c .before .before .before .before .before .before .before .number-at3 .ensures .1))
@@ -67,11 +71,14 @@ loop-less c = omega (arith, c .before .before .before .before .before .loop-test
 loop-again : tie.Need-loop-again Inv-loop μ-loop
 loop-again c = making-more _ _ _ _ _ (c .before .before .before .before .before .before .loop .inv) (c .before .before .before .before .before .loop-test .taken) _ (applied-byte _ _ _ _ _ _ _ refl (c .before .before .before .component-of .ensures) (c .before .before .put .ensures))
 
+add-result : tie.Need-add-result Inv-loop μ-loop
+add-result c = omega (arith, next-few _ _ _ _ _ (c .before .before .before .before .before .before .before .pre .0), product-below _ _ (c .before .before .before .number-at2 .ensures .1) (c .before .before .number-at3 .ensures .1))
+
 same-length : tie.Need-same-length Inv-loop μ-loop
 same-length c = making-length _ _ _ _ _ (c .before .loop .inv)
 
 returns : tie.Need-returns Inv-loop μ-loop
-returns c = stored-at (c .before .before .before .before .before .before .before .args .body .now) (c .before .before .before .before .before .before .before .args .at) _ _ _ _ (c .before .before .before .before .number-at .ensures .0) (c .before .before .before .number-at2 .ensures .0) (c .before .before .number-at3 .ensures .0) _ _ (making-end _ _ _ _ _ (c .before .loop .inv) (c .loop-test .left))
+returns c = (count-at (c .before .before .before .before .before .before .before .args .body .now) (c .before .before .before .before .before .before .before .args .at) (c .before .before .before .before .before .before .before .args .second) _ _ _ (c .before .before .before .before .number-at .ensures .0) (c .before .before .before .number-at2 .ensures .0) (c .before .before .number-at3 .ensures .0) _, stored-at (c .before .before .before .before .before .before .before .args .body .now) (c .before .before .before .before .before .before .before .args .at) _ _ _ _ (c .before .before .before .before .number-at .ensures .0) (c .before .before .before .number-at2 .ensures .0) (c .before .before .number-at3 .ensures .0) _ _ (making-end _ _ _ _ _ (c .before .loop .inv) (c .loop-test .left)))
 
 pub put-gradient-spec : {M : Type 1} → statement M
 put-gradient-spec =
@@ -87,12 +94,14 @@ put-gradient-spec =
     mul-n
     mul-n-2
     loop-holds
-    mul-put
     add-put
+    mul-put
+    add-put-2
     component-of-requires
     put-requires
     add-i
     loop-less
     loop-again
+    add-result
     same-length
     returns)

@@ -1,7 +1,8 @@
 -- Judged whole before the first store: what is taken fits. Each way out is a law of `Entries` or `Outcome`.
+use mathlib.Core.Path.{refl}
 use native.Mathlib.Omega.{arith}
 use Rattle.palette.proofs.Outcome.{keeps, stores-all}
-use Rattle.palette.proofs.Entries.{entries-fit, entries-stored}
+use Rattle.palette.proofs.Entries.{entries-fit, entries-next, entries-stored}
 use borrow.Author.Needs.{needs}
 use Rattle.palette.proofs.set_palette.Statement.{statement}
 use Rattle.palette.proofs.set_palette.Tie as tie
@@ -30,7 +31,7 @@ mul-put-bytes-2 : tie.Need-mul-put-bytes-2
 mul-put-bytes-2 c = search needs
 
 put-bytes-requires : tie.Need-put-bytes-requires
-put-bytes-requires c κs = let q = entries-fit _ _ _ (c .before .before .before .before .before .judge-entries .ensures) (c .before .before .before .enum-told .given .1) _ _ (c .before .before .word-at .ensures .0) (c .before .word-at2 .ensures .0) in (omega (arith, q .0, q .1, q .2), omega (arith, q .0, q .1, q .2))
+put-bytes-requires c κs = (entries-next _ _ _ (c .before .before .before .before .before .judge-entries .ensures) (c .before .before .before .enum-told .given .1) _ _ (c .before .before .word-at .ensures .0) (c .before .word-at2 .ensures .0) _ refl, let q = entries-fit _ _ _ (c .before .before .before .before .before .judge-entries .ensures) (c .before .before .before .enum-told .given .1) _ _ (c .before .before .word-at .ensures .0) (c .before .word-at2 .ensures .0) in omega (arith, q .1))
 
 enum-known-r : tie.Need-enum-known-r
 enum-known-r c = search needs
@@ -39,7 +40,7 @@ same-length : tie.Need-same-length
 same-length c = search needs
 
 returns : tie.Need-returns
-returns c = stores-all _ _ _ (c .before .before .before .before .before .before .before .before .judge-entries .ensures) (c .before .before .before .before .before .before .enum-told .given .1) _ (entries-stored _ _ _ (c .before .before .before .before .before .before .before .before .judge-entries .ensures) (c .before .before .before .before .before .before .enum-told .given .1) _ _ (c .before .before .before .before .before .word-at .ensures .0) (c .before .before .before .before .word-at2 .ensures .0) _ _ (c .before .before .put-bytes .ensures))
+returns c = stores-all _ _ _ (c .before .before .before .before .before .before .before .before .judge-entries .ensures) (c .before .before .before .before .before .before .enum-told .given .1) _ (entries-stored _ _ _ (c .before .before .before .before .before .before .before .before .judge-entries .ensures) (c .before .before .before .before .before .before .enum-told .given .1) _ _ (c .before .before .before .before .before .word-at .ensures .0) (c .before .before .before .before .word-at2 .ensures .0) _ _ (c .before .before .put-bytes .ensures .1))
 
 returns-2 : tie.Need-returns-2
 returns-2 c = keeps _ _ _ (c .before .before .before .judge-entries .ensures) _ (c .before .r .given .1)

@@ -1,27 +1,28 @@
-use Prim.Native.Nat.{_-_, _≤_}
+-- Turn i makes store i of the list: the loop keeps `Making`.
+use mathlib.Core.Path.{refl}
+use Prim.Native.Nat.{_-_}
 use native.Mathlib.Omega.{arith}
-use lib.ListN.{length, take}
-use Rattle.room.proofs.Written.{Writing, writing-start, writing-more, writing-length, take-more, written-all}
+use lib.ListN.{length}
+use Rattle.listed.specs.Store.{byte, from}
+use Rattle.listed.proofs.Making.{Making, making-start, making-length}
+use Rattle.room.proofs.Written.{next-byte, byte-put, all-put}
 use Rattle.room.proofs.put_all.Statement.{statement}
 use Rattle.room.proofs.put_all.Tie as tie
 use Rattle.room.proofs.put_all.Reads as reads
 use Rattle.room.proofs.put_all.Lts as lts
-use Rattle.room.proofs.put.Reads as put-reads
+use Rattle.room.proofs.put_byte.Reads as put-byte-reads
 
 abbrev Inv-loop : tie.InvT-loop
-Inv-loop room₀ bytes i₀ room i = (i ≤ length bytes) × Writing room₀ (take i bytes) i room
+Inv-loop room₀ bytes i₀ room i = Making (byte 0 (from bytes 0)) room₀ (length bytes) room i
 
 abbrev μ-loop : tie.MeasureT-loop
 μ-loop room₀ bytes i₀ room i = length bytes - i
 
 loop-holds : tie.Need-loop-holds Inv-loop μ-loop
-loop-holds c = (omega arith, writing-start _)
+loop-holds c = making-start _ _ _
 
-shared-slice-read-put : tie.Need-shared-slice-read-put Inv-loop μ-loop
-shared-slice-read-put c = omega arith
-
-put-requires : tie.Need-put-requires Inv-loop μ-loop
-put-requires c κs = omega (arith, writing-length _ _ _ _ (c .before .before .before .loop .inv .1))
+put-byte-requires : tie.Need-put-byte-requires Inv-loop μ-loop
+put-byte-requires c κs = (c .before .loop-test .taken, next-byte _ _ (c .before .before .before .before .before .pre) _ refl _ _ (c .before .before .loop .inv) (c .before .loop-test .taken) _ refl)
 
 add-i : tie.Need-add-i Inv-loop μ-loop
 add-i c = omega arith
@@ -30,13 +31,13 @@ loop-less : tie.Need-loop-less Inv-loop μ-loop
 loop-less c = omega arith
 
 loop-again : tie.Need-loop-again Inv-loop μ-loop
-loop-again c = (omega arith, writing-more _ _ _ _ (c .before .before .before .before .before .before .loop .inv .1) (omega (arith, c .before .before .before .before .before .loop-test .taken, c .before .before .before .before .before .before .before .before .before .pre)) _ _ _ (take-more _ _ (c .before .before .before .before .before .loop-test .taken)) (c .before .before .put .ensures))
+loop-again c = byte-put _ _ (c .before .before .before .before .before .before .before .before .pre) _ refl _ _ (c .before .before .before .before .before .loop .inv) (c .before .before .before .before .loop-test .taken) _ _ refl (c .before .before .put-byte .ensures)
 
 same-length : tie.Need-same-length Inv-loop μ-loop
-same-length c = writing-length _ _ _ _ (c .before .loop .inv .1)
+same-length c = making-length _ _ _ _ _ (c .before .loop .inv)
 
 returns : tie.Need-returns Inv-loop μ-loop
-returns c = written-all _ _ _ _ (c .before .loop .inv .1) (c .loop-test .left)
+returns c = all-put _ _ (c .before .before .before .before .pre) _ refl _ _ (c .before .loop .inv) (c .loop-test .left)
 
 pub put-all-spec : {M : Type 1} → statement M
 put-all-spec =
@@ -45,8 +46,7 @@ put-all-spec =
     Inv-loop
     μ-loop
     loop-holds
-    shared-slice-read-put
-    put-requires
+    put-byte-requires
     add-i
     loop-less
     loop-again

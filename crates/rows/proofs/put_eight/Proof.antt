@@ -1,80 +1,36 @@
-use Rattle.rows.proofs.Eight.{eight-put}
+use mathlib.Core.Path.{refl}
+use Rattle.rows.specs.Row.{colours}
+use Rattle.rows.proofs.Beside.{beside-low, left-four, right-four, eight-made}
+use native.Mathlib.Omega.{arith}
 use borrow.Author.Needs.{needs}
 use Rattle.rows.proofs.put_eight.Statement.{statement}
 use Rattle.rows.proofs.put_eight.Tie as tie
-use Rattle.rows.proofs.put_eight.Reads as reads
-use Rattle.rows.proofs.put_eight.Lts as lts
-use Rattle.paint.proofs.put.Reads as put-reads
 
-put-requires : tie.Need-put-requires
-put-requires c κs = search needs
+put-four-requires : tie.Need-put-four-requires
+put-four-requires c κs = left-four (colours _ _ _ _) (colours _ _ _ _) refl (c .before .before .before .before .pre)
 
-add-put : tie.Need-add-put
-add-put c = search needs
+add-put-four : tie.Need-add-put-four
+add-put-four c = omega (arith, beside-low _ _ _ _ _ _ (c .before .before .before .before .before .before .before .before .pre))
 
-put-requires-2 : tie.Need-put-requires-2
-put-requires-2 c κs = search needs
+add-put-four-2 : tie.Need-add-put-four-2
+add-put-four-2 c = search needs
 
-add-put-2 : tie.Need-add-put-2
-add-put-2 c = search needs
-
-put-requires-3 : tie.Need-put-requires-3
-put-requires-3 c κs = search needs
-
-add-put-3 : tie.Need-add-put-3
-add-put-3 c = search needs
-
-put-requires-4 : tie.Need-put-requires-4
-put-requires-4 c κs = search needs
-
-add-put-4 : tie.Need-add-put-4
-add-put-4 c = search needs
-
-put-requires-5 : tie.Need-put-requires-5
-put-requires-5 c κs = search needs
-
-add-put-5 : tie.Need-add-put-5
-add-put-5 c = search needs
-
-put-requires-6 : tie.Need-put-requires-6
-put-requires-6 c κs = search needs
-
-add-put-6 : tie.Need-add-put-6
-add-put-6 c = search needs
-
-put-requires-7 : tie.Need-put-requires-7
-put-requires-7 c κs = search needs
-
-add-put-7 : tie.Need-add-put-7
-add-put-7 c = search needs
-
-put-requires-8 : tie.Need-put-requires-8
-put-requires-8 c κs = search needs
+put-four-requires-2 : tie.Need-put-four-requires-2
+put-four-requires-2 c κs = right-four (colours _ _ _ _) (colours _ _ _ _) refl (c .before .before .before .before .before .before .before .before .pre) (c .before .before .before .put-four .ensures)
 
 same-length : tie.Need-same-length
 same-length c = search needs
 
 returns : tie.Need-returns
-returns c = eight-put _ _ _ _ _ _ _ _ _ _ _ _ _ _ _ _ _ _ (c .before .before .before .before .before .before .before .before .before .before .before .before .before .before .before .before .before .before .before .before .before .before .before .before .before .before .before .before .before .before .put .ensures) (c .before .before .before .before .before .before .before .before .before .before .before .before .before .before .before .before .before .before .before .before .before .before .before .before .before .before .put2 .ensures) (c .before .before .before .before .before .before .before .before .before .before .before .before .before .before .before .before .before .before .before .before .before .before .put3 .ensures) (c .before .before .before .before .before .before .before .before .before .before .before .before .before .before .before .before .before .before .put4 .ensures) (c .before .before .before .before .before .before .before .before .before .before .before .before .before .before .put5 .ensures) (c .before .before .before .before .before .before .before .before .before .before .put6 .ensures) (c .before .before .before .before .before .before .put7 .ensures) (c .before .before .put8 .ensures)
+returns c = eight-made (colours _ _ _ _) (colours _ _ _ _) refl (c .before .before .before .before .before .before .before .before .before .before .before .pre) (c .before .before .before .before .before .before .put-four .ensures) (c .before .before .put-four2 .ensures)
 
 pub put-eight-spec : {M : Type 1} → statement M
 put-eight-spec =
     tie.close
     (tie.spec
-    put-requires
-    add-put
-    put-requires-2
-    add-put-2
-    put-requires-3
-    add-put-3
-    put-requires-4
-    add-put-4
-    put-requires-5
-    add-put-5
-    put-requires-6
-    add-put-6
-    put-requires-7
-    add-put-7
-    put-requires-8
+    put-four-requires
+    add-put-four
+    add-put-four-2
+    put-four-requires-2
     same-length
     returns)

@@ -2,53 +2,52 @@ use mathlib.Core.Path.{_≡_}
 use Prim.Native.Nat.{_-_, _*_, _%_}
 use native.Mathlib.Nat.{zero-mod}
 use native.Mathlib.Omega.{arith}
-use Rattle.paint.proofs.Painting.{Painting, painting-start, painting-end, painting-length, square-inside}
-use Rattle.rows.proofs.Rows.{rows-below, rows-low, stacked-inside, painting-stacked, square-kept}
-use Rattle.rows.proofs.Colours.{band-of, band-room}
 use Rattle.motion.specs.Motion.{rasterIndex}
-use Rattle.block.specs.Block.{cellSource}
-use Rattle.paint.specs.Paint.{single, fixedValue}
+use Rattle.paint.specs.Value.{planOf}
+use Rattle.paint.proofs.Painting.{square-inside}
+use Rattle.rows.proofs.Rows.{Rows, rows-start, rows-begun, rows-by, rows-end, rows-length, rows-below, rows-low, square-kept}
+use Rattle.rows.proofs.Colours.{band-of, band-room}
 use Rattle.rows.proofs.whole_cells.Statement.{statement}
 use Rattle.rows.proofs.whole_cells.Tie as tie
 
 abbrev Inv-loop : tie.InvT-loop
-Inv-loop side s back₀ w x y to₀ p₀ back to p = (p % (8 * side) ≡ 0) × (to ≡ rasterIndex w x y p) × Painting (single (rasterIndex w x y) (fixedValue (cellSource side) s)) back₀ 64 back p
+Inv-loop code s front back₀ w x y side to₀ p₀ back to p = (p % (8 * side) ≡ 0) × (to ≡ rasterIndex w x y p) × Rows (planOf code s front w x y) back₀ back p
 
 abbrev μ-loop : tie.MeasureT-loop
-μ-loop side s back₀ w x y to₀ p₀ back to p = 64 - p
+μ-loop code s front back₀ w x y side to₀ p₀ back to p = 64 - p
 
 raster-index-requires : tie.Need-raster-index-requires Inv-loop μ-loop
-raster-index-requires c κs = square-inside _ _ _ _ _ (c .before .before .pre .3) (omega arith)
+raster-index-requires c κs = square-inside _ _ _ _ _ (c .before .before .before .pre .4) (omega arith)
 
 loop-holds : tie.Need-loop-holds Inv-loop μ-loop
-loop-holds c = (zero-mod _, c .raster-index .ensures, painting-start _ _ _)
+loop-holds c = (zero-mod _, (c .raster-index .ensures), rows-start _ _)
 
 cells-band-requires : tie.Need-cells-band-requires Inv-loop μ-loop
-cells-band-requires c κs = let b = (band-of (c .before .before .before .before .before .before .pre .0) (c .before .before .before .before .before .before .pre .1) (c .before .before .loop .inv .0) (c .before .loop-test .taken)) in let z = band-room b in (b, c .before .before .before .before .before .before .pre .2, c .before .before .before .before .before .before .pre .3 .width, stacked-inside _ _ _ _ _ (z .row) (c .before .before .loop .inv .1) _ (square-kept (c .before .before .before .before .before .before .pre .3) (painting-length _ _ _ _ _ (c .before .before .loop .inv .2))) (z .room))
+cells-band-requires c κs = ((c .before .before .before .before .before .before .before .pre .0), (band-of (c .before .before .before .before .before .before .before .pre .1) (c .before .before .before .before .before .before .before .pre .2) (c .before .before .loop .inv .0) (c .before .loop-test .taken)), (c .before .before .before .before .before .before .before .pre .3), square-kept (c .before .before .before .before .before .before .before .pre .4) (rows-length (c .before .before .loop .inv .2)), rows-begun (c .before .before .loop .inv .2), (c .before .before .loop .inv .1))
 
 mul-to : tie.Need-mul-to Inv-loop μ-loop
-mul-to c = let z = band-room (band-of (c .before .before .before .before .before .before .before .before .before .pre .0) (c .before .before .before .before .before .before .before .before .before .pre .1) (c .before .before .before .before .before .loop .inv .0) (c .before .before .before .before .loop-test .taken)) in omega (arith, rows-low _ _ _ _ _ (c .before .before .before .before .before .loop .inv .1) (c .before .before .before .before .before .before .before .before .before .args .side) (c .before .before .before .before .before .before .before .before .before .pre .3) (c .before .before .before .before .loop-test .taken) (omega (arith, z .room)))
+mul-to c = let z = band-room (band-of (c .before .before .before .before .before .before .before .before .before .before .pre .1) (c .before .before .before .before .before .before .before .before .before .before .pre .2) (c .before .before .before .before .before .loop .inv .0) (c .before .before .before .before .loop-test .taken)) in omega (arith, rows-low _ _ _ _ _ (c .before .before .before .before .before .loop .inv .1) (c .before .before .before .before .before .before .before .before .before .before .args .side) (c .before .before .before .before .before .before .before .before .before .before .pre .4) (c .before .before .before .before .loop-test .taken) (omega (arith, z .room)))
 
 add-to : tie.Need-add-to Inv-loop μ-loop
-add-to c = let z = band-room (band-of (c .before .before .before .before .before .before .before .before .before .pre .0) (c .before .before .before .before .before .before .before .before .before .pre .1) (c .before .before .before .before .before .loop .inv .0) (c .before .before .before .before .loop-test .taken)) in omega (arith, rows-low _ _ _ _ _ (c .before .before .before .before .before .loop .inv .1) (c .before .before .before .before .before .before .before .before .before .args .side) (c .before .before .before .before .before .before .before .before .before .pre .3) (c .before .before .before .before .loop-test .taken) (omega (arith, z .room)))
+add-to c = let z = band-room (band-of (c .before .before .before .before .before .before .before .before .before .before .pre .1) (c .before .before .before .before .before .before .before .before .before .before .pre .2) (c .before .before .before .before .before .loop .inv .0) (c .before .before .before .before .loop-test .taken)) in omega (arith, rows-low _ _ _ _ _ (c .before .before .before .before .before .loop .inv .1) (c .before .before .before .before .before .before .before .before .before .before .args .side) (c .before .before .before .before .before .before .before .before .before .before .pre .4) (c .before .before .before .before .loop-test .taken) (omega (arith, z .room)))
 
 mul-p : tie.Need-mul-p Inv-loop μ-loop
-mul-p c = omega (arith, band-room (band-of (c .before .before .before .before .before .before .before .before .before .pre .0) (c .before .before .before .before .before .before .before .before .before .pre .1) (c .before .before .before .before .before .loop .inv .0) (c .before .before .before .before .loop-test .taken)) .room)
+mul-p c = omega (arith, band-room (band-of (c .before .before .before .before .before .before .before .before .before .before .pre .1) (c .before .before .before .before .before .before .before .before .before .before .pre .2) (c .before .before .before .before .before .loop .inv .0) (c .before .before .before .before .loop-test .taken)) .room)
 
 add-p : tie.Need-add-p Inv-loop μ-loop
-add-p c = omega (arith, band-room (band-of (c .before .before .before .before .before .before .before .before .before .pre .0) (c .before .before .before .before .before .before .before .before .before .pre .1) (c .before .before .before .before .before .loop .inv .0) (c .before .before .before .before .loop-test .taken)) .room)
+add-p c = omega (arith, band-room (band-of (c .before .before .before .before .before .before .before .before .before .before .pre .1) (c .before .before .before .before .before .before .before .before .before .before .pre .2) (c .before .before .before .before .before .loop .inv .0) (c .before .before .before .before .loop-test .taken)) .room)
 
 loop-less : tie.Need-loop-less Inv-loop μ-loop
-loop-less c = omega (arith, c .before .before .before .before .before .before .before .before .before .pre .1, c .before .before .before .before .loop-test .taken)
+loop-less c = omega (arith, (c .before .before .before .before .before .before .before .before .before .before .pre .2), (c .before .before .before .before .loop-test .taken))
 
 loop-again : tie.Need-loop-again Inv-loop μ-loop
-loop-again c = let z = band-room (band-of (c .before .before .before .before .before .before .before .before .before .pre .0) (c .before .before .before .before .before .before .before .before .before .pre .1) (c .before .before .before .before .before .loop .inv .0) (c .before .before .before .before .loop-test .taken)) in (z .next, rows-below _ _ _ _ _ (c .before .before .before .before .before .loop .inv .1) _, painting-stacked _ _ _ _ _ (z .row) (c .before .before .before .before .before .loop .inv .1) _ _ _ (c .before .before .before .before .before .loop .inv .2) _ (z .room) _ (c .before .before .cells-band .ensures))
+loop-again c = let z = band-room (band-of (c .before .before .before .before .before .before .before .before .before .before .pre .1) (c .before .before .before .before .before .before .before .before .before .before .pre .2) (c .before .before .before .before .before .loop .inv .0) (c .before .before .before .before .loop-test .taken)) in (z .next, rows-below _ _ _ _ _ (c .before .before .before .before .before .loop .inv .1) _, rows-by (c .before .before .before .before .before .loop .inv .2) _ (omega arith) (z .room) (c .before .before .cells-band .ensures))
 
 same-length : tie.Need-same-length Inv-loop μ-loop
-same-length c = painting-length _ _ _ _ _ (c .before .loop .inv .2)
+same-length c = rows-length (c .before .loop .inv .2)
 
 returns : tie.Need-returns Inv-loop μ-loop
-returns c = painting-end _ _ _ _ _ (c .before .loop .inv .2) (c .loop-test .left)
+returns c = rows-end (c .before .loop .inv .2) (c .loop-test .left)
 
 pub whole-cells-spec : {M : Type 1} → statement M
 whole-cells-spec =

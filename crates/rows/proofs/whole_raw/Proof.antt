@@ -1,47 +1,47 @@
-use mathlib.Core.Path.{_≡_}
-use Prim.Native.Nat.{_-_}
+use mathlib.Core.Path.{_≡_, ap}
+use Prim.Native.Nat.{ℕ, _+_, _-_}
 use native.Mathlib.Omega.{arith}
-use Rattle.paint.proofs.Painting.{square-inside}
-use Rattle.rows.proofs.Rows.{Rows, rows-start, rows-room, rows-fixed, rows-inside, rows-end, rows-length, row-below, row-low}
-use Rattle.rows.proofs.Colours.{raw-source}
+use lib.ListN.{getD}
 use Rattle.motion.specs.Motion.{rasterIndex}
-use Rattle.block.specs.Block.{cellSource}
-use Rattle.paint.specs.Paint.{single, fixedValue}
+use Rattle.paint.specs.Value.{planOf}
+use Rattle.paint.proofs.Painting.{square-inside}
+use Rattle.rows.proofs.Rows.{Rows, rows-start, rows-room, rows-begun, rows-more, rows-end, rows-length, row-below, row-low, square-kept, data-beside}
+use Rattle.rows.proofs.Colours.{raw-source}
 use Rattle.rows.proofs.whole_raw.Statement.{statement}
 use Rattle.rows.proofs.whole_raw.Tie as tie
 
 abbrev Inv-loop : tie.InvT-loop
-Inv-loop s back₀ w x y to₀ p₀ back to p = (to ≡ rasterIndex w x y p) × Rows (single (rasterIndex w x y) (fixedValue (cellSource 1) s)) back₀ back p
+Inv-loop code s front back₀ w x y to₀ p₀ back to p = (to ≡ rasterIndex w x y p) × Rows (planOf code s front w x y) back₀ back p
 
 abbrev μ-loop : tie.MeasureT-loop
-μ-loop s back₀ w x y to₀ p₀ back to p = 64 - p
+μ-loop code s front back₀ w x y to₀ p₀ back to p = 64 - p
 
 raster-index-requires : tie.Need-raster-index-requires Inv-loop μ-loop
-raster-index-requires c κs = square-inside _ _ _ _ _ (c .before .before .pre .1) (omega arith)
+raster-index-requires c κs = square-inside _ _ _ _ _ (c .before .before .before .pre .2) (omega arith)
 
 loop-holds : tie.Need-loop-holds Inv-loop μ-loop
-loop-holds c = (c .raster-index .ensures, rows-start _ _)
+loop-holds c = ((c .raster-index .ensures), rows-start _ _)
 
 copied-row-requires : tie.Need-copied-row-requires Inv-loop μ-loop
-copied-row-requires c κs = (omega (arith, c .before .before .before .before .before .before .pre .0, rows-room _ _ _ _ (c .before .before .loop .inv .1) (c .before .loop-test .taken)), rows-inside _ _ _ _ _ _ _ (c .before .before .loop .inv .1) (c .before .loop-test .taken) _ (c .before .before .loop .inv .0) (c .before .before .before .before .before .before .pre .1))
+copied-row-requires c κs = (omega (arith, (c .before .before .before .before .before .before .before .pre .1), rows-room (c .before .before .loop .inv .1) (c .before .loop-test .taken)), data-beside _ (c .before .before .before .before .before .before .before .pre .0) (c .before .before .loop .inv .1 .whole) (c .before .loop-test .taken) (c .before .before .loop .inv .0) (square-kept (c .before .before .before .before .before .before .before .pre .2) (rows-length (c .before .before .loop .inv .1))) (rows-begun (c .before .before .loop .inv .1)) (λ (i : ℕ). getD (c .before .before .before .before .before .before .before .args .s .now) ((c .before .before .loop .p) + i) 0) (λ i h. ap (λ (n : ℕ). getD (c .before .before .before .before .before .before .before .args .s .now) n 0) (raw-source ((c .before .before .loop .p) + i))))
 
 add-to : tie.Need-add-to Inv-loop μ-loop
-add-to c = omega (arith, row-low _ _ _ _ _ (c .before .before .before .before .before .loop .inv .0) (c .before .before .before .before .before .before .before .before .before .pre .1) (c .before .before .before .before .loop-test .taken))
+add-to c = omega (arith, row-low _ _ _ _ _ (c .before .before .before .before .before .loop .inv .0) (c .before .before .before .before .before .before .before .before .before .before .pre .2) (c .before .before .before .before .loop-test .taken))
 
 add-p : tie.Need-add-p Inv-loop μ-loop
-add-p c = omega (arith, c .before .before .before .before .loop-test .taken)
+add-p c = omega (arith, (c .before .before .before .before .loop-test .taken))
 
 loop-less : tie.Need-loop-less Inv-loop μ-loop
-loop-less c = omega (arith, c .before .before .before .before .loop-test .taken)
+loop-less c = omega (arith, (c .before .before .before .before .loop-test .taken))
 
 loop-again : tie.Need-loop-again Inv-loop μ-loop
-loop-again c = (row-below _ _ _ _ _ (c .before .before .before .before .before .loop .inv .0), rows-fixed _ _ _ _ _ _ _ _ (c .before .before .before .before .before .loop .inv .1) (c .before .before .before .before .loop-test .taken) _ _ (c .before .before .before .before .before .loop .inv .0) (λ i h. raw-source _) _ (c .before .before .copied-row .ensures))
+loop-again c = (row-below _ _ _ _ _ (c .before .before .before .before .before .loop .inv .0), rows-more (c .before .before .before .before .before .loop .inv .1) (c .before .before .before .before .loop-test .taken) (c .before .before .copied-row .ensures))
 
 same-length : tie.Need-same-length Inv-loop μ-loop
-same-length c = rows-length _ _ _ _ (c .before .loop .inv .1)
+same-length c = rows-length (c .before .loop .inv .1)
 
 returns : tie.Need-returns Inv-loop μ-loop
-returns c = rows-end _ _ _ _ (c .before .loop .inv .1) (c .loop-test .left)
+returns c = rows-end (c .before .loop .inv .1) (c .loop-test .left)
 
 pub whole-raw-spec : {M : Type 1} → statement M
 whole-raw-spec =

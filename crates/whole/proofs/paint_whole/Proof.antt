@@ -2,9 +2,6 @@ use Rattle.whole.proofs.Whole.{none-painted, all-drawable, all-painted}
 use borrow.Author.Needs.{needs}
 use Rattle.whole.proofs.paint_whole.Statement.{statement}
 use Rattle.whole.proofs.paint_whole.Tie as tie
-use Rattle.whole.proofs.paint_whole.Reads as reads
-use Rattle.whole.proofs.paint_whole.Lts as lts
-use Rattle.whole.proofs.paint_all.Reads as paint-all-reads
 
 returns : tie.Need-returns
 returns c = none-painted _ _ (c .if1 .taken) _ _

@@ -1,156 +1,153 @@
 use mathlib.Core.Path.{refl}
 use Rattle.pattern.proofs.Bounds.{numbers-shaped}
-use Rattle.whole.proofs.Families.{form-painted}
+use Rattle.whole.proofs.Families.{form-shaped}
 use borrow.Author.Needs.{needs}
 use Rattle.whole.proofs.whole_form.Statement.{statement}
 use Rattle.whole.proofs.whole_form.Tie as tie
-use Rattle.whole.proofs.whole_form.Reads as reads
-use Rattle.whole.proofs.whole_form.Lts as lts
-use Rattle.rows.proofs.whole_pattern.Reads as whole-pattern-reads
 
 enum-told : tie.Need-enum-told
 enum-told c = search needs
 
 whole-pattern-requires : tie.Need-whole-pattern-requires
-whole-pattern-requires c κs = let n = numbers-shaped _ _ _ _ (c .before .enum-told .given .1) refl (c .before .before .before .before .before .pre .0) in (n .0, n .1, c .before .before .before .before .before .pre .1)
+whole-pattern-requires c κs = let n = numbers-shaped _ _ _ _ (c .before .enum-told .given .1) refl (c .before .before .before .before .before .before .pre .1) in (form-shaped _ _ _ _ _ _ _ _ (c .before .enum-told .given .1) refl (c .before .before .before .before .before .before .pre .0), n .0, n .1, (c .before .before .before .before .before .before .pre .2))
 
 enum-told-2 : tie.Need-enum-told-2
 enum-told-2 c = search needs
 
 whole-pattern-requires-2 : tie.Need-whole-pattern-requires-2
-whole-pattern-requires-2 c κs = let n = numbers-shaped _ _ _ _ (c .before .enum-told2 .given .1) refl (c .before .before .before .before .before .pre .0) in (n .0, n .1, c .before .before .before .before .before .pre .1)
+whole-pattern-requires-2 c κs = let n = numbers-shaped _ _ _ _ (c .before .enum-told2 .given .1) refl (c .before .before .before .before .before .before .pre .1) in (form-shaped _ _ _ _ _ _ _ _ (c .before .enum-told2 .given .1) refl (c .before .before .before .before .before .before .pre .0), n .0, n .1, (c .before .before .before .before .before .before .pre .2))
 
 enum-told-3 : tie.Need-enum-told-3
 enum-told-3 c = search needs
 
 whole-pattern-requires-3 : tie.Need-whole-pattern-requires-3
-whole-pattern-requires-3 c κs = let n = numbers-shaped _ _ _ _ (c .before .enum-told3 .given .1) refl (c .before .before .before .before .before .pre .0) in (n .0, n .1, c .before .before .before .before .before .pre .1)
+whole-pattern-requires-3 c κs = let n = numbers-shaped _ _ _ _ (c .before .enum-told3 .given .1) refl (c .before .before .before .before .before .before .pre .1) in (form-shaped _ _ _ _ _ _ _ _ (c .before .enum-told3 .given .1) refl (c .before .before .before .before .before .before .pre .0), n .0, n .1, (c .before .before .before .before .before .before .pre .2))
 
 enum-told-4 : tie.Need-enum-told-4
 enum-told-4 c = search needs
 
 whole-pattern-requires-4 : tie.Need-whole-pattern-requires-4
-whole-pattern-requires-4 c κs = let n = numbers-shaped _ _ _ _ (c .before .enum-told4 .given .1) refl (c .before .before .before .before .before .pre .0) in (n .0, n .1, c .before .before .before .before .before .pre .1)
+whole-pattern-requires-4 c κs = let n = numbers-shaped _ _ _ _ (c .before .enum-told4 .given .1) refl (c .before .before .before .before .before .before .pre .1) in (form-shaped _ _ _ _ _ _ _ _ (c .before .enum-told4 .given .1) refl (c .before .before .before .before .before .before .pre .0), n .0, n .1, (c .before .before .before .before .before .before .pre .2))
 
 enum-told-5 : tie.Need-enum-told-5
 enum-told-5 c = search needs
 
 whole-pattern-requires-5 : tie.Need-whole-pattern-requires-5
-whole-pattern-requires-5 c κs = let n = numbers-shaped _ _ _ _ (c .before .enum-told5 .given .1) refl (c .before .before .before .before .before .pre .0) in (n .0, n .1, c .before .before .before .before .before .pre .1)
+whole-pattern-requires-5 c κs = let n = numbers-shaped _ _ _ _ (c .before .enum-told5 .given .1) refl (c .before .before .before .before .before .before .pre .1) in (form-shaped _ _ _ _ _ _ _ _ (c .before .enum-told5 .given .1) refl (c .before .before .before .before .before .before .pre .0), n .0, n .1, (c .before .before .before .before .before .before .pre .2))
 
 enum-told-6 : tie.Need-enum-told-6
 enum-told-6 c = search needs
 
 whole-pattern-requires-6 : tie.Need-whole-pattern-requires-6
-whole-pattern-requires-6 c κs = let n = numbers-shaped _ _ _ _ (c .before .enum-told6 .given .1) refl (c .before .before .before .before .before .pre .0) in (n .0, n .1, c .before .before .before .before .before .pre .1)
+whole-pattern-requires-6 c κs = let n = numbers-shaped _ _ _ _ (c .before .enum-told6 .given .1) refl (c .before .before .before .before .before .before .pre .1) in (form-shaped _ _ _ _ _ _ _ _ (c .before .enum-told6 .given .1) refl (c .before .before .before .before .before .before .pre .0), n .0, n .1, (c .before .before .before .before .before .before .pre .2))
 
 enum-told-7 : tie.Need-enum-told-7
 enum-told-7 c = search needs
 
 whole-pattern-requires-7 : tie.Need-whole-pattern-requires-7
-whole-pattern-requires-7 c κs = let n = numbers-shaped _ _ _ _ (c .before .enum-told7 .given .1) refl (c .before .before .before .before .before .pre .0) in (n .0, n .1, c .before .before .before .before .before .pre .1)
+whole-pattern-requires-7 c κs = let n = numbers-shaped _ _ _ _ (c .before .enum-told7 .given .1) refl (c .before .before .before .before .before .before .pre .1) in (form-shaped _ _ _ _ _ _ _ _ (c .before .enum-told7 .given .1) refl (c .before .before .before .before .before .before .pre .0), n .0, n .1, (c .before .before .before .before .before .before .pre .2))
 
 enum-told-8 : tie.Need-enum-told-8
 enum-told-8 c = search needs
 
 whole-pattern-requires-8 : tie.Need-whole-pattern-requires-8
-whole-pattern-requires-8 c κs = let n = numbers-shaped _ _ _ _ (c .before .enum-told8 .given .1) refl (c .before .before .before .before .before .pre .0) in (n .0, n .1, c .before .before .before .before .before .pre .1)
+whole-pattern-requires-8 c κs = let n = numbers-shaped _ _ _ _ (c .before .enum-told8 .given .1) refl (c .before .before .before .before .before .before .pre .1) in (form-shaped _ _ _ _ _ _ _ _ (c .before .enum-told8 .given .1) refl (c .before .before .before .before .before .before .pre .0), n .0, n .1, (c .before .before .before .before .before .before .pre .2))
 
 enum-told-9 : tie.Need-enum-told-9
 enum-told-9 c = search needs
 
 whole-pattern-requires-9 : tie.Need-whole-pattern-requires-9
-whole-pattern-requires-9 c κs = let n = numbers-shaped _ _ _ _ (c .before .enum-told9 .given .1) refl (c .before .before .before .before .before .pre .0) in (n .0, n .1, c .before .before .before .before .before .pre .1)
+whole-pattern-requires-9 c κs = let n = numbers-shaped _ _ _ _ (c .before .enum-told9 .given .1) refl (c .before .before .before .before .before .before .pre .1) in (form-shaped _ _ _ _ _ _ _ _ (c .before .enum-told9 .given .1) refl (c .before .before .before .before .before .before .pre .0), n .0, n .1, (c .before .before .before .before .before .before .pre .2))
 
 enum-told-10 : tie.Need-enum-told-10
 enum-told-10 c = search needs
 
 whole-pattern-requires-10 : tie.Need-whole-pattern-requires-10
-whole-pattern-requires-10 c κs = let n = numbers-shaped _ _ _ _ (c .before .enum-told10 .given .1) refl (c .before .before .before .before .before .pre .0) in (n .0, n .1, c .before .before .before .before .before .pre .1)
+whole-pattern-requires-10 c κs = let n = numbers-shaped _ _ _ _ (c .before .enum-told10 .given .1) refl (c .before .before .before .before .before .before .pre .1) in (form-shaped _ _ _ _ _ _ _ _ (c .before .enum-told10 .given .1) refl (c .before .before .before .before .before .before .pre .0), n .0, n .1, (c .before .before .before .before .before .before .pre .2))
 
 enum-told-11 : tie.Need-enum-told-11
 enum-told-11 c = search needs
 
 whole-pattern-requires-11 : tie.Need-whole-pattern-requires-11
-whole-pattern-requires-11 c κs = let n = numbers-shaped _ _ _ _ (c .before .enum-told11 .given .1) refl (c .before .before .before .before .before .pre .0) in (n .0, n .1, c .before .before .before .before .before .pre .1)
+whole-pattern-requires-11 c κs = let n = numbers-shaped _ _ _ _ (c .before .enum-told11 .given .1) refl (c .before .before .before .before .before .before .pre .1) in (form-shaped _ _ _ _ _ _ _ _ (c .before .enum-told11 .given .1) refl (c .before .before .before .before .before .before .pre .0), n .0, n .1, (c .before .before .before .before .before .before .pre .2))
 
 enum-told-12 : tie.Need-enum-told-12
 enum-told-12 c = search needs
 
 whole-pattern-requires-12 : tie.Need-whole-pattern-requires-12
-whole-pattern-requires-12 c κs = let n = numbers-shaped _ _ _ _ (c .before .enum-told12 .given .1) refl (c .before .before .before .before .before .pre .0) in (n .0, n .1, c .before .before .before .before .before .pre .1)
+whole-pattern-requires-12 c κs = let n = numbers-shaped _ _ _ _ (c .before .enum-told12 .given .1) refl (c .before .before .before .before .before .before .pre .1) in (form-shaped _ _ _ _ _ _ _ _ (c .before .enum-told12 .given .1) refl (c .before .before .before .before .before .before .pre .0), n .0, n .1, (c .before .before .before .before .before .before .pre .2))
 
 same-length : tie.Need-same-length
 same-length c = search needs
 
 returns : tie.Need-returns
-returns c = form-painted _ _ _ _ _ _ _ _ (c .before .before .before .before .enum-told .given .1) refl (c .before .before .whole-pattern .ensures)
+returns c = search needs
 
 same-length-2 : tie.Need-same-length-2
 same-length-2 c = search needs
 
 returns-2 : tie.Need-returns-2
-returns-2 c = form-painted _ _ _ _ _ _ _ _ (c .before .before .before .before .enum-told2 .given .1) refl (c .before .before .whole-pattern2 .ensures)
+returns-2 c = search needs
 
 same-length-3 : tie.Need-same-length-3
 same-length-3 c = search needs
 
 returns-3 : tie.Need-returns-3
-returns-3 c = form-painted _ _ _ _ _ _ _ _ (c .before .before .before .before .enum-told3 .given .1) refl (c .before .before .whole-pattern3 .ensures)
+returns-3 c = search needs
 
 same-length-4 : tie.Need-same-length-4
 same-length-4 c = search needs
 
 returns-4 : tie.Need-returns-4
-returns-4 c = form-painted _ _ _ _ _ _ _ _ (c .before .before .before .before .enum-told4 .given .1) refl (c .before .before .whole-pattern4 .ensures)
+returns-4 c = search needs
 
 same-length-5 : tie.Need-same-length-5
 same-length-5 c = search needs
 
 returns-5 : tie.Need-returns-5
-returns-5 c = form-painted _ _ _ _ _ _ _ _ (c .before .before .before .before .enum-told5 .given .1) refl (c .before .before .whole-pattern5 .ensures)
+returns-5 c = search needs
 
 same-length-6 : tie.Need-same-length-6
 same-length-6 c = search needs
 
 returns-6 : tie.Need-returns-6
-returns-6 c = form-painted _ _ _ _ _ _ _ _ (c .before .before .before .before .enum-told6 .given .1) refl (c .before .before .whole-pattern6 .ensures)
+returns-6 c = search needs
 
 same-length-7 : tie.Need-same-length-7
 same-length-7 c = search needs
 
 returns-7 : tie.Need-returns-7
-returns-7 c = form-painted _ _ _ _ _ _ _ _ (c .before .before .before .before .enum-told7 .given .1) refl (c .before .before .whole-pattern7 .ensures)
+returns-7 c = search needs
 
 same-length-8 : tie.Need-same-length-8
 same-length-8 c = search needs
 
 returns-8 : tie.Need-returns-8
-returns-8 c = form-painted _ _ _ _ _ _ _ _ (c .before .before .before .before .enum-told8 .given .1) refl (c .before .before .whole-pattern8 .ensures)
+returns-8 c = search needs
 
 same-length-9 : tie.Need-same-length-9
 same-length-9 c = search needs
 
 returns-9 : tie.Need-returns-9
-returns-9 c = form-painted _ _ _ _ _ _ _ _ (c .before .before .before .before .enum-told9 .given .1) refl (c .before .before .whole-pattern9 .ensures)
+returns-9 c = search needs
 
 same-length-10 : tie.Need-same-length-10
 same-length-10 c = search needs
 
 returns-10 : tie.Need-returns-10
-returns-10 c = form-painted _ _ _ _ _ _ _ _ (c .before .before .before .before .enum-told10 .given .1) refl (c .before .before .whole-pattern10 .ensures)
+returns-10 c = search needs
 
 same-length-11 : tie.Need-same-length-11
 same-length-11 c = search needs
 
 returns-11 : tie.Need-returns-11
-returns-11 c = form-painted _ _ _ _ _ _ _ _ (c .before .before .before .before .enum-told11 .given .1) refl (c .before .before .whole-pattern11 .ensures)
+returns-11 c = search needs
 
 same-length-12 : tie.Need-same-length-12
 same-length-12 c = search needs
 
 returns-12 : tie.Need-returns-12
-returns-12 c = form-painted _ _ _ _ _ _ _ _ (c .before .before .before .before .enum-told12 .given .1) refl (c .before .before .whole-pattern12 .ensures)
+returns-12 c = search needs
 
 pub whole-form-spec : {M : Type 1} → statement M
 whole-form-spec =

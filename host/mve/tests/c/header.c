@@ -1,6 +1,7 @@
-/* The film of document 01's listing, opened and stepped over through the C header, with a call that leaves a block begun; a film with
-   sound, in rooms that are too small at first; packets with bytes left over, by the default and the strict forms; the rows
-   that packets touch; and where pixels come from. Exits with 0 where every answer is the one that the documents give. */
+/* The film of document 01's listing, opened and stepped over through the C header, with a call that leaves a block begun;
+   states of any numbers; a film with sound, in rooms that are too small at first; packets with bytes left over, by the
+   default and the strict forms; the rows that packets touch; and where pixels come from. Exits with 0 where every answer is
+   the one that the documents give. */
 #include "mve.h"
 
 #include <stdio.h>
@@ -53,6 +54,7 @@ static int sound(void) {
     uint8_t palette[768] = {0}, none[1] = {0}, room[16], heard[sizeof samples];
     size_t place = 0, length = 0, refused = 0;
 
+    /* By the separate calls: the film has no size, and the samples before one are wanted. */
     struct mve_stepped s = mve_open(sound_film, sizeof sound_film, 5);
     EXPECT(s.kind == MVE_TAKEN && s.bytes == 0 && s.state.stream == 5 && s.state.has_format == 0);
     for (;;) {
@@ -170,6 +172,42 @@ static int pictures(void) {
     return 0;
 }
 
+/* A step makes of any numbers in a state what the header says: here at the head of the second chunk. */
+static int states(void) {
+    uint8_t palette[768] = {0}, a[64] = {0}, b[64] = {0}, room[1];
+    size_t place = 0;
+    struct mve_stepped s = mve_begin(film, sizeof film, 0, palette, sizeof palette, &place);
+    EXPECT(s.kind == MVE_TAKEN && s.state.chunk_end == 42);
+
+    /* Without a map and a format, what stands behind them is not read, and comes back as 0. */
+    struct mve_state odd = s.state, plain = s.state;
+    odd.position = 42;
+    odd.map_start = odd.map_length = odd.unsent = 2;
+    odd.stereo = odd.compressed = odd.begun = 3;
+    odd.left = odd.right = 4;
+    plain.position = 46;
+    plain.chunk_end = 82;
+    plain.unsent = 1;
+    s = mve_step(film, sizeof film, odd, palette, sizeof palette, a, sizeof a, b, sizeof b, &place, room, 0, 70);
+    EXPECT(s.kind == MVE_TAKEN && is_same(s.state, plain));
+
+    /* With both, a flag that is not 0 comes back as 1, and the other numbers as they are. */
+    odd.has_map = odd.has_format = odd.wide = (size_t)-1;
+    plain.has_map = plain.has_format = plain.wide = plain.stereo = plain.compressed = plain.begun = 1;
+    plain.map_start = plain.map_length = 2;
+    plain.left = plain.right = 4;
+    s = mve_step(film, sizeof film, odd, palette, sizeof palette, a, sizeof a, b, sizeof b, &place, room, 0, 70);
+    EXPECT(s.kind == MVE_TAKEN && is_same(s.state, plain));
+
+    /* A refused step gives all numbers back as they came. */
+    s = mve_step(film, sizeof film, odd, palette, 767, a, sizeof a, b, sizeof b, &place, room, 0, 70);
+    EXPECT(s.kind == MVE_REFUSED && s.number == MVE_ERROR_LENT_LENGTH && is_same(s.state, odd));
+    odd.front = 2;
+    s = mve_step(film, sizeof film, odd, palette, sizeof palette, a, sizeof a, b, sizeof b, &place, room, 0, 70);
+    EXPECT(s.kind == MVE_REFUSED && s.number == MVE_ERROR_STATE && is_same(s.state, odd));
+    return 0;
+}
+
 /* One solid block, with a byte that pads its packet: the default forms take it, the strict forms refuse it. */
 static int padded_packet(void) {
     const uint8_t map[] = {0x0e}, data[] = {0x2a, 0x99, 0x99};
@@ -207,7 +245,8 @@ static int padded_film(void) {
     padded[42] = 25; /* the chunk's length: 5 bytes of opcode 0F, 20 of opcode 11 */
     padded[51] = 16; /* the opcode's */
 
-    struct mve_stepped s = mve_open(padded, sizeof padded, 0);
+    struct mve_stepped s = mve_begin(padded, sizeof padded, 0, palette, sizeof palette, &place);
+    EXPECT(s.kind == MVE_TAKEN && s.state.position == 38);
     while (s.kind == MVE_TAKEN && s.state.position != 51) {
         s = mve_step_strict(padded, sizeof padded, s.state, palette, sizeof palette, a, sizeof a, b, sizeof b, &place,
                             room, 0, 70);
@@ -228,7 +267,8 @@ static int padded_film(void) {
 
     /* With nothing left over the strict form draws the same. */
     memset(b, 0, sizeof b);
-    for (s = mve_open(film, sizeof film, 0); s.kind == MVE_TAKEN || s.kind == MVE_WHOLE;) {
+    s = mve_begin(film, sizeof film, 0, palette, sizeof palette, &place);
+    while (s.kind == MVE_TAKEN || s.kind == MVE_WHOLE) {
         s = mve_step_strict(film, sizeof film, s.state, palette, sizeof palette, a, sizeof a, b, sizeof b, &place, room, 0,
                             70);
     }
@@ -285,7 +325,9 @@ static int rows(void) {
     EXPECT(calls == 4 && place == 4 && back[64] == 0x2a && back[191] == 0);
 
     size_t drawn = 0;
-    for (struct mve_stepped s = mve_open(film, sizeof film, 0); s.kind != MVE_ENDED;) {
+    struct mve_stepped s = mve_begin(film, sizeof film, 0, palette, sizeof palette, &place);
+    EXPECT(s.kind == MVE_TAKEN && s.touched == 0 && s.first_row == 0 && s.last_row == 0);
+    while (s.kind != MVE_ENDED) {
         s = mve_step(film, sizeof film, s.state, palette, sizeof palette, a, sizeof a, b, sizeof b, &place, room, 0,
                      drawn == 0 ? 40 : 70);
         size_t draws = s.kind == MVE_WHOLE || s.kind == MVE_UNFINISHED;
@@ -317,5 +359,5 @@ static int origins(void) {
 }
 
 int main(void) {
-    return constants() | texts() | pictures() | sound() | padded_packet() | padded_film() | rows() | origins();
+    return constants() | texts() | pictures() | states() | sound() | padded_packet() | padded_film() | rows() | origins();
 }

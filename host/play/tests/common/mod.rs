@@ -2,9 +2,11 @@
 
 #![allow(dead_code)] // each test file uses a part of it
 
+use reference::begin::begin;
 use reference::film::{opcode_head, open, step, Lent, State, Stepped};
 use reference::frame::MAX_PIXELS;
 use reference::pictures::{Played, Recording};
+use reference::sound::NO_STREAM;
 use std::collections::BTreeMap;
 use std::env;
 use std::fs::{self, File};
@@ -105,7 +107,13 @@ pub fn play(program: &Path, name: &str, film: &[u8], options: &Options) -> Left 
 pub fn stops(film: &[u8], options: &Options) -> usize {
     let (mut palette, mut place, mut room) = ([0; 768], 0, vec![0; 131_070]);
     let (mut a, mut b) = (vec![0; MAX_PIXELS], vec![0; MAX_PIXELS]);
-    let Ok(mut state) = open(film, options.stream) else { return 0 };
+    // With sound by the separate calls: an opcode of sound before the size may stop a player, too.
+    let opened = if options.stream < NO_STREAM {
+        open(film, options.stream).ok()
+    } else {
+        begin(film, options.stream, &mut palette, &mut place).ok()
+    };
+    let Some(mut state) = opened else { return 0 };
     let (mut stops, mut sounds) = (0, 0);
     loop {
         let lent = Lent {

@@ -1,0 +1,3 @@
+pub mod Boundary
+pub mod Steps
+pub mod Row
