@@ -1,6 +1,7 @@
 # make            proves and builds the library (rt staticlib mve), and the command mve where its crates can be had
 # make install    installs header, archive, mve.pc and, where it is built, the command. It builds nothing
 # make uninstall  removes them
+# make boot       plays the demonstration, or FILM, by the boot stage of examples/boot on a machine of QEMU. make comes first
 #
 # PREFIX is /usr/local unless it is given. DESTDIR is put in front of every path, for packages.
 
@@ -15,7 +16,7 @@ archive = $(MVE_LIB_DIR)/libmve.a
 command = $(CARGO_TARGET_DIR)/release/mve
 version = $(shell sed -n 's/^\#define MVE_VERSION //p' include/mve.h)
 
-.PHONY: all library command install uninstall
+.PHONY: all library command install uninstall boot
 
 all: library command
 
@@ -42,3 +43,7 @@ install:
 uninstall:
 	rm -f $(DESTDIR)$(INCLUDEDIR)/mve.h $(DESTDIR)$(LIBDIR)/libmve.a $(DESTDIR)$(LIBDIR)/pkgconfig/mve.pc \
 	    $(DESTDIR)$(BINDIR)/mve
+
+boot:
+	@$(MAKE) --no-print-directory -C examples/boot boot MVE_LIB_DIR=$(abspath $(MVE_LIB_DIR)) \
+	    $(if $(FILM),FILM=$(abspath $(FILM)))

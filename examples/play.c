@@ -7,10 +7,11 @@ Writes each picture that the film sends to FOLDER, as 000000.ppm, 000001.ppm and
 The heading of each picture says, in a line like "# rows 3 to 5" or "# rows none", which rows of blocks were touched
 since this one of the two pictures was last sent: all that a display with a copy of each needs to be sent.
 FOLDER must be there and hold no name that ends in .ppm or .wav. Every step is allowed ALLOWANCE stores; when they do
-not suffice, the player is stopped as a watchdog would stop it, and goes on. If EVERY is given, it is also stopped at
-every so many opcodes of sound, when what they give is written and the state is not saved yet. Exits with 0 where the
-film ended, 1 where it was refused or a file or the folder failed, 2 on bad arguments. host/play is the same player in
-Rust.
+not suffice, the player is stopped as a watchdog would stop it, and goes on. A drawing goes on from its place. A palette
+begins again with its first store; so a step that came no further is allowed twice as many stores when it is taken
+again. If EVERY is given, the player is also stopped at every so many opcodes of sound, when what they give is written
+and the state is not saved yet. Exits with 0 where the film ended, 1 where it was refused or a file or the folder
+failed, 2 on bad arguments. host/play is the same player in Rust.
 
     rt staticlib mve
     cc -std=c11 -Iinclude examples/play.c target/staticlib/libmve.a -o play
@@ -53,18 +54,19 @@ struct rows {
     size_t last;
 };
 
-/* Where a player is: what it must not lose at a stop. The rows of each of the two pictures, a and b, are those touched
-   since it was last sent, which a display's copy of it lacks: a stop may fall between drawing and sending. */
+/* Where a player is: what it must not lose at a stop. The answer of a step has the state at its end. The rows of each
+   of the two pictures, a and b, are those touched since it was last sent, which a display's copy of it lacks: a stop may
+   fall between drawing and sending. */
 struct saved {
-    struct mve_state state;
+    struct mve_stepped step;
     struct sound sound;
     struct rows unsent[2];
 };
 
 /* All that a stop leaves, beside the files. In a real player it lies in memory that outlives the stop. */
 struct kept {
-    struct saved slots[2];
-    atomic_size_t saved; /* which of the two is the saved one */
+    struct saved records[2];
+    atomic_size_t holds; /* which of the two is the saved one */
     uint8_t palette[MVE_PALETTE_BYTES];
     uint8_t a[MVE_PICTURE_BYTES];
     uint8_t b[MVE_PICTURE_BYTES];
@@ -83,7 +85,8 @@ struct arguments {
 /* What stops a run. It outlives the runs and knows nothing of the film. */
 struct watchdog {
     size_t stops;
-    size_t sounds; /* opcodes of sound; one that is taken again counts again */
+    size_t sounds;  /* opcodes of sound; one that is taken again counts again */
+    size_t allowed; /* the stores of a step after which it stops a run */
 };
 
 struct film {
@@ -93,17 +96,21 @@ struct film {
 
 enum outcome { STOPPED, ENDED, FAILED };
 
-static struct saved load(const struct kept *kept) {
-    return kept->slots[atomic_load(&kept->saved)];
+/* The record that holds. */
+static const struct saved *saved_in(const struct kept *kept) {
+    return &kept->records[atomic_load(&kept->holds)];
 }
 
-/* The new state is written in full beside the old one, with the sound that belongs to it; then one store makes it the
-   saved one, an atomic one, which stays behind the others. A stop in between leaves the old state, and the step that
-   gave the new one is taken again. */
-static void save(struct kept *kept, struct saved next) {
-    size_t spare = 1 - atomic_load(&kept->saved);
-    kept->slots[spare] = next;
-    atomic_store(&kept->saved, spare);
+/* The other one, which the next step writes. */
+static struct saved *spare_in(struct kept *kept) {
+    return &kept->records[1 - atomic_load(&kept->holds)];
+}
+
+/* When the spare record is written in full, the answer of the step with the sound and the rows that belong to it, one
+   store makes it the one that holds, an atomic one, which stays behind the others. A stop before it leaves the old
+   record, which no step writes, and the step is taken again. */
+static void save(struct kept *kept) {
+    atomic_store(&kept->holds, 1 - atomic_load(&kept->holds));
 }
 
 /* Every message about a film begins its line anew, over the progress line. */
@@ -205,29 +212,30 @@ static int scaled(uint8_t component) {
 }
 
 /* Joins the rows that a packet touches to those of the picture that it was drawn on, which was not the front. */
-static void join_rows(struct saved *next, struct mve_stepped drawn) {
-    struct rows *rows = &next->unsent[1 - drawn.state.front];
-    if (drawn.touched == 0) {
+static void join_rows(struct saved *next) {
+    const struct mve_stepped *drawn = &next->step;
+    struct rows *rows = &next->unsent[1 - drawn->state.front];
+    if (drawn->touched == 0) {
         return;
     }
-    if (rows->touched == 0 || drawn.first_row < rows->first) {
-        rows->first = drawn.first_row;
+    if (rows->touched == 0 || drawn->first_row < rows->first) {
+        rows->first = drawn->first_row;
     }
-    if (rows->touched == 0 || drawn.last_row > rows->last) {
-        rows->last = drawn.last_row;
+    if (rows->touched == 0 || drawn->last_row > rows->last) {
+        rows->last = drawn->last_row;
     }
     rows->touched = 1;
 }
 
-static bool write_ppm(FILE *file, const struct kept *kept, struct mve_state state, struct rows rows) {
-    const uint8_t *front = state.front == 0 ? kept->a : kept->b;
-    size_t shown = mve_shown(state, kept->a, sizeof kept->a, kept->b, sizeof kept->b);
+static bool write_ppm(FILE *file, const struct kept *kept, const struct mve_state *state, struct rows rows) {
+    const uint8_t *front = state->front == 0 ? kept->a : kept->b;
+    size_t shown = mve_shown(state, MVE_STATE_NUMBERS, kept->a, sizeof kept->a, kept->b, sizeof kept->b);
     if (rows.touched != 0) {
         fprintf(file, "P6\n# rows %zu to %zu\n", rows.first, rows.last);
     } else {
         fprintf(file, "P6\n# rows none\n");
     }
-    fprintf(file, "%zu %zu\n255\n", 8 * state.columns, 8 * state.rows);
+    fprintf(file, "%zu %zu\n255\n", 8 * state->columns, 8 * state->rows);
     for (size_t i = 0; i < shown; i++) {
         const uint8_t *colour = &kept->palette[3 * front[i]];
         putc(scaled(colour[0]), file);
@@ -242,8 +250,8 @@ static bool write_ppm(FILE *file, const struct kept *kept, struct mve_state stat
 static bool write_picture(const struct kept *kept, struct saved *next, const struct arguments *arguments,
                           size_t film_length) {
     char part[FILENAME_MAX], path[FILENAME_MAX];
-    struct mve_state state = next->state;
-    struct rows *rows = &next->unsent[state.front];
+    const struct mve_state *state = &next->step.state;
+    struct rows *rows = &next->unsent[state->front];
     size_t number = count_pictures(arguments->folder);
     picture_path(path, sizeof path, arguments->folder, number);
     snprintf(part, sizeof part, "%s/picture.part", arguments->folder);
@@ -258,7 +266,7 @@ static bool write_picture(const struct kept *kept, struct saved *next, const str
         return false;
     }
     *rows = (struct rows){0};
-    fprintf(stderr, "\r%s: byte %zu of %zu, pictures: %zu", arguments->film, state.position, film_length, number + 1);
+    fprintf(stderr, "\r%s: byte %zu of %zu, pictures: %zu", arguments->film, state->position, film_length, number + 1);
     return true;
 }
 
@@ -316,7 +324,7 @@ static bool finish_sound(struct sound sound, const struct arguments *arguments) 
    and begins the next. */
 static bool take_format(struct saved *next, size_t rate, const struct arguments *arguments) {
     struct sound *sound = &next->sound;
-    size_t stereo = next->state.stereo, wide = next->state.wide;
+    size_t stereo = next->step.state.stereo, wide = next->step.state.wide;
     char path[FILENAME_MAX];
     uint8_t header[WAV_HEADER];
     if (sound->files != 0 && sound->stereo == stereo && sound->wide == wide && sound->rate == rate) {
@@ -371,36 +379,46 @@ static bool cut_sound(struct sound sound, const struct arguments *arguments) {
     return true;
 }
 
-static void tell_refusal(struct mve_stepped refused, size_t sounds, const struct arguments *arguments) {
-    fprintf(stderr, "\r%s: refused %zu", arguments->film, refused.number);
-    if (mve_is_of_block(refused.number)) {
-        fprintf(stderr, " in block %zu", refused.block);
+static void tell_refusal(const struct mve_stepped *refused, size_t sounds, const struct arguments *arguments) {
+    fprintf(stderr, "\r%s: refused %zu", arguments->film, refused->number);
+    if (mve_is_of_block(refused->number)) {
+        fprintf(stderr, " in block %zu", refused->block);
     }
-    fprintf(stderr, ": %s, at byte %zu, pictures: %zu, sound files: %zu\n", mve_refusal_text(refused.number),
-            refused.state.position, count_pictures(arguments->folder), sounds);
+    fprintf(stderr, ": %s, at byte %zu, pictures: %zu, sound files: %zu\n", mve_refusal_text(refused->number),
+            refused->state.position, count_pictures(arguments->folder), sounds);
 }
 
 /* Whether the opcode that a state stands at, which was taken, is a 03 that gave the format of the sound. */
-static bool is_format(const struct film *film, struct mve_state state) {
-    return state.position != state.chunk_end && film->bytes[state.position + 2] == 0x03 && state.stream < MVE_NO_STREAM;
+static bool is_format(const struct film *film, const struct mve_state *state) {
+    return state->position != state->chunk_end && film->bytes[state->position + 2] == 0x03 &&
+           state->stream < MVE_NO_STREAM;
 }
 
 /* The rate in a 03: the third word of its body. */
-static size_t rate_of(const struct film *film, struct mve_state state) {
-    const uint8_t *body = film->bytes + state.position + 4;
+static size_t rate_of(const struct film *film, const struct mve_state *state) {
+    const uint8_t *body = film->bytes + state->position + 4;
     return body[4] + 256u * body[5];
 }
 
 /* Writes what a step that was taken or whole gave: samples, the beginning of a sound file, a picture. */
-static bool write_output(const struct film *film, const struct kept *kept, struct mve_state before, struct saved *next,
-                         const uint8_t *room, size_t bytes, const struct arguments *arguments) {
+static bool write_output(const struct film *film, const struct kept *kept, const struct mve_state *before,
+                         struct saved *next, const uint8_t *room, const struct arguments *arguments) {
     if (is_format(film, before) && !take_format(next, rate_of(film, before), arguments)) {
         return false;
     }
-    if (bytes > 0 && !write_samples(&next->sound, room, bytes, arguments)) {
+    if (next->step.bytes > 0 && !write_samples(&next->sound, room, next->step.bytes, arguments)) {
         return false;
     }
-    return !mve_is_sent(before, next->state) || write_picture(kept, next, arguments, film->length);
+    return !mve_is_sent(before, &next->step.state) || write_picture(kept, next, arguments, film->length);
+}
+
+/* The watchdog stops a run in a step. One that came no further is given twice the stores next time. */
+static void stop_in_step(struct watchdog *watchdog, bool is_further, const struct arguments *arguments) {
+    if (is_further) {
+        watchdog->allowed = arguments->allowance;
+    } else {
+        watchdog->allowed = watchdog->allowed > SIZE_MAX / 2 ? SIZE_MAX : 2 * watchdog->allowed;
+    }
 }
 
 /* Whether the watchdog stops a run that has just written what an opcode of sound gave. */
@@ -409,38 +427,42 @@ static bool stops_at_sound(struct watchdog *watchdog, const struct arguments *ar
     return arguments->every != 0 && watchdog->sounds % arguments->every == 0;
 }
 
-/* Steps over the film from the saved state on, in the default form: many films pad their packets by a byte, and are to be
-   played (mve_step_strict is for those who make films). What a step gives is written before the state is saved: a stop in
-   between writes a picture twice, but loses none; samples go to the same place of the file again. */
+/* Steps over the film from the record that holds to the spare one, in the default form: many films pad their packets by
+   a byte, and are to be played (MVE_STRICT is for those who make films). What a step gives is written before it is saved:
+   a stop in between writes a picture twice, but loses none; samples go to the same place of the file again. */
 static enum outcome play(const struct film *film, struct kept *kept, const struct arguments *arguments,
                          struct watchdog *watchdog) {
     static uint8_t room[MVE_ROOM_BYTES]; /* need not outlive a stop */
     for (;;) {
-        struct saved saved = load(kept);
-        struct mve_stepped step =
-            mve_step(film->bytes, film->length, saved.state, kept->palette, sizeof kept->palette, kept->a,
-                     sizeof kept->a, kept->b, sizeof kept->b, &kept->place, room, sizeof room, arguments->allowance);
-        struct saved next = saved;
-        next.state = step.state;
-        switch (step.kind) {
-        case MVE_UNFINISHED: /* the next run goes on with the packet, and is told the same rows at its end */
+        const struct saved *saved = saved_in(kept);
+        const struct mve_state *from = &saved->step.state;
+        struct saved *next = spare_in(kept);
+        size_t place = kept->place;
+        *next = *saved;
+        size_t kind = mve_step(film->bytes, film->length, from, MVE_STATE_NUMBERS, &next->step, MVE_STEPPED_NUMBERS,
+                               kept->palette, sizeof kept->palette, kept->a, sizeof kept->a, kept->b, sizeof kept->b,
+                               &kept->place, room, sizeof room, watchdog->allowed, MVE_DEFAULT);
+        switch (kind) {
+        case MVE_UNFINISHED: /* the next run takes the step again; of a drawing it is told the same rows at its end */
+            stop_in_step(watchdog, kept->place != place, arguments);
             return STOPPED;
         case MVE_ENDED:
-            return finish_sound(saved.sound, arguments) ? ENDED : FAILED;
+            return finish_sound(saved->sound, arguments) ? ENDED : FAILED;
         case MVE_REFUSED:
-            if (finish_sound(saved.sound, arguments)) {
-                tell_refusal(step, saved.sound.files, arguments);
+            if (finish_sound(saved->sound, arguments)) {
+                tell_refusal(&next->step, saved->sound.files, arguments);
             }
             return FAILED;
         default: /* MVE_TAKEN, MVE_WHOLE */
-            join_rows(&next, step);
-            if (!write_output(film, kept, saved.state, &next, room, step.bytes, arguments)) {
+            join_rows(next);
+            if (!write_output(film, kept, from, next, room, arguments)) {
                 return FAILED;
             }
-            if ((is_format(film, saved.state) || step.bytes > 0) && stops_at_sound(watchdog, arguments)) {
+            if ((is_format(film, from) || next->step.bytes > 0) && stops_at_sound(watchdog, arguments)) {
                 return STOPPED;
             }
-            save(kept, next);
+            save(kept);
+            watchdog->allowed = arguments->allowance;
         }
     }
 }
@@ -448,7 +470,7 @@ static enum outcome play(const struct film *film, struct kept *kept, const struc
 /* A run of the player, up to its stop. All that it knows besides `kept` it finds out anew, the film included. */
 static enum outcome run(struct kept *kept, const struct arguments *arguments, struct watchdog *watchdog) {
     struct film film;
-    if (!cut_sound(load(kept).sound, arguments) || !read_film(arguments->film, &film)) {
+    if (!cut_sound(saved_in(kept)->sound, arguments) || !read_film(arguments->film, &film)) {
         return FAILED;
     }
     enum outcome outcome = play(&film, kept, arguments, watchdog);
@@ -473,13 +495,14 @@ static bool begin(struct kept *kept, const struct arguments *arguments) {
         return false;
     }
     /* Not mve_begin, which drops the samples before the size. */
-    struct mve_stepped opened = mve_open(film.bytes, film.length, arguments->stream);
+    struct mve_stepped *opened = &spare_in(kept)->step;
+    size_t kind = mve_open(film.bytes, film.length, arguments->stream, opened, MVE_STEPPED_NUMBERS);
     free(film.bytes);
-    if (opened.kind == MVE_REFUSED) {
+    if (kind == MVE_REFUSED) {
         tell_refusal(opened, 0, arguments);
         return false;
     }
-    save(kept, (struct saved){.state = opened.state});
+    save(kept);
     return true;
 }
 
@@ -491,10 +514,8 @@ static bool read_number(const char *text, size_t least, size_t *number) {
 }
 
 static bool read_numbers(int count, char **words, struct arguments *arguments) {
-    if (!read_number(words[3], MVE_BLOCK_STORES, &arguments->allowance)) {
-        fprintf(stderr,
-                "play: allowance %s: give a number of stores, %d or more, or no block with pixels is ever finished\n",
-                words[3], MVE_BLOCK_STORES);
+    if (!read_number(words[3], 1, &arguments->allowance)) {
+        fprintf(stderr, "play: allowance %s: give a number of stores, 1 or more\n", words[3]);
         return false;
     }
     if (count > 4 && !read_number(words[4], 0, &arguments->stream)) {
@@ -526,10 +547,10 @@ static bool read_arguments(int count, char **words, struct arguments *arguments)
 int main(int count, char **words) {
     static struct kept kept;
     struct arguments arguments;
-    struct watchdog watchdog = {0, 0};
     if (!read_arguments(count, words, &arguments)) {
         return 2;
     }
+    struct watchdog watchdog = {.allowed = arguments.allowance};
     if (!begin(&kept, &arguments)) {
         return 1;
     }
@@ -541,6 +562,7 @@ int main(int count, char **words) {
         return 1;
     }
     fprintf(stderr, "\r%s: ended at byte %zu, pictures: %zu, sound files: %zu, stops: %zu\n", arguments.film,
-            load(&kept).state.position, count_pictures(arguments.folder), load(&kept).sound.files, watchdog.stops);
+            saved_in(&kept)->step.state.position, count_pictures(arguments.folder), saved_in(&kept)->sound.files,
+            watchdog.stops);
     return 0;
 }

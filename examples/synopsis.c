@@ -4,23 +4,33 @@
 
 static uint8_t film[1 << 24]; // 16 MiB; a longer film is cut there
 static uint8_t palette[MVE_PALETTE_BYTES], a[MVE_PICTURE_BYTES], b[MVE_PICTURE_BYTES], room[1];
+static struct mve_stepped answers[2]; // in turn: the state of the one goes in, the other is written
+static size_t length, place, pictures, last; // last: which answer holds
+
+// In a function of its own, so that the steps do not stand on its stack.
+__attribute__((noinline)) static size_t begin(void) {
+    return mve_begin(film, length, MVE_NO_STREAM, &answers[0], MVE_STEPPED_NUMBERS, palette, sizeof palette, &place);
+}
 
 int main(void) {
-    size_t length = fread(film, 1, sizeof film, stdin), place = 0, pictures = 0;
-    struct mve_stepped s = mve_begin(film, length, MVE_NO_STREAM, palette, sizeof palette, &place);
-    size_t width = 8 * s.state.columns, height = 8 * s.state.rows;
-    while (s.kind != MVE_ENDED && s.kind != MVE_REFUSED) {
-        struct mve_state before = s.state;
-        s = mve_step(film, length, before, palette, sizeof palette, a, sizeof a, b, sizeof b, &place,
-                     room, sizeof room, MVE_ALL_STORES);
-        if (mve_is_sent(before, s.state)) {
-            pictures += 1; // show (s.state.front == 0 ? a : b), width * height bytes, by the palette
+    length = fread(film, 1, sizeof film, stdin);
+    size_t kind = begin();
+    while (kind != MVE_ENDED && kind != MVE_REFUSED) {
+        const struct mve_state *from = &answers[last].state;
+        struct mve_stepped *out = &answers[1 - last];
+        kind = mve_step(film, length, from, MVE_STATE_NUMBERS, out, MVE_STEPPED_NUMBERS, palette, sizeof palette,
+                        a, sizeof a, b, sizeof b, &place, room, sizeof room, MVE_ALL_STORES, MVE_DEFAULT);
+        if (mve_is_sent(from, &out->state)) {
+            pictures += 1; // show (out->state.front == 0 ? a : b) by the palette, as many bytes as mve_shown says
         }
+        last = 1 - last;
     }
-    if (s.kind == MVE_REFUSED) {
-        fprintf(stderr, "refused by %zu at byte %zu: %s\n", s.number, s.state.position, mve_refusal_text(s.number));
+    const struct mve_stepped *end = &answers[last];
+    if (kind == MVE_REFUSED) {
+        fprintf(stderr, "refused by %zu at byte %zu: %s\n", end->number, end->state.position,
+                mve_refusal_text(end->number));
         return 1;
     }
-    printf("%zu pictures of %zu by %zu pixels\n", pictures, width, height);
+    printf("%zu pictures of %zu by %zu pixels\n", pictures, 8 * end->state.columns, 8 * end->state.rows);
     return 0;
 }

@@ -10,24 +10,34 @@ The text of examples/synopsis.c, a whole program:
 
     static uint8_t film[1 << 24]; // 16 MiB; a longer film is cut there
     static uint8_t palette[MVE_PALETTE_BYTES], a[MVE_PICTURE_BYTES], b[MVE_PICTURE_BYTES], room[1];
+    static struct mve_stepped answers[2]; // in turn: the state of the one goes in, the other is written
+    static size_t length, place, pictures, last; // last: which answer holds
+
+    // In a function of its own, so that the steps do not stand on its stack.
+    __attribute__((noinline)) static size_t begin(void) {
+        return mve_begin(film, length, MVE_NO_STREAM, &answers[0], MVE_STEPPED_NUMBERS, palette, sizeof palette, &place);
+    }
 
     int main(void) {
-        size_t length = fread(film, 1, sizeof film, stdin), place = 0, pictures = 0;
-        struct mve_stepped s = mve_begin(film, length, MVE_NO_STREAM, palette, sizeof palette, &place);
-        size_t width = 8 * s.state.columns, height = 8 * s.state.rows;
-        while (s.kind != MVE_ENDED && s.kind != MVE_REFUSED) {
-            struct mve_state before = s.state;
-            s = mve_step(film, length, before, palette, sizeof palette, a, sizeof a, b, sizeof b, &place,
-                         room, sizeof room, MVE_ALL_STORES);
-            if (mve_is_sent(before, s.state)) {
-                pictures += 1; // show (s.state.front == 0 ? a : b), width * height bytes, by the palette
+        length = fread(film, 1, sizeof film, stdin);
+        size_t kind = begin();
+        while (kind != MVE_ENDED && kind != MVE_REFUSED) {
+            const struct mve_state *from = &answers[last].state;
+            struct mve_stepped *out = &answers[1 - last];
+            kind = mve_step(film, length, from, MVE_STATE_NUMBERS, out, MVE_STEPPED_NUMBERS, palette, sizeof palette,
+                            a, sizeof a, b, sizeof b, &place, room, sizeof room, MVE_ALL_STORES, MVE_DEFAULT);
+            if (mve_is_sent(from, &out->state)) {
+                pictures += 1; // show (out->state.front == 0 ? a : b) by the palette, as many bytes as mve_shown says
             }
+            last = 1 - last;
         }
-        if (s.kind == MVE_REFUSED) {
-            fprintf(stderr, "refused by %zu at byte %zu: %s\n", s.number, s.state.position, mve_refusal_text(s.number));
+        const struct mve_stepped *end = &answers[last];
+        if (kind == MVE_REFUSED) {
+            fprintf(stderr, "refused by %zu at byte %zu: %s\n", end->number, end->state.position,
+                    mve_refusal_text(end->number));
             return 1;
         }
-        printf("%zu pictures of %zu by %zu pixels\n", pictures, width, height);
+        printf("%zu pictures of %zu by %zu pixels\n", pictures, 8 * end->state.columns, 8 * end->state.rows);
         return 0;
     }
 
@@ -41,9 +51,9 @@ mve_check   whether a packet is accepted, without drawing it
 mve_draw    the drawing of a packet, without a film
 mve_origin  which byte or pixel gave a pixel of a packet's picture its value
 
-mve_step_strict, mve_check_strict and mve_draw_strict are the strict forms: a packet may leave no byte over (THE PACKET).
-mve_is_sent tells whether a step sent a picture to the display. mve_refusal_text says in words why a call was refused.
-mve_is_of_block tells whether a refusal names a block.
+mve_step with MVE_STRICT, mve_check_strict and mve_draw_strict are the strict forms: a packet may leave no byte over (THE
+PACKET). mve_is_sent tells whether a step sent a picture to the display. mve_refusal_text says in words why a call was
+refused. mve_is_of_block tells whether a refusal names a block.
 
 examples/play.c is a whole player, which is stopped again and again and goes on. docs/RULES.md has all rules in full.
 
@@ -56,52 +66,101 @@ MEMORY
 The library allocates nothing and keeps nothing between calls. The caller lends all memory. (The library calls memset, to
 set lent bytes, and no other function.) The caller must keep three rules:
 
-    While a call runs, nobody else writes to lent memory, and nobody else reads what is lent for writing: palette,
+    While a call runs, nobody else writes to lent memory, and nobody else reads what is lent for writing: out, palette,
     pictures, place and room.
-    What is lent for writing shares no byte with anything else that is lent.
-    Every address comes with its length, and is not null even where the length is 0.
+    What is lent for writing shares no byte with anything else that is lent. So from and out share no number.
+    Every address comes with its length, and is not null even where the length is 0. The addresses of from, out and place
+    are aligned, as those of size_t are.
 
-Nothing is asked of the values: the library answers any bytes, state, place and number.
+Beyond these rules nothing is asked: the library answers any values and any lengths.
+
+A state is MVE_STATE_NUMBERS numbers, and an answer about a film MVE_STEPPED_NUMBERS: struct mve_state and struct mve_stepped
+have a size_t for each and nothing else. A call takes them by their address and the count of their numbers. The state that
+goes in, from, is only read. The answer is written to out, with the next state at its end, and its first number, the kind,
+is what the call returns. Before all else a call tests the counts:
+
+    First, where out has fewer numbers than an answer, the call returns MVE_REFUSED. Nothing that is lent changes, out
+    neither. Where out has more, those behind the answer stay as they were.
+    Then, where from has more or fewer numbers than a state, or its left or right is above 65,535, mve_step refuses it by
+    MVE_ERROR_STATE. Nothing else that is lent changes, and the state in out is zeros. mve_shown gives 0.
 
 Before the first step, set palette, both pictures and the place to 0. The library writes only what the film says, so
 until a film sets a colour or draws a block, the host's bytes are used as they are. A film may copy from a picture that
 it has not drawn yet.
 
-A refused call changes nothing that is lent. A step that is refused, ended or unfinished gives back the state that it
-was given. A refused mve_begin gives back the state that the refused step was given, so that the byte can be named.
+A refused call changes nothing that is lent but out. A step that is refused, ended or unfinished gives back the state that
+it was given. A refused mve_begin gives back the state that the refused step was given, so that the byte can be named.
+
+What a player lends for writing, at most:
+
+    palette                          768 bytes
+    two pictures of 307,200      614,400 bytes
+    room                         131,070 bytes; 0 where no sound is wanted
+    place                              8 bytes
+    two answers of 200               400 bytes
+    in all                       746,646 bytes
+
+Palette, pictures and room are 746,238 bytes of it.
 
 STOPS
 
-Drawing is a list of stores, each of one pixel or of the place, made in a fixed order. The place is the number of the first
-block that is not finished. A call may be allowed fewer stores than are due: it makes the first of them and answers
-MVE_UNFINISHED, and the next call goes on. A block that was begun is drawn again from its first pixel. No block reads a
-pixel of its own, so this gives the same picture.
+A step makes its stores one by one, in a fixed order. Each is of one byte of the palette, of one pixel, or of the place:
 
-A watchdog may therefore stop the program inside mve_step or mve_draw, or their strict forms, between any two stores. To
-go on, call again with the same film, the state last given back, and the palette, pictures and place as the stop left
-them. Keep these in memory that outlives the stop. Keep the old state until the new one is saved in full.
+    0B, 0C, 0D   the bytes of the palette, by rising entry, red, green, blue; of 0B the red-blue gradient first. An entry
+                 that both gradients have is stored twice.
+    0F           the place, which becomes 0
+    11           of each block its pixels, row by row, then the place, which becomes the number of the next block
+    all others   none. Samples are not counted: they go to the room.
 
-A step that was stopped while it changed the palette stores the same entries again. A step that was stopped while it
-wrote samples writes the same samples again, because the state holds the last samples before them. So the room need not
-outlive the stop. To play no sample twice, count the samples of a step as played when its new state is saved, and not
-before. (examples/play.c keeps the length of its sound file with the state, and cuts the file back to it after a stop.)
+The place is the number of the first block that is not finished. `allowed` limits the stores of a step, and `stores` tells
+how many it made. A step that is allowed fewer than are due makes the first of them, answers MVE_UNFINISHED and gives its
+state back as it came; the next call takes the opcode again. A drawing then goes on from the place: a block that was begun
+is drawn again from its first pixel, which gives the same picture, because no block reads a pixel of its own. A palette
+and 0F begin again with their first store.
 
-mve_begin may be stopped, too. It has then changed some bytes of the palette, or the place, which were lent before the film's
-first picture. Open again: call it anew, with palette and place as the stop left them or as they were before. The answer,
-the palette and the place are then those of a call that was not stopped. A call that is refused makes no store, so a stop
-inside it changes nothing.
+A block has at most MVE_BLOCK_STORES stores, a palette MVE_PALETTE_STORES, the largest picture MVE_ALL_STORES. A palette
+that begins again is never done by calls that are each allowed fewer stores than it has. So allow MVE_PALETTE_STORES or
+more; then every call gets on. With MVE_ALL_STORES no call is unfinished. mve_draw and its strict form are limited and
+counted as 11 is.
+
+A watchdog may stop the program between any two stores, in any step of a film or in mve_draw. To go on, call again with the
+same film and the same state, and with palette, pictures and place as the stop left them. Where this call is allowed
+MVE_ALL_STORES, its answer, the new state, the palette, the place and the pictures are those of a call that nothing
+stopped; its count of stores may be smaller. So a film sends the same pictures with the same palettes, gives the same
+samples and ends alike, however often it is stopped, and wherever. This is proved of every film with 8-bit pictures
+(docs/PROOFS.md). A host must keep, in memory that outlives the stop:
+
+    the film, unchanged;
+    palette, both pictures and the place, as the stop leaves them. Set none of them back.
+    the state that went into the step which was stopped. It is never written. The new one is written to out number by
+    number, and a stop may fall between two of them. So have two answers in that memory and use them in turn, the state of
+    the one as from and the other as out. Which of them holds is a word of its own, stored when the step has returned. A
+    stop before that store leaves the old state, and the step is taken again. An older state is not enough: what is kept
+    with it has moved on.
+
+A step that sends a picture is taken again where the program is stopped before the new state is saved, and sends the same
+picture again. Show it before the state is saved: then none is lost.
+
+The room need not outlive the stop. A step that was stopped while it wrote samples writes the same samples again, because
+the state holds the last samples before them. To play no sample twice, count the samples of a step as played when its new
+state is saved, and not before. (examples/play.c keeps the length of its sound file with the state, and cuts the file back
+to it after a stop.)
+
+mve_begin is not limited, but it may be stopped, too. It has then changed some bytes of the palette, or the place, which
+were lent before the film's first picture. Open again: call it anew, with palette and place as the stop left them or as
+they were before. The answer, the palette and the place are then those of a call that was not stopped. A call that is
+refused makes no store but to out, so a stop inside it changes nothing else.
 
 All this holds on a machine that keeps two rules:
 
     Stores reach that memory in program order: when the program starts again, a store is there only if all stores before
     it are there. A write-back cache must not be lost at the stop, or must be flushed in order.
-    No store is torn: it is there in full or not at all. The place is one aligned word, stored at once. Compiled code may
-    store neighbouring pixels by one wider store.
+    No store is torn: it is there in full or not at all. The place is one aligned word, stored at once, and so is the word
+    that says which answer holds. Compiled code may store neighbouring pixels, or bytes of the palette, by one wider store.
+    The three bytes of a gradient with one entry are stored by memset, in its order; a palette that is taken again stores
+    them again.
 
 On x86-64 both hold for memory that processes share, whenever one of them is stopped or killed. host/stops tests it.
-
-A block has at most MVE_BLOCK_STORES stores, and the largest picture has MVE_ALL_STORES. A call that is allowed fewer
-than MVE_BLOCK_STORES finishes no block that has pixels to store, so allow that many or more.
 
 LINKING FOR A BOOT STAGE
 
@@ -109,14 +168,14 @@ libmve.a is one object for x86-64 and the System V ABI. It needs no operating sy
 undefined below. Every function has a section of its own, so that the linker's --gc-sections leaves out those that are not
 called. All relocations are relative: code and constants may be loaded at any address, as long as they stay together.
 
-    code                        47,035 bytes
-    constants                   1,509 bytes
+    code                        40,719 bytes
+    constants                   1,317 bytes
     memory of its own           0 bytes
     undefined symbols           memset
     relocations                 R_X86_64_PC32, R_X86_64_PLT32
-    vector registers            xmm0 to xmm15
+    vector registers            xmm0 to xmm2
     below the stack pointer     56 bytes
-    stack of mve_begin          696 bytes
+    stack of mve_begin          664 bytes
     stack of mve_check          192 bytes
     stack of mve_check_strict   192 bytes
     stack of mve_draw           664 bytes
@@ -124,18 +183,37 @@ called. All relocations are relative: code and constants may be loaded at any ad
     stack of mve_open           8 bytes
     stack of mve_origin         288 bytes
     stack of mve_shown          8 bytes
-    stack of mve_step_as        824 bytes
+    stack of mve_step           744 bytes
 
 The stack of a call is the most that it takes, together with all that it calls: return addresses, pushed registers and
 arguments, locals with the copies of constant tables, and what is used below the stack pointer. Each call takes less than
-1,024 bytes. The arguments that its caller puts on the stack come on top. An undefined function, such as memset, is the
-host's own, and so is its stack: only its return address is counted.
+1,024 bytes. The arguments that its caller puts on the stack and the caller itself come on top. An undefined function, such
+as memset, is the host's own, and so is its stack: only its return address is counted.
+
+A boot stage has one stack for all of this. A whole stage is a least caller in C, its arguments and the call, compiled with
+-O2 and with -Os, the larger of both:
+
+    compiler of the stages          gcc 12.2.0
+    whole stage of mve_begin        696 bytes
+    whole stage of mve_check        288 bytes
+    whole stage of mve_check_strict 288 bytes
+    whole stage of mve_draw         872 bytes
+    whole stage of mve_draw_strict  872 bytes
+    whole stage of mve_open         24 bytes
+    whole stage of mve_origin       432 bytes
+    whole stage of mve_shown        24 bytes
+    whole stage of mve_step         904 bytes
+
+The least caller of mve_step is main of examples/synopsis.c. It keeps all its variables out of the stack, and opens the film
+in a function of its own that is not inlined, so that the steps do not stand on the frame of the opening. The others are
+functions of one call. No stage takes more than 1,024 bytes. The stages are also run, on a stack that is painted before. What
+the example calls of the C library is not counted.
 
 At a call the stack pointer is a multiple of 16, as the ABI says. An interrupt that is taken on the same stack must leave
 the ABI's red zone alone, the 128 bytes below the stack pointer. Every instruction is one that every x86-64 processor
 has, up to SSE2; a stage without an operating system switches SSE on first (CR4.OSFXSR).
 
-`cargo run -p stack -- --header` in host/ makes the table, and a test compares it with the archive.
+`cargo run -p stack -- --header` in host/ makes the tables, and a test compares them with the archive.
 
 THE FILM
 
@@ -200,11 +278,11 @@ is drawn on. A copied 8x8 lies inside its picture.
 
 Many films pad a packet to an even length, so one byte may be left over behind the data of the last block; it is not
 read. Two or more are refused. This is the default form of the three calls that take a packet: mve_check, mve_draw and
-mve_step. Players use it. The strict forms, mve_check_strict, mve_draw_strict and mve_step_strict, refuse one byte, too.
-They are for those who make films and want every byte accounted for. A default call and a strict one give the same answer
-and leave the same memory, unless exactly one byte is left over and nothing else is wrong: then the default call accepts
-the packet, and the strict one refuses it by MVE_ERROR_DATA_LEFT. Calls of both forms may be mixed, also within one
-picture.
+mve_step with MVE_DEFAULT. Players use it. The strict forms, mve_check_strict, mve_draw_strict and mve_step with MVE_STRICT,
+refuse one byte, too. They are for those who make films and want every byte accounted for. A default call and a strict one
+give the same answer and leave the same memory, unless exactly one byte is left over and nothing else is wrong: then the
+default call accepts the packet, and the strict one refuses it by MVE_ERROR_DATA_LEFT. Calls of both forms may be mixed,
+also within one picture.
 
     code     bytes           pixels
     0        0               the same block of front
@@ -226,8 +304,8 @@ THE ROWS TOUCHED
 A row of blocks is touched by a packet where it holds a block other than code 1; code 0 counts, whatever it copies. If
 there is such a row, `touched` is 1, and `first_row` and `last_row` are the first and the last of them, counted from 0 (8
 rows of pixels each). If there is none, all three are 0. They come with MVE_ACCEPTED of mve_check, and with MVE_WHOLE and
-MVE_UNFINISHED of mve_draw and mve_step, in both forms. They are always those of the whole packet, whatever the place and
-the count of stores. Every other answer has none. A drawing leaves all pixels of the other rows, and the whole front
+MVE_UNFINISHED of mve_draw and of mve_step at an 11, in both forms. They are always those of the whole packet, whatever the
+place and the count of stores. Every other answer has none. A drawing leaves all pixels of the other rows, and the whole front
 picture, as they are.
 
 A display with a slow link may keep a copy of each of the two pictures, as each was last sent, and be sent the touched
@@ -273,7 +351,7 @@ extern "C" {
 
 /* The version of this interface. It changes with every change of the calls, of the structs, of the names, of the packets
    that are accepted and of the pictures that they give. CHANGELOG.md says what changed in each. */
-#define MVE_VERSION 9
+#define MVE_VERSION 11
 
 /* The bytes of the palette: 256 entries of red, green and blue. */
 #define MVE_PALETTE_BYTES 768
@@ -287,25 +365,38 @@ extern "C" {
 /* The stores of the largest picture: a call that is allowed so many is never unfinished. */
 #define MVE_ALL_STORES 312000
 
+/* The stores of the longest palette, 0B with 256 entries in both of its gradients: a palette that is allowed so many is
+   never unfinished. */
+#define MVE_PALETTE_STORES 1536
+
 /* The stores of a block that has pixels to store, 64 pixels and the place: a call that is allowed fewer finishes none. */
 #define MVE_BLOCK_STORES 65
 
 /* A stream number that no film has: all sound is passed over. So it is with every larger number. */
 #define MVE_NO_STREAM 16
 
+/* How many numbers a state and an answer about a film have. */
+enum { MVE_STATE_NUMBERS = 17, MVE_STEPPED_NUMBERS = 25 };
+
+/* The forms of a step: how many bytes a packet may leave over. Any other number means the strict form, too. */
+enum mve_form {
+    MVE_DEFAULT = 0, /* one byte or none */
+    MVE_STRICT = 1   /* none */
+};
+
 /* What a call answers. */
 enum mve_kind {
     MVE_ACCEPTED = 0,   /* mve_check: the packet gives a picture, and no more bytes are left over than may be */
     MVE_FOUND = 0,      /* mve_origin: the byte or the pixel is named */
-    MVE_TAKEN = 0,      /* mve_begin, mve_open, mve_step: done; nothing was drawn */
+    MVE_TAKEN = 0,      /* mve_begin, mve_open, mve_step: done; no pixel was drawn */
     MVE_WHOLE = 1,      /* the picture is drawn to its end */
-    MVE_UNFINISHED = 2, /* the stores allowed were made; more are due */
+    MVE_UNFINISHED = 2, /* the stores allowed were made; more are due (STOPS) */
     MVE_ENDED = 3,      /* mve_step: the film has ended; nothing is changed */
-    MVE_REFUSED = 4     /* nothing is changed; the number says why */
+    MVE_REFUSED = 4     /* nothing is changed but out; the number says why */
 };
 
-/* The numbers of refusal. A call gives the first that it meets. mve_step and mve_step_strict meet 2 to 19, and test them in
-   the order of this list. The other calls test in these orders:
+/* The numbers of refusal. A call gives the first that it meets. mve_step meets 2 to 19, and tests them in the order of this
+   list; an out that is too short (MEMORY) comes before them, and has no number. The other calls test in these orders:
 
        mve_open                        1
        mve_begin                       1, 8 for the palette; then at each step 2 to 7, 9, 17, 18, as mve_step does; 21 at the
@@ -316,7 +407,8 @@ enum mve_kind {
 
    Of several blocks with a fault, the one with the lowest number is given, with its first fault in the order 12, 13, 14. */
 enum mve_refusal {
-    MVE_ERROR_STATE = 16,        /* a state with position, chunk end, map, front, size or sound format out of bounds */
+    MVE_ERROR_STATE = 16,        /* from is no state (MEMORY), or one with position, chunk end, map, front, size or sound
+                                    format out of bounds */
     MVE_ERROR_LENT_LENGTH = 8,   /* palette not 768 bytes, or a picture shorter than the frame */
     MVE_ERROR_HEADER = 1,        /* film header wrong or short (mve_open and mve_begin alone) */
     MVE_ERROR_CHUNK = 2,         /* a chunk or its head passes the end of the film */
@@ -383,10 +475,11 @@ enum mve_source {
 
 /* Where a walk over a film is. It goes into a step, and the next state comes back. Change nothing in it.
 
-   A step takes any numbers. has_map, unsent, has_format, stereo, wide, compressed and begun are flags: one that is not 0
-   counts as 1. Where has_map is 0, map_start and map_length are not read; where has_format is 0, nothing behind it is. The
-   state that comes back with MVE_TAKEN or MVE_WHOLE has 0 or 1 in each flag, and 0 in each field that is not read. With
-   MVE_UNFINISHED, MVE_ENDED and MVE_REFUSED every number comes back as it went in. */
+   A step takes any numbers; left or right above 65,535 is refused (MEMORY). has_map, unsent, has_format, stereo, wide,
+   compressed and begun are flags: one that is not 0 counts as 1. Where has_map is 0, map_start and map_length are not used;
+   where has_format is 0, nothing behind it is. The state that comes back with MVE_TAKEN or MVE_WHOLE has 0 or 1 in each
+   flag, and 0 in each field that is not used. With MVE_UNFINISHED, MVE_ENDED and MVE_REFUSED every number comes back as it
+   went in. */
 struct mve_state {
     size_t position;   /* in the film */
     size_t chunk_end;
@@ -403,12 +496,12 @@ struct mve_state {
     size_t wide;       /* 0: 8-bit samples, else 16-bit */
     size_t compressed;
     size_t begun;      /* 0: no compressed 08 was taken since the last 03 */
-    uint16_t left;     /* the last samples of compressed sound; of one channel, left */
-    uint16_t right;
+    size_t left;       /* the last samples of compressed sound; of one channel, left */
+    size_t right;
 };
 
-/* number and block: of a refusal, else 0; block only for 12 to 14. stores: how many the call made. touched, first_row,
-   last_row: see THE ROWS TOUCHED. */
+/* number and block: of a refusal, else 0; block only for 12 to 14. stores: how many the call made (of a check none).
+   touched, first_row, last_row: see THE ROWS TOUCHED. */
 struct mve_answer {
     size_t kind;
     size_t number;
@@ -419,8 +512,8 @@ struct mve_answer {
     size_t last_row;
 };
 
-/* As above. bytes: how many bytes of samples the step wrote at the room's front; only an 08 or 09 of the stream writes any.
-   state: the next state. */
+/* As above; mve_open and mve_begin count no store. bytes: how many bytes of samples the step wrote at the room's front; only
+   an 08 or 09 of the stream writes any. state: the next state. */
 struct mve_stepped {
     size_t kind;
     size_t number;
@@ -433,11 +526,20 @@ struct mve_stepped {
     struct mve_state state;
 };
 
+/* A pointer to a struct of numbers is passed as one to its first number: there must be nothing between them. */
+#if defined(__cplusplus)
+static_assert(sizeof(struct mve_state) == MVE_STATE_NUMBERS * sizeof(size_t), "a state is numbers alone");
+static_assert(sizeof(struct mve_stepped) == MVE_STEPPED_NUMBERS * sizeof(size_t), "an answer is numbers alone");
+#elif __STDC_VERSION__ >= 201112L
+_Static_assert(sizeof(struct mve_state) == MVE_STATE_NUMBERS * sizeof(size_t), "a state is numbers alone");
+_Static_assert(sizeof(struct mve_stepped) == MVE_STEPPED_NUMBERS * sizeof(size_t), "an answer is numbers alone");
+#endif
+
 /* Whether the step from `before` to `after` sent a picture: it is to be shown now. A picture is sent by the step that
    leaves no frame unsent where one was finished and unsent: opcode 07. Give the state that went into mve_step and the one
    that came back. */
-static inline int mve_is_sent(struct mve_state before, struct mve_state after) {
-    return before.unsent != 0 && after.unsent == 0;
+static inline int mve_is_sent(const struct mve_state *before, const struct mve_state *after) {
+    return before->unsent != 0 && after->unsent == 0;
 }
 
 /* Where a pixel comes from. number: of a refusal, else 0. block: the pixel's, or that of a refusal. code: the block's. byte:
@@ -454,8 +556,8 @@ struct mve_traced {
 };
 
 /* The first state of a film, for this stream of its sound: MVE_TAKEN, or MVE_REFUSED by MVE_ERROR_HEADER with a state of
-   zeros. Reads the film alone. */
-struct mve_stepped mve_open(const uint8_t *film, size_t film_length, size_t stream);
+   zeros. Reads the film alone. out_numbers is MVE_STEPPED_NUMBERS, here and below; MEMORY says what other counts get. */
+size_t mve_open(const uint8_t *film, size_t film_length, size_t stream, struct mve_stepped *out, size_t out_numbers);
 
 /* Opens a film and steps until its size is known: MVE_TAKEN, with the state just after opcode 05, and the palette and the
    place as the steps up to there leave them; or MVE_REFUSED by the first refusal that mve_open and those steps meet (8 for
@@ -463,41 +565,23 @@ struct mve_stepped mve_open(const uint8_t *film, size_t film_length, size_t stre
    refusal leaves palette and place as they were. The state is then that which the refused step was given: of MVE_ERROR_HEADER
    zeros, of MVE_ERROR_NO_SIZE the film's last one. Sound before the size is decoded for the state and its samples are dropped,
    so MVE_ERROR_ROOM is not met. No picture is needed before the size. The call reads the film twice, up to the size. */
-struct mve_stepped mve_begin(const uint8_t *film, size_t film_length, size_t stream, uint8_t *palette,
-                             size_t palette_length, size_t *place);
+size_t mve_begin(const uint8_t *film, size_t film_length, size_t stream, struct mve_stepped *out, size_t out_numbers,
+                 uint8_t *palette, size_t palette_length, size_t *place);
 
-/* One step. MVE_TAKEN: a chunk's head or an opcode other than 11 was taken. MVE_WHOLE, MVE_UNFINISHED: opcode 11 was drawn
-   by at most `allowed` stores; while it is unfinished the position stays. a and b are the two pictures; once the size is
-   known, each has at least 64 times columns times rows bytes. The place starts at 0. Only sound writes to the room. A step is
-   refused by 2 to 19. `strict` is 0 for the default form of the step and any other number for the strict form; mve_step and
-   mve_step_strict below call it so. The library has one step for both forms, and not two, because that takes less stack. */
-struct mve_stepped mve_step_as(const uint8_t *film, size_t film_length, struct mve_state state,
-                               uint8_t *palette, size_t palette_length, uint8_t *a, size_t a_length,
-                               uint8_t *b, size_t b_length, size_t *place, uint8_t *room, size_t room_length,
-                               size_t allowed, size_t strict);
+/* One step from the state `from`, by at most `allowed` stores (STOPS). MVE_TAKEN: a chunk's head or an opcode other than 11
+   was taken. MVE_WHOLE: opcode 11 was drawn to its end. MVE_UNFINISHED: a palette, 0F or 11 ran short of stores; the state
+   stays. a and b are the two pictures; once the size is known, each has at least 64 times columns times rows bytes. The
+   place starts at 0. Only sound writes to the room. A step is refused by 2 to 19. from_numbers is MVE_STATE_NUMBERS. `form`
+   is MVE_DEFAULT or MVE_STRICT: at opcode 11 a packet may leave one byte over, or none. */
+size_t mve_step(const uint8_t *film, size_t film_length, const struct mve_state *from, size_t from_numbers,
+                struct mve_stepped *out, size_t out_numbers, uint8_t *palette, size_t palette_length,
+                uint8_t *a, size_t a_length, uint8_t *b, size_t b_length, size_t *place,
+                uint8_t *room, size_t room_length, size_t allowed, size_t form);
 
-/* The default form: at opcode 11, a packet may leave one byte over. */
-static inline struct mve_stepped mve_step(const uint8_t *film, size_t film_length, struct mve_state state,
-                                          uint8_t *palette, size_t palette_length, uint8_t *a, size_t a_length,
-                                          uint8_t *b, size_t b_length, size_t *place, uint8_t *room,
-                                          size_t room_length, size_t allowed) {
-    return mve_step_as(film, film_length, state, palette, palette_length, a, a_length, b, b_length, place, room,
-                       room_length, allowed, 0);
-}
-
-/* The strict form: at opcode 11, a packet with one byte left over is refused by 15, too. */
-static inline struct mve_stepped mve_step_strict(const uint8_t *film, size_t film_length, struct mve_state state,
-                                                 uint8_t *palette, size_t palette_length, uint8_t *a,
-                                                 size_t a_length, uint8_t *b, size_t b_length, size_t *place,
-                                                 uint8_t *room, size_t room_length, size_t allowed) {
-    return mve_step_as(film, film_length, state, palette, palette_length, a, a_length, b, b_length, place, room,
-                       room_length, allowed, 1);
-}
-
-/* How many bytes of the front picture (a where state.front is 0, b where it is 1) are shown: 64 times columns times rows
+/* How many bytes of the front picture (a where from->front is 0, b where it is 1) are shown: 64 times columns times rows
    (8 times columns for each row of pixels), or 0 where no size is known yet, front is above 1, the size is not one that 05
-   may give, or that picture is shorter. */
-size_t mve_shown(struct mve_state state, const uint8_t *a, size_t a_length,
+   may give, that picture is shorter, or from is no state (MEMORY). */
+size_t mve_shown(const struct mve_state *from, size_t from_numbers, const uint8_t *a, size_t a_length,
                  const uint8_t *b, size_t b_length);
 
 /* Whether a packet is accepted for a picture of columns by rows blocks: MVE_ACCEPTED with the rows that it touches, or

@@ -6,6 +6,7 @@ use crate::opcodes::kind;
 use crate::progress::Progress;
 use crate::refusals::Refused;
 use crate::walk::{Picture, Rules, Walk};
+use mve::{Form, ALL_STORES, NO_STREAM};
 use std::path::Path;
 
 /// The bytes of an opcode's head, and those in front of the packet of opcode 11.
@@ -39,7 +40,7 @@ impl<'a> Played<'a> {
     pub fn to(path: &Path, film: &'a [u8], number: usize) -> Result<Played<'a>, Failure> {
         let refused =
             |refused: Refused, sent| Failure::Refused(path.into(), refused, Kept::OnlyBefore(sent));
-        let rules = Rules { stream: mve::NO_STREAM, strict: false, allowance: mve::ALL_STORES };
+        let rules = Rules { stream: NO_STREAM, form: Form::Default, allowance: ALL_STORES };
         let mut walk = Walk::open(film, rules).map_err(|why| refused(why, 0))?;
         let (mut drawings, mut sent) = (Vec::new(), 0);
         let mut progress = Progress::new();

@@ -8,7 +8,7 @@ use crate::report::Report;
 use crate::walk::Rules;
 use crate::{arguments, json, listing, table, tell, Subcommand};
 use clap::{Arg, ArgAction, ArgMatches, Command};
-use mve::ALL_STORES;
+use mve::{Form, ALL_STORES};
 use std::io::{self, Write};
 use std::path::{Path, PathBuf};
 
@@ -55,7 +55,8 @@ fn describe(command: Command) -> Command {
 
 fn run(matches: &ArgMatches) -> Result<u8, Failure> {
     let stream = arguments::given_stream(matches).unwrap_or(0);
-    let rules = Rules { stream, strict: matches.get_flag("strict"), allowance: ALL_STORES };
+    let form = if matches.get_flag("strict") { Form::Strict } else { Form::Default };
+    let rules = Rules { stream, form, allowance: ALL_STORES };
     let paths: Vec<&PathBuf> = matches.get_many("film").unwrap_or_default().collect();
     let mut progress = Progress::new();
     let mut films = Vec::new();

@@ -47,14 +47,14 @@ fn describe(command: Command) -> Command {
     let wav = PathBufValueParser::new().try_map(wav_name);
     let wav = Arg::new("sound").long("sound").value_name("OUT.wav").value_parser(wav);
     let from = number("from", "N", 0).default_value("0");
-    let stops = number("stops", "ALLOWANCE", mve::BLOCK_STORES);
+    let stops = number("stops", "ALLOWANCE", 1);
     let options = [
         (output, "Write the pictures there: OUT/, OUT.gif, OUT.y4m or -"),
         (wav, "Write the sound there; where its format changes, OUT.2.wav follows"),
         (arguments::stream(), "Choose stream N of the sound, 0 to 15 [default with --sound: 0]"),
         (from, "Begin with picture N of the film, counted from 0"),
         (number("pictures", "N", 1), "Write N pictures at most; sound is cut to their time"),
-        (stops, "Allow each step so many stores, then call it again: the output is the same"),
+        (stops, "Allow each step so many stores, then take it again: the output is the same"),
         (flag("partial"), "Of a refused film, keep what comes before the refusal"),
         (flag("force"), "Overwrite files"),
     ];

@@ -9,7 +9,7 @@ use crate::report::stream_numbers;
 use crate::sound::Format;
 use crate::tell;
 use crate::walk::{Passed, Rules, Walk};
-use mve::ALL_STORES;
+use mve::{Form, ALL_STORES};
 use std::path::Path;
 
 /// What is wanted of a film.
@@ -40,7 +40,7 @@ impl Wanted<'_> {
 
     fn rules(&self) -> Rules {
         let allowance = self.stops.unwrap_or(ALL_STORES);
-        Rules { stream: self.stream(), strict: false, allowance }
+        Rules { stream: self.stream(), form: Form::Default, allowance }
     }
 
     /// The failure of a film that is refused.

@@ -3,15 +3,15 @@
 
 use crate::opcodes::Opcode;
 use crate::refusals::Refused;
-use mve::{State, Step, PALETTE_BYTES, PICTURE_BYTES};
+use mve::{Form, State, Step, PALETTE_BYTES, PICTURE_BYTES};
 
 /// How a film is walked.
 #[derive(Clone, Copy, Debug)]
 pub struct Rules {
     /// The stream of its sound; [`mve::NO_STREAM`] for none.
     pub stream: usize,
-    /// No byte of a packet may be left over.
-    pub strict: bool,
+    /// How many bytes of a packet may be left over.
+    pub form: Form,
     /// The stores that a step is allowed.
     pub allowance: usize,
 }
@@ -78,13 +78,19 @@ impl<'a> Walk<'a> {
     }
 
     /// Passes the next chunk's head or opcode; none where the film has ended. A step that its stores
-    /// do not suffice for is taken again until they do.
+    /// do not suffice for is taken again until they do. One that came no further, in a palette or in a
+    /// block, begins again, with twice as many.
     pub fn pass(&mut self) -> Result<Option<Passed<'a>>, Refused> {
-        let before = self.state;
+        let (before, mut allowed) = (self.state, self.rules.allowance);
         let (after, bytes) = loop {
-            match self.step()? {
-                Step::Unfinished { .. } => self.stops += 1,
-                Step::Taken { state: after, bytes } => break (after, bytes),
+            let found = self.place;
+            match self.step(allowed)? {
+                Step::Unfinished { .. } => {
+                    self.stops += 1;
+                    let twice = allowed.saturating_mul(2);
+                    allowed = if self.place == found { twice } else { self.rules.allowance };
+                }
+                Step::Taken { state: after, bytes, .. } => break (after, bytes),
                 Step::Whole { state: after, .. } => break (after, 0),
                 Step::Ended { .. } => return Ok(None),
             }
@@ -94,10 +100,10 @@ impl<'a> Walk<'a> {
         Ok(Some(Passed { opcode: Opcode::at(self.film, &before), sent, bytes }))
     }
 
-    fn step(&mut self) -> Result<Step, Refused> {
-        let Walk { film, state, palette, a, b, place, room, .. } = self;
-        let step = if self.rules.strict { mve::step_strict } else { mve::step };
-        let step = step(film, *state, palette, a, b, place, room, self.rules.allowance);
+    fn step(&mut self, allowed: usize) -> Result<Step, Refused> {
+        let Walk { film, rules, state, palette, a, b, place, room, .. } = self;
+        let form = rules.form;
+        let step = mve::step(film, *state, palette, a, b, place, room, allowed, form);
         step.map_err(|refusal| Refused::new(refusal, state.position))
     }
 

@@ -66,7 +66,7 @@ fn wrong_use() {
         (&["play", "film.mve", "-o", "x.png"], "PNG pictures go to a folder"),
         (&["play", "film.mve", "--sound", "x.mp3"], "give a name that ends in .wav"),
         (&["play", "film.mve", "--sound", "wav"], "give a name that ends in .wav"),
-        (&["play", "film.mve", "-o", "x.gif", "--stops", "64"], "give a number, 65 or more"),
+        (&["play", "film.mve", "-o", "x.gif", "--stops", "0"], "give a number, 1 or more"),
         (&["play", "film.mve", "-o", "x.gif", "--pictures", "0"], "give a number, 1 or more"),
         (&["play", "film.mve", "-o", "x.gif", "--from", "-1"], "'-1'"),
         (&["play", "film.mve", "-o", "x.gif", "--stream", "16"], "16 is not in 0..=15"),

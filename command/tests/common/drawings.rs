@@ -65,7 +65,7 @@ pub fn drawings(film: &[u8]) -> (Vec<Drawing>, Vec<Sent>) {
                 });
                 state = after;
             }
-            Stepped::Taken(after, _) => {
+            Stepped::Taken(after, ..) => {
                 if after.front != found.front {
                     let [a, b] = &pictures;
                     sent.push(Sent {

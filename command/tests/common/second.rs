@@ -119,7 +119,7 @@ impl Second {
                     state = after;
                     0
                 }
-                Stepped::Taken(after, bytes) => {
+                Stepped::Taken(after, _, bytes) => {
                     state = after;
                     bytes
                 }

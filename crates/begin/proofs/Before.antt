@@ -10,14 +10,18 @@ use native.Mathlib.Omega.{arith}
 use borrow.Author.Tests.{le-ltb, ne-eqb}
 use lib.ListN.{length}
 use Rattle.refusal.specs.declared.Refusal.{Refusal}
-use Rattle.refusal.specs.Number.{number, block}
+use Rattle.refusal.specs.Number.{Verdict, accept, refuse, number, block}
 use Rattle.packet.specs.Verdict.{legal, legalSize}
 use Rattle.draw.specs.declared.Allowed.{Allowed}
 use Rattle.palette.specs.declared.Updated.{Updated}
-use Rattle.palette.specs.Update.{told, verdictFor, paletteAfter}
+use Rattle.palette.specs.declared.Updated.the-variants as updated
+use Rattle.palette.specs.Update.{Update, told, verdictFor, verdictOn, changeOf, changeBy, changeOn, paletteAfter}
 use Rattle.palette.specs.Gradient.{createGradient}
 use Rattle.palette.specs.Entries.{setPalette}
 use Rattle.palette.specs.Mask.{setPaletteCompressed}
+use Rattle.palette.proofs.Gradients.{gradients-few}
+use Rattle.palette.proofs.Entries.{entries-few}
+use Rattle.palette.proofs.Groups.{groups-few}
 use Rattle.sound.specs.declared.Heard.{Heard}
 use Rattle.sound.specs.Format.{chosen}
 use Rattle.sound.specs.Sound.{heardAs, answer, initializeAudio, audioData, audioSilence}
@@ -25,7 +29,7 @@ use Rattle.state.specs.declared.Cursor.{Cursor}
 use Rattle.state.specs.declared.Map.{Map}
 use Rattle.state.specs.declared.Map.the-variants.{Missing, Part}
 use Rattle.state.specs.declared.State.{State}
-use Rattle.state.specs.Moves.{into, mapped}
+use Rattle.state.specs.Moves.{behind, into, mapped}
 use Rattle.state.specs.State.{area, lentVerdict}
 use Rattle.heads.specs.declared.Opcode.{Opcode}
 use Rattle.heads.specs.Heads.{hears}
@@ -34,10 +38,11 @@ use Rattle.next.specs.declared.Next.the-variants as found
 use Rattle.next.specs.Next.{nextAs, on, standingAt, nextOf, Ready}
 use Rattle.next.specs.Next as found′
 use Rattle.opcodes.specs.declared.Stepped.{Stepped}
-use Rattle.opcodes.specs.Opcodes.{Step, taken, refused, quiet, steppedAs, quietAnswer, heardStep, paletteAnswer}
-use Rattle.film.specs.Film.{Lent, withPictures, Outcome, after, part, drawBy, act, actOn, hear, takeOn, stepOf}
+use Rattle.opcodes.specs.Opcodes.{Answer, Step, taken, refused, stored, quiet, steppedAs, quietAnswer, heardStep}
+use Rattle.film.specs.Film.{Lent, withPictures, Outcome, after, part, drawBy, paletteStep, act, actOn, hear, takeOn, stepOf}
+use Rattle.walk.specs.Play.{most}
 use Rattle.film.proofs.Steps as laws
-use Rattle.begin.specs.Begin.{Course, goes, stops, courseOf, Early}
+use Rattle.begin.specs.Begin.{allowance, Course, goes, stops, courseOf, Early, judged}
 
 -- ---- sound
 
@@ -58,39 +63,83 @@ pub undrawn : (m : Map) (film : List ℕ) (st : State) (body : List ℕ) (p : �
 undrawn Missing film st body p allowed l z = laws.no-map Missing film st body p allowed l refl
 undrawn (Part start long) film st body p allowed l z = laws.no-size (Part start long) film st body p allowed l start long refl z
 
+-- what is allowed is enough
+pub ample : most ≤ allowance .stores
+ample = omega arith
+
+-- ---- 0B, 0C, 0D
+
+module _ (st : State) (p : ℕ) (u : Updated) where
+  pub judged-taken : (x : State) → u ≡ updated.Taken → x ≡ behind st p → quiet (taken x) ≡ quiet (judged st p (told u))
+  unfolding judged
+  judged-taken x e f = rw (e, f)
+
+  pub judged-refused : (r : Refusal) → u ≡ updated.Refused r → quiet (refused (number r) (block r)) ≡ quiet (judged st p (told u))
+  unfolding judged
+  judged-refused r e = rw e
+
+-- all that are due are allowed
+change-judged : (st : State) (p : ℕ) (u : Update) (n : ℕ) (palette : List ℕ) → (verdictOn u palette ≡ accept → length (u .stores) ≤ n)
+    → judged st p (verdictOn u palette) ≡ paletteStep st p (changeOn u n palette) .answer
+unfolding judged paletteStep changeBy changeOf
+change-judged st p u n palette few = by (verdictOn u palette) few
+  where
+    by : (v : Verdict) → (v ≡ accept → length (u .stores) ≤ n) → judged st p v ≡ paletteStep st p (changeBy v (u .stores) n) .answer
+    by accept f = rw (le-ltb n (length (u .stores)) (f refl))
+    by (refuse m k) f = refl
+
 -- ---- an opcode that is no sound: what it comes to, and what it leaves
 
-module _ (film : List ℕ) (st : State) (kind version s : ℕ) (body : List ℕ) (p : ℕ) (allowed : Allowed) (l : Lent) where
-  pub acts-map : kind ≡ 15 → after (quiet (taken (mapped st p (Part s (p - s))))) (withPictures l (l .first) (l .second) 0) ≡ act film st kind version s body p allowed l
-  acts-map e = laws.act-map film st kind version s body p allowed l _ 0 e refl refl
+module _ (film : List ℕ) (st : State) (kind version s : ℕ) (body : List ℕ) (p : ℕ) (allowed : Allowed) (big : most ≤ allowed .stores) (l : Lent) where
+  some : allowed .stores ≡ 0 → ⊥
+  some z = omega (arith, big)
+
+  pub acts-map : kind ≡ 15 → after (stored (taken (mapped st p (Part s (p - s)))) 1) (withPictures l (l .first) (l .second) 0) ≡ act film st kind version s body p allowed l
+  acts-map e = laws.act-map film st kind version s body p allowed l _ 0 e some refl refl
 
   pub acts-draw : kind ≡ 17 → st .columns ≡ 0 → after (quiet (refused 9 0)) l ≡ act film st kind version s body p allowed l
   acts-draw e z = laws.act-draw film st kind version s body p allowed l (quiet (refused 9 0)) (l .first) (l .second) (l .place) e (λ m. undrawn (st .map) film st body p allowed _ z)
 
-  module _ (n : ℕ) (g : length (l .palette) ≡ n) (u : Updated) (x : Step) (f : x ≡ quiet (paletteAnswer st p (told u))) where
-    pub judges-gradient : kind ≡ 11 → told u ≡ verdictFor (createGradient body) n → x ≡ act film st kind version s body p allowed l .step
+  -- what it answers
+  abbrev pub Says : Answer → Type 0
+  Says x = x ≡ act film st kind version s body p allowed l .step .answer
+
+  says : (o : Outcome) → o ≡ act film st kind version s body p allowed l → Says (o .step .answer)
+  says o e = ap (λ (o : Outcome). o .step .answer) e
+
+  module _ (n : ℕ) (g : length (l .palette) ≡ n) (u : Updated) (x : Step) (f : x ≡ quiet (judged st p (told u))) where
+    said : (w : Update) → told u ≡ verdictFor w n → (verdictOn w (l .palette) ≡ accept → length (w .stores) ≤ 1536)
+        → x .answer ≡ paletteStep st p (changeOn w (allowed .stores) (l .palette)) .answer
+    said w v few =
+        ap (λ (y : Step). y .answer) f ∙ ap (judged st p) (v ∙ ap (verdictFor w) (sym g))
+        ∙ change-judged st p w (allowed .stores) (l .palette) (λ a. omega (arith, few a, big))
+
+    pub judges-gradient : kind ≡ 11 → told u ≡ verdictFor (createGradient body) n → Says (x .answer)
     judges-gradient e v =
-        ap (λ (o : Outcome). o .step) (laws.act-gradient film st kind version s body p allowed l x _ (told u) f e (v ∙ ap (verdictFor (createGradient body)) (sym g)) refl)
+        said (createGradient body) v (λ a. gradients-few body (length (l .palette)) a)
+        ∙ says _ (laws.act-gradient film st kind version s body p allowed l _ _ _ refl e refl refl)
 
-    pub judges-entries : kind ≡ 12 → told u ≡ verdictFor (setPalette body) n → x ≡ act film st kind version s body p allowed l .step
+    pub judges-entries : kind ≡ 12 → told u ≡ verdictFor (setPalette body) n → Says (x .answer)
     judges-entries e v =
-        ap (λ (o : Outcome). o .step) (laws.act-entries film st kind version s body p allowed l x _ (told u) f e (v ∙ ap (verdictFor (setPalette body)) (sym g)) refl)
+        said (setPalette body) v (λ a. entries-few body (length (l .palette)) a)
+        ∙ says _ (laws.act-entries film st kind version s body p allowed l _ _ _ refl e refl refl)
 
-    pub judges-groups : kind ≡ 13 → told u ≡ verdictFor (setPaletteCompressed body) n → x ≡ act film st kind version s body p allowed l .step
+    pub judges-groups : kind ≡ 13 → told u ≡ verdictFor (setPaletteCompressed body) n → Says (x .answer)
     judges-groups e v =
-        ap (λ (o : Outcome). o .step) (laws.act-masks film st kind version s body p allowed l x _ (told u) f e (v ∙ ap (verdictFor (setPaletteCompressed body)) (sym g)) refl)
+        said (setPaletteCompressed body) v (λ a. groups-few body)
+        ∙ says _ (laws.act-masks film st kind version s body p allowed l _ _ _ refl e refl refl)
 
-  pub judges-map : (x : State) → kind ≡ 15 → x ≡ mapped st p (Part s (p - s)) → quiet (taken x) ≡ act film st kind version s body p allowed l .step
-  judges-map x e f = ap (λ (o : Outcome). o .step) (laws.act-map film st kind version s body p allowed l x 0 e f refl)
+  pub judges-map : (x : State) → kind ≡ 15 → x ≡ mapped st p (Part s (p - s)) → Says (taken x)
+  judges-map x e f = says _ (laws.act-map film st kind version s body p allowed l x 0 e some f refl)
 
-  pub judges-draw : kind ≡ 17 → st .columns ≡ 0 → quiet (refused 9 0) ≡ act film st kind version s body p allowed l .step
-  judges-draw e z = ap (λ (o : Outcome). o .step) (acts-draw e z)
+  pub judges-draw : kind ≡ 17 → st .columns ≡ 0 → Says (refused 9 0)
+  judges-draw e z = says _ (acts-draw e z)
 
   pub judges-quiet : (x : Step) → (kind ≡ 11 → ⊥) → (kind ≡ 12 → ⊥) → (kind ≡ 13 → ⊥) → (kind ≡ 15 → ⊥) → (kind ≡ 17 → ⊥)
-      → x ≡ quiet (quietAnswer (length film) st kind version body p) → x ≡ act film st kind version s body p allowed l .step
-  judges-quiet x n11 n12 n13 n15 n17 f = ap (λ (o : Outcome). o .step) (laws.act-quiet film st kind version s body p allowed l x n11 n12 n13 n15 n17 f)
+      → x ≡ quiet (quietAnswer (length film) st kind version body p) → Says (x .answer)
+  judges-quiet x n11 n12 n13 n15 n17 f = says _ (laws.act-quiet film st kind version s body p allowed l x n11 n12 n13 n15 n17 f)
 
-  pub judges-low : kind < 11 → (x : Step) → x ≡ quiet (quietAnswer (length film) st kind version body p) → x ≡ act film st kind version s body p allowed l .step
+  pub judges-low : kind < 11 → (x : Step) → x ≡ quiet (quietAnswer (length film) st kind version body p) → Says (x .answer)
   judges-low h x f = judges-quiet x (not 11 (omega arith)) (not 12 (omega arith)) (not 13 (omega arith)) (not 15 (omega arith)) (not 17 (omega arith)) f
     where
       not : (n : ℕ) → kind < n → kind ≡ n → ⊥
@@ -104,17 +153,17 @@ module _ (film : List ℕ) (st : State) (kind version s : ℕ) (body : List ℕ)
   left o e = (ap (λ (o : Outcome). o .lent .palette) e, ap (λ (o : Outcome). o .lent .place) e)
 
   pub leaves-map : (k : ℕ) → kind ≡ 15 → k ≡ 0 → Left (l .palette) k
-  leaves-map k e f = left _ (laws.act-map film st kind version s body p allowed l _ k e refl f)
+  leaves-map k e f = left _ (laws.act-map film st kind version s body p allowed l _ k e some refl f)
 
   module _ (q : List ℕ) where
-    pub leaves-gradient : kind ≡ 11 → q ≡ paletteAfter (createGradient body) (l .palette) → Left q (l .place)
-    leaves-gradient e h = left _ (laws.act-gradient film st kind version s body p allowed l (quiet (paletteAnswer st p (verdictFor (createGradient body) (length (l .palette))))) q _ refl e refl h)
+    pub leaves-gradient : kind ≡ 11 → q ≡ paletteAfter (createGradient body) (allowed .stores) (l .palette) → Left q (l .place)
+    leaves-gradient e h = left _ (laws.act-gradient film st kind version s body p allowed l _ q _ refl e refl h)
 
-    pub leaves-entries : kind ≡ 12 → q ≡ paletteAfter (setPalette body) (l .palette) → Left q (l .place)
-    leaves-entries e h = left _ (laws.act-entries film st kind version s body p allowed l (quiet (paletteAnswer st p (verdictFor (setPalette body) (length (l .palette))))) q _ refl e refl h)
+    pub leaves-entries : kind ≡ 12 → q ≡ paletteAfter (setPalette body) (allowed .stores) (l .palette) → Left q (l .place)
+    leaves-entries e h = left _ (laws.act-entries film st kind version s body p allowed l _ q _ refl e refl h)
 
-    pub leaves-groups : kind ≡ 13 → q ≡ paletteAfter (setPaletteCompressed body) (l .palette) → Left q (l .place)
-    leaves-groups e h = left _ (laws.act-masks film st kind version s body p allowed l (quiet (paletteAnswer st p (verdictFor (setPaletteCompressed body) (length (l .palette))))) q _ refl e refl h)
+    pub leaves-groups : kind ≡ 13 → q ≡ paletteAfter (setPaletteCompressed body) (allowed .stores) (l .palette) → Left q (l .place)
+    leaves-groups e h = left _ (laws.act-masks film st kind version s body p allowed l _ q _ refl e refl h)
 
   pub leaves-others : st .columns ≡ 0 → (kind ≡ 11 → ⊥) → (kind ≡ 12 → ⊥) → (kind ≡ 13 → ⊥) → (kind ≡ 15 → ⊥) → Left (l .palette) (l .place)
   leaves-others z n11 n12 n13 n15 = by (ℕ-discrete kind 17)
@@ -127,11 +176,11 @@ module _ (film : List ℕ) (st : State) (kind version s : ℕ) (body : List ℕ)
 
 module _ (film : List ℕ) (st : State) (o : Opcode) (b c : Bool) (e : b ≡ chosen (st .sound .stream)) (q : c ≡ hears b (o .kind)) (l : Lent) (allowed : Allowed) where
   pub takes-dropped : c ≡ true → (x : Step) → x ≡ hear st (o .kind) (o .version) (part film (o .start) (o .start + o .long)) (o .start + o .long) l .step
-      → x ≡ takeOn film st o allowed l .step
-  takes-dropped t x f = f ∙ ap (λ (o : Outcome). o .step) (laws.takes-sound film st o allowed l b c e q _ t refl)
+      → x .answer ≡ takeOn film st o allowed l .step .answer
+  takes-dropped t x f = ap (λ (y : Step). y .answer) f ∙ ap (λ (o : Outcome). o .step .answer) (laws.takes-sound film st o allowed l b c e q _ t refl)
 
-  pub takes-acted : c ≡ false → (x : Step) → x ≡ actOn film st o allowed l .step → x ≡ takeOn film st o allowed l .step
-  takes-acted t x f = f ∙ ap (λ (o : Outcome). o .step) (laws.takes-other film st o allowed l b c e q _ t refl)
+  pub takes-acted : c ≡ false → (x : Answer) → x ≡ actOn film st o allowed l .step .answer → x ≡ takeOn film st o allowed l .step .answer
+  takes-acted t x f = f ∙ ap (λ (o : Outcome). o .step .answer) (laws.takes-other film st o allowed l b c e q _ t refl)
 
 -- ---- a step
 
@@ -194,8 +243,8 @@ module _ (film : List ℕ) (st : State) (y : Early (length film) st) (b : Bool) 
   unfolding courseOf
   sees-chunk c y q f = leads _ (laws.step-chunk film st allowed l x stands c y q f)
 
-  pub sees-opcode : (o : Opcode) (y : Step) (c : Course) → x ≡ found.Opcode o → c ≡ courseOf (y .answer) → y ≡ takeOn film st o allowed l .step → Leads c
-  sees-opcode o y c q f h = f ∙ ap (λ (s : Step). courseOf (s .answer)) h ∙ leads _ (laws.step-opcode film st allowed l x stands o _ q refl)
+  pub sees-opcode : (o : Opcode) (y : Answer) (c : Course) → x ≡ found.Opcode o → c ≡ courseOf y → y ≡ takeOn film st o allowed l .step .answer → Leads c
+  sees-opcode o y c q f h = f ∙ ap courseOf h ∙ leads _ (laws.step-opcode film st allowed l x stands o _ q refl)
 
   -- what the step leaves
   abbrev pub Kept : List ℕ → ℕ → Type 0

@@ -3,7 +3,7 @@
 use mathlib.Core.Path.{_≡_, refl, sym, ap, _∙_}
 use mathlib.Core.Bool.{Bool, true, false, cond}
 use mathlib.Core.List.{List}
-use Prim.Native.Nat.{ℕ, _+_}
+use Prim.Native.Nat.{ℕ, _+_, _≤_}
 use native.Mathlib.Decide.{ℕ-discrete}
 use lib.ListN.{length}
 use Rattle.draw.specs.declared.Allowed.{Allowed}
@@ -18,6 +18,7 @@ use Rattle.heads.specs.Heads.{hears}
 use Rattle.next.specs.Next.{Standing, nextOf}
 use Rattle.next.specs.Next as found
 use Rattle.film.specs.Film.{Lent, Outcome, part, act, actOn, hear, takeOn, standing, stepOf}
+use Rattle.walk.specs.Play.{most}
 use Rattle.begin.proofs.Before.{acts-draw, leaves-map, leaves-gradient, leaves-entries, leaves-groups, leaves-others}
 
 -- ---- which opcode it is
@@ -43,20 +44,20 @@ which kind = by (ℕ-discrete kind 11) (ℕ-discrete kind 12) (ℕ-discrete kind
 
 -- ---- the palette's length
 
-module _ (film : List ℕ) (st : State) (z : st .columns ≡ 0) (allowed : Allowed) (l : Lent) where
+module _ (film : List ℕ) (st : State) (z : st .columns ≡ 0) (allowed : Allowed) (big : most ≤ allowed .stores) (l : Lent) where
   abbrev Long : Outcome → Type 0
   Long o = length (o .lent .palette) ≡ length (l .palette)
 
   act-long : (kind version s : ℕ) (body : List ℕ) (p : ℕ) → Which kind → Long (act film st kind version s body p allowed l)
   act-long kind version s body p (gradient e) =
-      sym (ap length (leaves-gradient film st kind version s body p allowed l _ e refl .0)) ∙ after-length (createGradient body) (l .palette)
+      sym (ap length (leaves-gradient film st kind version s body p allowed big l _ e refl .0)) ∙ after-length (createGradient body) (allowed .stores) (l .palette)
   act-long kind version s body p (entries e) =
-      sym (ap length (leaves-entries film st kind version s body p allowed l _ e refl .0)) ∙ after-length (setPalette body) (l .palette)
+      sym (ap length (leaves-entries film st kind version s body p allowed big l _ e refl .0)) ∙ after-length (setPalette body) (allowed .stores) (l .palette)
   act-long kind version s body p (groups e) =
-      sym (ap length (leaves-groups film st kind version s body p allowed l _ e refl .0)) ∙ after-length (setPaletteCompressed body) (l .palette)
-  act-long kind version s body p (maps e) = sym (ap length (leaves-map film st kind version s body p allowed l 0 e refl .0))
-  act-long kind version s body p (draws e) = sym (ap (λ (o : Outcome). length (o .lent .palette)) (acts-draw film st kind version s body p allowed l e z))
-  act-long kind version s body p (quiets n11 n12 n13 n15 n17) = sym (ap length (leaves-others film st kind version s body p allowed l z n11 n12 n13 n15 .0))
+      sym (ap length (leaves-groups film st kind version s body p allowed big l _ e refl .0)) ∙ after-length (setPaletteCompressed body) (allowed .stores) (l .palette)
+  act-long kind version s body p (maps e) = sym (ap length (leaves-map film st kind version s body p allowed big l 0 e refl .0))
+  act-long kind version s body p (draws e) = sym (ap (λ (o : Outcome). length (o .lent .palette)) (acts-draw film st kind version s body p allowed big l e z))
+  act-long kind version s body p (quiets n11 n12 n13 n15 n17) = sym (ap length (leaves-others film st kind version s body p allowed big l z n11 n12 n13 n15 .0))
 
   take-long : (o : Opcode) (b : Bool) → Long (cond b (hear st (o .kind) (o .version) (part film (o .start) (o .start + o .long)) (o .start + o .long) l) (actOn film st o allowed l))
   unfolding hear

@@ -10,7 +10,6 @@ use lib.ListN.{length, length-replicate}
 use Rattle.refusal.specs.declared.Refusal.{Refusal}
 use Rattle.refusal.specs.Number.{accept, number, block}
 use Rattle.draw.specs.declared.Allowed.{Allowed}
-use Rattle.draw.specs.Call.{within}
 use Rattle.sound.specs.Step.{enough}
 use Rattle.sound.specs.Format.{firstSound}
 use Rattle.sound.specs.declared.Sound.{Sound}
@@ -23,13 +22,14 @@ use Rattle.opening.specs.Opening.{openedAs, openingOf}
 use Rattle.opcodes.specs.Opcodes.{Answer, taken, whole, unfinished, ended, refused}
 use Rattle.film.specs.Film.{Lent, lent, standing, stepOf}
 use Rattle.walk.specs.Walk.{Forward, Moves}
-use Rattle.walk.specs.Draws.{Drew}
+use Rattle.walk.specs.Play.{most}
 use Rattle.walk.proofs.Walk.{step-moves}
-use Rattle.walk.proofs.Draws.{draws-exactly}
+use Rattle.walk.proofs.View.{view-of}
+use Rattle.walk.proofs.Play.{done}
 use Rattle.begin.specs.declared.Turn.{Turn}
 use Rattle.begin.specs.declared.Begun.the-variants.{Refused}
 use Rattle.begin.specs.Begin.{zeros, allowance, stepBefore, goes, stops, courseOf, Early, turnAs, Beginning, sized, stopped, Came, came, follow, until, toSize, keptBy, kept, nowhere, beginAt, beginOf}
-use Rattle.begin.proofs.Before.{short-palette}
+use Rattle.begin.proofs.Before.{ample, short-palette}
 use Rattle.begin.proofs.Twin.{step-long}
 use Rattle.begin.proofs.Possible.{first-early, step-possible}
 
@@ -54,21 +54,18 @@ module _ (film : List ℕ) (n : ℕ) (st : State) (palette : List ℕ) (place : 
 stops-goes : (n k : ℕ) (t : State) → stops n k ≡ goes t → ⊥
 stops-goes n k t e = let z : _≡_ {A = ℕ} 0 1 = cc in omega arith
 
--- without a size nothing is drawn, so a step that goes on goes forward
-pub undrawn : (film : List ℕ) (st : State) (allowed : Allowed) (l : Lent) → st .columns ≡ 0 → Drew (stepOf film st allowed l .step .answer) → ⊥
-undrawn film st allowed l z d = let a = draws-exactly film st allowed l .1 d in omega (arith, z, a .accepted .wide .least)
-
-forward : (film : ℕ) (st t : State) (a : Answer) → Moves film st a → (Drew a → ⊥) → courseOf a ≡ goes t → Forward film st t
-unfolding courseOf Moves Drew
+-- with enough stores no step is unfinished, so a step that goes on goes forward
+forward : (film : ℕ) (st t : State) (a : Answer) → Moves film st a → ((s : State) → a ≡ unfinished s → ⊥) → courseOf a ≡ goes t → Forward film st t
+unfolding courseOf Moves
 forward film st t (taken s) m d e = let q : s ≡ t = cc in subst (Forward film st) q m
-forward film st t (whole s) m d e = absurd (d tt)
-forward film st t (unfinished s) m d e = absurd (d tt)
+forward film st t (whole s) m d e = let q : s ≡ t = cc in subst (Forward film st) q m
+forward film st t (unfinished s) m d e = absurd (d s refl)
 forward film st t (ended s) m d e = absurd (stops-goes 21 0 t e)
 forward film st t (refused n k) m d e = absurd (stops-goes n k t e)
 
-pub goes-forward : (film : List ℕ) (st : State) (allowed : Allowed) (l : Lent) (t : State) → st .columns ≡ 0 → courseOf (stepOf film st allowed l .step .answer) ≡ goes t
+pub goes-forward : (film : List ℕ) (st : State) (allowed : Allowed) → most ≤ allowed .stores → (l : Lent) (t : State) → courseOf (stepOf film st allowed l .step .answer) ≡ goes t
     → Forward (length film) st t
-goes-forward film st allowed l t z e = forward (length film) st t _ (step-moves film st allowed l) (undrawn film st allowed l z) e
+goes-forward film st allowed big l t e = forward (length film) st t _ (step-moves film st allowed l) (done film st allowed big (view-of film st allowed l)) e
 
 -- ---- a walk that has come from one state to another
 
@@ -93,7 +90,7 @@ module _ (film : List ℕ) (first : State) (palette₀ : List ℕ) (place₀ : �
     onward-more t e q k eq ek = by (w .left) (w .ample) (w .same)
       where
         f : Forward (length film) st t
-        f = goes-forward film st allowance _ t z (sym e)
+        f = goes-forward film st allowance ample _ t (sym e)
 
         by : (left : ℕ) → length film ≤ st .cursor .position + left → toSize film first palette₀ place₀ ≡ until film (suc left) st palette place
             → Onward film first palette₀ place₀ t q k
@@ -132,7 +129,7 @@ short-stops film st palette place y h =
 -- ---- a turn, by what `foresee` says
 
 abbrev pub Foreseen : List ℕ → State → Turn → Type 0
-Foreseen film st r = (l : Lent) (allowed : Allowed) → length (l .palette) ≡ 768 → enough ≤ length (l .room) → turnAs r ≡ courseOf (stepOf film st allowed l .step .answer)
+Foreseen film st r = (l : Lent) → length (l .palette) ≡ 768 → enough ≤ length (l .room) → turnAs r ≡ courseOf (stepOf film st allowance l .step .answer)
 
 zeros-long : (n : ℕ) → length (zeros n) ≡ n
 unfolding zeros
@@ -145,14 +142,14 @@ module _ (film : List ℕ) (st : State) (y : Early (length film) st) (r : Turn) 
   abbrev some : Lent
   some = lent (zeros 768) [] [] 0 (zeros enough)
 
-  leads : courseOf (stepOf film st (within 0 0) some .step .answer) ≡ goes t
-  leads = sym (s some (within 0 0) (zeros-long 768) (omega (arith, zeros-long enough))) ∙ q
+  leads : courseOf (stepOf film st allowance some .step .answer) ≡ goes t
+  leads = sym (s some (zeros-long 768) (omega (arith, zeros-long enough))) ∙ q
 
   turn-forward : Forward (length film) st t
-  turn-forward = goes-forward film st (within 0 0) some t (y .unsized) leads
+  turn-forward = goes-forward film st allowance ample some t leads
 
   turn-possible : stateVerdict t (length film) ≡ accept
-  turn-possible = step-possible film st (within 0 0) some t leads
+  turn-possible = step-possible film st allowance some t leads
 
 -- ---- the loop: first the steps are judged, whatever palette and place they leave; then they are taken with their stores
 
@@ -236,7 +233,7 @@ module _ (film : List ℕ) (first : State) (palette₀ : List ℕ) (place₀ : �
 
     module _ (z : st .columns ≡ 0) (r : Turn) (s : Foreseen film st r) where
       said : (q : List ℕ) (k : ℕ) → length q ≡ 768 → turnAs r ≡ courseOf (stepBefore film st q k .step .answer)
-      said q k h = s (lent q [] [] k (zeros enough)) allowance h roomy
+      said q k h = s (lent q [] [] k (zeros enough)) h roomy
 
       -- a refusal, which only the first time can bring
       pub passes-stops : (i k : ℕ) → turnAs r ≡ stops i k → came (stopped i k st) palette place ≡ kept palette₀ place₀ (toSize film first palette₀ place₀)
@@ -269,7 +266,7 @@ module _ (film : List ℕ) (first : State) (palette₀ : List ℕ) (place₀ : �
                     record {
                       palette = o .lent .palette;
                       place = o .lent .place;
-                      long = step-long film st z allowance (lent (v .palette) [] [] (v .place) (zeros enough)) ∙ v .long;
+                      long = step-long film st z allowance ample (lent (v .palette) [] [] (v .place) (zeros enough)) ∙ v .long;
                       onward =
                           onward-more film first palette₀ place₀ st (v .palette) (v .place) (v .onward) z t (sym q ∙ said (v .palette) (v .place) (v .long)) _ _ refl refl;
                     },
@@ -279,8 +276,8 @@ module _ (film : List ℕ) (first : State) (palette₀ : List ℕ) (place₀ : �
             }
 
         pub passes-stored : storing ≡ true → (p : List ℕ) (k : ℕ)
-            → ((a b room : List ℕ) (allowed : Allowed) → p ≡ stepOf film st allowed (lent palette a b place room) .lent .palette)
-            → ((a b room : List ℕ) (allowed : Allowed) → k ≡ stepOf film st allowed (lent palette a b place room) .lent .place)
+            → ((a b room : List ℕ) → p ≡ stepOf film st allowance (lent palette a b place room) .lent .palette)
+            → ((a b room : List ℕ) → k ≡ stepOf film st allowance (lent palette a b place room) .lent .place)
             → length p ≡ length palette → Passes t p k storing
         unfolding Pass
         passes-stored e p k ep ek long =
@@ -295,7 +292,7 @@ module _ (film : List ℕ) (first : State) (palette₀ : List ℕ) (place₀ : �
                   record {
                     onward =
                         onward-more film first palette₀ place₀ st palette place (y .onward) z t (sym q ∙ said palette place (w .long)) p k
-                        (ep [] [] (zeros enough) allowance) (ek [] [] (zeros enough) allowance);
+                        (ep [] [] (zeros enough)) (ek [] [] (zeros enough));
                     reached = y .reached;
                     end = y .end;
                   });

@@ -6,7 +6,7 @@ use mathlib.Core.List.{List, []}
 use Prim.Native.Nat.{ℕ, zero, suc}
 use lib.Dec.{eqb}
 use lib.ListN.{length, replicate}
-use Rattle.refusal.specs.Number.{accept, number, block}
+use Rattle.refusal.specs.Number.{Verdict, accept, refuse, number, block}
 use Rattle.packet.specs.Verdict.{default}
 use Rattle.draw.specs.declared.Allowed.{Allowed}
 use Rattle.draw.specs.Call.{within}
@@ -14,10 +14,12 @@ use Rattle.sound.specs.Step.{enough}
 use Rattle.sound.specs.Format.{firstSound}
 use Rattle.state.specs.declared.Map.the-variants.{Missing}
 use Rattle.state.specs.declared.State.{State}
+use Rattle.state.specs.Moves.{behind}
 use Rattle.state.specs.State.{stateVerdict}
 use Rattle.opening.specs.Opening.{Opening, started, refuses, openingOf}
 use Rattle.opcodes.specs.Opcodes.{Answer, taken, whole, unfinished, ended, refused}
 use Rattle.film.specs.Film.{lent, Outcome, stepOf}
+use Rattle.walk.specs.Play.{most}
 use Rattle.begin.specs.declared.Turn.{Turn}
 use Rattle.begin.specs.declared.Turn.the-variants.{On, Off}
 use Rattle.begin.specs.declared.Begun.{Begun}
@@ -28,12 +30,12 @@ use Rattle.begin.specs.declared.Begun.the-variants.{Sized, Refused}
 unfoldable pub zeros : ℕ → List ℕ
 zeros n = replicate n 0
 
--- the stores that a step may make
+-- the stores that a step may make: enough for every step, so none is unfinished
 abbrev pub allowance : Allowed
-allowance = within 312000 default
+allowance = within most default
 
 -- a step that is lent a palette and a place, no pictures, since before a size nothing is drawn, and a room that is always enough. With other pictures, another such
--- room or another allowance it does the same: `separate/specs/Separate`
+-- room or more stores it does the same: `separate/specs/Separate`
 abbrev pub stepBefore : List ℕ → State → List ℕ → ℕ → Outcome
 stepBefore film st palette place = stepOf film st allowance (lent palette [] [] place (zeros enough))
 
@@ -42,7 +44,7 @@ pub data Course : Type 0 where
   goes : State → Course
   stops : ℕ → ℕ → Course
 
--- 21 at the film's end. (A step that is unfinished is called again; before a size none is.)
+-- 21 at the film's end. (A step that is unfinished is called again; with the allowance none is.)
 unfoldable pub courseOf : Answer → Course
 courseOf (taken st) = goes st
 courseOf (whole st) = goes st
@@ -54,6 +56,11 @@ courseOf (refused n k) = stops n k
 pub record Early (film : ℕ) (st : State) : Type 0 where
   pub unsized : st .columns ≡ 0
   pub possible : stateVerdict st film ≡ accept
+
+-- 0B, 0C, 0D by their verdict
+unfoldable pub judged : State → ℕ → Verdict → Answer
+judged st p accept = taken (behind st p)
+judged st p (refuse n k) = refused n k
 
 -- document 01's values
 abbrev pub turnAs : Turn → Course

@@ -10,6 +10,7 @@ use opcodes::size_step;
 use opening::Opened;
 use opening::open;
 use paint::set_place;
+use palette::Updated;
 use palette::create_gradient;
 use palette::judge_entries;
 use palette::judge_gradient;
@@ -30,12 +31,12 @@ ghost use mathlib.Core.Path.{_≡_};
 ghost use mathlib.Core.List.{List};
 ghost use Prim.Native.Nat.{ℕ, _≤_};
 ghost use lib.ListN.{length};
-ghost use Rattle.draw.specs.declared.Allowed.{Allowed};
+ghost use Rattle.palette.specs.Update.{told};
 ghost use Rattle.sound.specs.Step.{enough};
 ghost use Rattle.next.specs.Next.{Ready};
-ghost use Rattle.opcodes.specs.Opcodes.{steppedAs};
+ghost use Rattle.opcodes.specs.Opcodes.{quiet, steppedAs};
 ghost use Rattle.film.specs.Film.{Lent, lent, actOn, hear, takeOn, stepOf};
-ghost use Rattle.begin.specs.Begin.{Early, courseOf, turnAs, begunAs, came, toSize, kept, beginOf};
+ghost use Rattle.begin.specs.Begin.{allowance, Early, judged, courseOf, turnAs, begunAs, came, toSize, kept, beginOf};
 
 // What a step leads to: on with a state, or a refusal; 21 at the film's end.
 pub enum Turn {
@@ -69,29 +70,39 @@ fn drop_sound(
     }
 }
 
-// An opcode that is taken and is no sound, where there is no size and the palette has 768 bytes. Without a size 11 is refused.
+// 0B, 0C, 0D, by their tests: every store is allowed.
+fn judged_step(st: State, p: usize, u: Updated) -> Stepped
+    ensures { λ r. ⌜ steppedAs r ≡ quiet (judged st p (told u)) ⌝ }
+{
+    match u {
+        Updated::Taken => Stepped::Taken(st.behind(p), 0),
+        Updated::Refused(r) => Stepped::Refused(r),
+    }
+}
+
+// An opcode that is taken and is no sound, where there is no size and the palette has 768 bytes. Without a size 11 is refused. Nothing is stored, so none is counted.
 fn act(film: &[u8], st: State, o: Opcode) -> Stepped
     requires { ⌜ Ready (length (now film)) (st .cursor) o ⌝ }
     requires { ⌜ st .columns ≡ 0 ⌝ }
-    ensures { λ r. ⌜ ((l : Lent) (allowed : Allowed) → length (l .palette) ≡ 768 → steppedAs r ≡ actOn (now (film .entry)) st o allowed l .step) ⌝ }
+    ensures { λ r. ⌜ ((l : Lent) → length (l .palette) ≡ 768 → steppedAs r .answer ≡ actOn (now (film .entry)) st o allowance l .step .answer) ⌝ }
 {
     let s = o.start;
     let p = s + o.long;
     let kind = o.kind;
     let body = &film[s..p];
     match kind {
-        0 => Stepped::Taken(st.at_end(film.len())),
+        0 => Stepped::Taken(st.at_end(film.len()), 0),
         5 => {
             let colour = colour_of(body, o.version);
             size_step(st, p, word_at(body, 0), word_at(body, 2), colour)
         }
-        7 => Stepped::Taken(st.sent(p)),
-        11 => film::palette_step(st, p, judge_gradient(body, 768)),
-        12 => film::palette_step(st, p, judge_entries(body, 768)),
-        13 => film::palette_step(st, p, judge_groups(body, 768)),
-        15 => Stepped::Taken(st.mapped(p, Map::Part(s, p - s))),
+        7 => Stepped::Taken(st.sent(p), 0),
+        11 => judged_step(st, p, judge_gradient(body, 768)),
+        12 => judged_step(st, p, judge_entries(body, 768)),
+        13 => judged_step(st, p, judge_groups(body, 768)),
+        15 => Stepped::Taken(st.mapped(p, Map::Part(s, p - s)), 0),
         17 => Stepped::Refused(Refusal::NoMap),
-        _ => Stepped::Taken(st.behind(p)),
+        _ => Stepped::Taken(st.behind(p), 0),
     }
 }
 
@@ -100,7 +111,7 @@ fn take(film: &[u8], st: State, o: Opcode, empty: &mut [u8]) -> Stepped
     requires { ⌜ Ready (length (now film)) (st .cursor) o ⌝ }
     requires { ⌜ st .columns ≡ 0 ⌝ }
     requires { ⌜ length (now empty) ≡ 0 ⌝ }
-    ensures { λ r. ⌜ ((l : Lent) (allowed : Allowed) → length (l .palette) ≡ 768 → enough ≤ length (l .room) → steppedAs r ≡ takeOn (now (film .entry)) st o allowed l .step) ⌝ }
+    ensures { λ r. ⌜ ((l : Lent) → length (l .palette) ≡ 768 → enough ≤ length (l .room) → steppedAs r .answer ≡ takeOn (now (film .entry)) st o allowance l .step .answer) ⌝ }
 {
     let sound = st.sound;
     if is_heard(is_chosen(sound.stream), o.kind) {
@@ -115,7 +126,7 @@ fn turn_of(x: Stepped) -> Turn
     ensures { λ r. ⌜ turnAs r ≡ courseOf (steppedAs x .answer) ⌝ }
 {
     match x {
-        Stepped::Taken(st) => Turn::On(st),
+        Stepped::Taken(st, _) => Turn::On(st),
         Stepped::Heard(st, _) => Turn::On(st),
         Stepped::Whole(st, _, _) => Turn::On(st),
         Stepped::Unfinished(st, _, _) => Turn::On(st),
@@ -127,7 +138,7 @@ fn turn_of(x: Stepped) -> Turn
 // What a step leads to where there is no size and the palette has 768 bytes. Nothing is stored: samples that are dropped get the palette's part of no bytes as their room.
 fn foresee(film: &[u8], st: State, palette: &mut [u8]) -> Turn
     requires { ⌜ Early (length (now film)) st ⌝ }
-    ensures { λ r. ⌜ ((l : Lent) (allowed : Allowed) → length (l .palette) ≡ 768 → enough ≤ length (l .room) → turnAs r ≡ courseOf (stepOf (now (film .entry)) st allowed l .step .answer)) ⌝ }
+    ensures { λ r. ⌜ ((l : Lent) → length (l .palette) ≡ 768 → enough ≤ length (l .room) → turnAs r ≡ courseOf (stepOf (now (film .entry)) st allowance l .step .answer)) ⌝ }
     ensures { λ _. ⌜ now (palette .exit) ≡ now (palette .entry) ⌝ }
 {
     let c = st.cursor;
@@ -140,26 +151,27 @@ fn foresee(film: &[u8], st: State, palette: &mut [u8]) -> Turn
     }
 }
 
-// The stores of an opcode that is no sound, where there is no size: those of 0B, 0C, 0D and 0F.
+// The stores of an opcode that is no sound, where there is no size: those of 0B, 0C, 0D and 0F, all of which are allowed.
 fn store_opcode(film: &[u8], st: State, o: Opcode, palette: &mut [u8], place: &mut usize)
     requires { ⌜ Ready (length (now film)) (st .cursor) o ⌝ }
     requires { ⌜ st .columns ≡ 0 ⌝ }
-    ensures { λ _. ⌜ ((a b room : List ℕ) (allowed : Allowed) → now (palette .exit) ≡ actOn (now (film .entry)) st o allowed (lent (now (palette .entry)) a b (now (place .entry)) room) .lent .palette) ⌝ }
-    ensures { λ _. ⌜ ((a b room : List ℕ) (allowed : Allowed) → now (place .exit) ≡ actOn (now (film .entry)) st o allowed (lent (now (palette .entry)) a b (now (place .entry)) room) .lent .place) ⌝ }
+    ensures { λ _. ⌜ ((a b room : List ℕ) → now (palette .exit) ≡ actOn (now (film .entry)) st o allowance (lent (now (palette .entry)) a b (now (place .entry)) room) .lent .palette) ⌝ }
+    ensures { λ _. ⌜ ((a b room : List ℕ) → now (place .exit) ≡ actOn (now (film .entry)) st o allowance (lent (now (palette .entry)) a b (now (place .entry)) room) .lent .place) ⌝ }
 {
     let s = o.start;
     let p = s + o.long;
     let kind = o.kind;
     let body = &film[s..p];
+    let allowed = 312000;
     match kind {
         11 => {
-            create_gradient(body, palette);
+            create_gradient(body, palette, allowed);
         }
         12 => {
-            set_palette(body, palette);
+            set_palette(body, palette, allowed);
         }
         13 => {
-            set_palette_compressed(body, palette);
+            set_palette_compressed(body, palette, allowed);
         }
         15 => set_place(place, 0),
         _ => {}
@@ -169,8 +181,8 @@ fn store_opcode(film: &[u8], st: State, o: Opcode, palette: &mut [u8], place: &m
 // The stores of a step where there is no size: the palette and the place are then as the step leaves them.
 fn store(film: &[u8], st: State, palette: &mut [u8], place: &mut usize)
     requires { ⌜ Early (length (now film)) st × (length (now palette) ≡ 768) ⌝ }
-    ensures { λ _. ⌜ ((a b room : List ℕ) (allowed : Allowed) → now (palette .exit) ≡ stepOf (now (film .entry)) st allowed (lent (now (palette .entry)) a b (now (place .entry)) room) .lent .palette) ⌝ }
-    ensures { λ _. ⌜ ((a b room : List ℕ) (allowed : Allowed) → now (place .exit) ≡ stepOf (now (film .entry)) st allowed (lent (now (palette .entry)) a b (now (place .entry)) room) .lent .place) ⌝ }
+    ensures { λ _. ⌜ ((a b room : List ℕ) → now (palette .exit) ≡ stepOf (now (film .entry)) st allowance (lent (now (palette .entry)) a b (now (place .entry)) room) .lent .palette) ⌝ }
+    ensures { λ _. ⌜ ((a b room : List ℕ) → now (place .exit) ≡ stepOf (now (film .entry)) st allowance (lent (now (palette .entry)) a b (now (place .entry)) room) .lent .place) ⌝ }
 {
     let c = st.cursor;
     let sound = st.sound;

@@ -1,13 +1,16 @@
--- `state-crosses`: a state that has `Crosses` is the same after the boundary. `read-crosses`: every state that a call is given has it; that every state that a call gives
--- has it is in `Steps`. `numbers-cross`: numbers as the library writes them are the same after the boundary.
+-- `state-crosses`: a state that has `Crosses` is the same after the boundary, and `state-numbers`: its numbers are a state's. `read-crosses`: every state that a call is given
+-- has it; that every state that a call gives has it is in `Steps`. `numbers-cross`: numbers as the library writes them are the same after the boundary.
 -- Assumes nothing.
-use mathlib.Core.Path.{_≡_, refl, sym, ap}
+use mathlib.Core.Path.{_≡_, refl, sym, ap, _∙_}
 use mathlib.Core.Bool.{Bool, true, false, cond}
-use Prim.Native.Nat.{ℕ, _≤_}
+use mathlib.Core.List.{List, [], _∷_, _++_}
+use Prim.Native.Nat.{ℕ, zero, suc, _+_, _≤_}
 use native.Mathlib.Decide.{ℕ-discrete}
 use native.Mathlib.Omega.{arith}
 use borrow.Author.Tests.{eq-eqb, ne-eqb}
 use lib.Dec.{eqb}
+use lib.ListN.{length, getD, drop, drop-of-length-le}
+use lib.Seq.{drop-cons}
 use Rattle.sound.specs.declared.Format.{Format}
 use Rattle.sound.specs.declared.Format.the-variants.{Unknown, Known}
 use Rattle.sound.specs.declared.Sound.{Sound}
@@ -15,10 +18,10 @@ use Rattle.sound.specs.Format.{firstSound}
 use Rattle.state.specs.declared.Map.{Map}
 use Rattle.state.specs.declared.Map.the-variants.{Missing, Part}
 use Rattle.state.specs.declared.State.{State}
-use Rattle.mve_states.specs.declared.MveSound.{MveSound}
-use Rattle.mve_states.specs.declared.MveState.{MveState}
-use Rattle.mve_states.specs.State.{flagOf, numberOf, soundOf, sounds, withFormat, ofSound, mapOf, stateOf, numbers, withMap, ofState}
-use Rattle.exports.specs.Boundary.{Plain, Crosses, WrittenSound, Written}
+use Rattle.separate.specs.Separate.{Bytes}
+use Rattle.mve_states.specs.State.{flagOf, numberOf, isState, mapOf, soundOf, stateOf, ofMap, withFormat, ofSound, ofState}
+use Rattle.mve_states.proofs.States.{are-numbers, is-numbers, state-length}
+use Rattle.exports.specs.Boundary.{Plain, Narrow, CrossesSound, Crosses, Written}
 
 -- ---- to numbers and back
 
@@ -26,53 +29,70 @@ flag-number : (b : Bool) → flagOf (numberOf b) ≡ b
 flag-number true = refl
 flag-number false = refl
 
-sound-by : (s : Sound) (f : Format) → s .format ≡ f → Plain s → soundOf (withFormat s f) ≡ s
+-- behind the nine numbers that are no sound's
+sound-by : (a b c d e f g h i : ℕ) (s : Sound) (k : Format) → s .format ≡ k → Plain s → soundOf (a ∷ b ∷ c ∷ d ∷ e ∷ f ∷ g ∷ h ∷ i ∷ withFormat s k) ≡ s
 unfolding soundOf withFormat
-sound-by s Unknown e p = sym (p e)
-sound-by s (Known a b c) e p =
-    rw (flag-number a, flag-number b, flag-number c, flag-number (s .begun))
-    (ap (λ (f : Format). record { stream = s .stream; format = f; begun = s .begun; left = s .left; right = s .right }) (sym e))
+sound-by a b c d e f g h i s Unknown q p = sym (p q)
+sound-by a b c d e f g h i s (Known x y z) q p =
+    rw (flag-number x, flag-number y, flag-number z, flag-number (s .begun))
+    (ap (λ (k : Format). record { stream = s .stream; format = k; begun = s .begun; left = s .left; right = s .right }) (sym q))
 
-pub sound-crosses : (s : Sound) → Plain s → soundOf (ofSound s) ≡ s
-sound-crosses s p = sound-by s (s .format) refl p
+-- a state's numbers, by its map and the numbers of its sound
+abbrev numbers : State → Map → List ℕ → List ℕ
+numbers st m sound = st .cursor .position ∷ st .cursor .«chunk_end» ∷ st .columns ∷ st .rows ∷ st .front ∷ (ofMap m ++ (numberOf (st .unsent) ∷ sound))
 
-state-by : (st : State) (m : Map) → st .map ≡ m → Crosses st → stateOf (withMap st m) ≡ st
-unfolding stateOf withMap mapOf
+state-by : (st : State) (m : Map) → st .map ≡ m → Plain (st .sound) → stateOf (numbers st m (ofSound (st .sound))) ≡ st
+unfolding stateOf ofMap mapOf
 state-by st Missing e p =
-    rw (flag-number (st .unsent), sound-crosses (st .sound) p)
+    rw (flag-number (st .unsent), sound-by _ _ _ _ _ _ _ _ _ (st .sound) (st .sound .format) refl p)
     (ap (λ (m : Map). record { cursor = st .cursor; columns = st .columns; rows = st .rows; front = st .front; map = m; unsent = st .unsent; sound = st .sound }) (sym e))
 state-by st (Part start long) e p =
-    rw (flag-number (st .unsent), sound-crosses (st .sound) p)
+    rw (flag-number (st .unsent), sound-by _ _ _ _ _ _ _ _ _ (st .sound) (st .sound .format) refl p)
     (ap (λ (m : Map). record { cursor = st .cursor; columns = st .columns; rows = st .rows; front = st .front; map = m; unsent = st .unsent; sound = st .sound }) (sym e))
 
-pub state-crosses : (st : State) → Crosses st → stateOf (ofState st) ≡ st
-state-crosses st p = state-by st (st .map) refl p
+pub state-crosses : (film : List ℕ) (st : State) → Crosses film st → stateOf (ofState st) ≡ st
+unfolding ofState
+state-crosses film st c = state-by st (st .map) refl (c .plain)
+
+samples-by : (st : State) (m : Map) (f : Format) → Narrow (st .sound)
+    → (getD (numbers st m (withFormat (st .sound) f)) 15 0 ≤ 65535) × (getD (numbers st m (withFormat (st .sound) f)) 16 0 ≤ 65535)
+unfolding ofMap withFormat
+samples-by st Missing Unknown n = (omega arith, omega arith)
+samples-by st Missing (Known x y z) n = n
+samples-by st (Part start long) Unknown n = (omega arith, omega arith)
+samples-by st (Part start long) (Known x y z) n = n
+
+pub state-numbers : (film : List ℕ) → Bytes film → (st : State) → Crosses film st → isState (ofState st) ≡ true
+unfolding ofState
+state-numbers film bytes st c =
+    let n = samples-by st (st .map) (st .sound .format) (c .narrow bytes) in
+    is-numbers (ofState st) (record { count = state-length st; left = n .0; right = n .1 })
 
 -- ---- every state that is read from numbers
 
 pub known-unknown : (a b c : Bool) → Known a b c ≡ Unknown → ⊥
 known-unknown a b c e = let z : _≡_ {A = ℕ} 0 1 = cc in omega arith
 
-read-plain : (m : MveSound) → Plain (soundOf m)
+read-by : (film m : List ℕ) → (getD m 15 0 ≤ 65535) → (getD m 16 0 ≤ 65535) → CrossesSound film (soundOf m)
 unfolding soundOf
-read-plain m = by (eqb (m .«has_format») 0)
+read-by film m h i = by (eqb (getD m 10 0) 0)
   where
     by : (b : Bool) →
-        Plain
-        (cond b (firstSound (m .stream))
+        CrossesSound film
+        (cond b (firstSound (getD m 9 0))
         (record {
-          stream = m .stream;
-          format = Known (flagOf (m .stereo)) (flagOf (m .wide)) (flagOf (m .compressed));
-          begun = flagOf (m .begun);
-          left = m .left;
-          right = m .right;
+          stream = getD m 9 0;
+          format = Known (flagOf (getD m 11 0)) (flagOf (getD m 12 0)) (flagOf (getD m 13 0));
+          begun = flagOf (getD m 14 0);
+          left = getD m 15 0;
+          right = getD m 16 0;
         }))
-    by true e = refl
-    by false e = absurd (known-unknown _ _ _ e)
+    by true = record { plain = λ e. refl; narrow = λ _. (omega arith, omega arith) }
+    by false = record { plain = λ e. absurd (known-unknown _ _ _ e); narrow = λ _. (h, i) }
 
-pub read-crosses : (m : MveState) → Crosses (stateOf m)
+pub read-crosses : (film m : List ℕ) → isState m ≡ true → Crosses film (stateOf m)
 unfolding stateOf
-read-crosses m = read-plain (m .sound)
+read-crosses film m t = let n = are-numbers m t in read-by film m (n .left) (n .right)
 
 -- ---- numbers as the library writes them
 
@@ -83,35 +103,35 @@ number-flag n h = by (ℕ-discrete n 0)
     by (yes e) = rw e
     by (no f) = let e : n ≡ 1 = omega arith in rw e
 
-same-sounds : (m : MveSound) (has stereo wide compressed begun left right : ℕ) → has ≡ m .«has_format» → stereo ≡ m .stereo → wide ≡ m .wide → compressed ≡ m .compressed
-    → begun ≡ m .begun → left ≡ m .left → right ≡ m .right → sounds (m .stream) has stereo wide compressed begun left right ≡ m
-same-sounds m has stereo wide compressed begun left right e f g h i j k = rw (e, f, g, h, i, j, k)
+-- a list by its n numbers from index i on
+unfoldable values : List ℕ → ℕ → ℕ → List ℕ
+values m i zero = []
+values m i (suc n) = getD m i 0 ∷ values m (suc i) n
 
-sound-written : (m : MveSound) → WrittenSound m → ofSound (soundOf m) ≡ m
-unfolding soundOf withFormat
-sound-written m w = by (ℕ-discrete (m .«has_format») 0)
+values-are : (m : List ℕ) (n i : ℕ) → i + n ≡ length m → values m i n ≡ drop i m
+unfolding values
+values-are m zero i e = let h : length m ≤ i = omega arith in sym (drop-of-length-le m h)
+values-are m (suc n) i e = ap (λ (l : List ℕ). getD m i 0 ∷ l) (values-are m n (suc i) (omega arith)) ∙ sym (drop-cons m i 0 (omega arith))
+
+sound-written : (m : List ℕ) → Written m → ofSound (soundOf m) ≡ values m 9 8
+unfolding soundOf withFormat values
+sound-written m w = by (ℕ-discrete (getD m 10 0) 0)
   where
-    by : Dec (m .«has_format» ≡ 0) → ofSound (soundOf m) ≡ m
-    by (yes e) =
-        let z = w .none e in
-        rw (eq-eqb _ _ e) (same-sounds m 0 0 0 0 0 0 0 (sym e) (sym (z .0)) (sym (z .1)) (sym (z .2)) (sym (z .3)) (sym (z .4)) (sym (z .5)))
+    by : Dec (getD m 10 0 ≡ 0) → ofSound (soundOf m) ≡ values m 9 8
+    by (yes e) = let z = w .unformatted e in rw (eq-eqb _ _ e, e, z .0, z .1, z .2, z .3, z .4, z .5)
     by (no f) =
-        let e : 1 ≡ m .«has_format» = omega (arith, w .format) in
-        rw (ne-eqb _ _ f)
-        (same-sounds m 1 _ _ _ _ _ _ e (number-flag _ (w .stereo)) (number-flag _ (w .wide)) (number-flag _ (w .compressed)) (number-flag _ (w .begun)) refl refl)
+        let e : getD m 10 0 ≡ 1 = omega (arith, w .format) in
+        rw (ne-eqb _ _ f, number-flag _ (w .stereo), number-flag _ (w .wide), number-flag _ (w .compressed), number-flag _ (w .begun), e)
 
-same-numbers : (m : MveState) (has start long unsent : ℕ) (sound : MveSound) → has ≡ m .«has_map» → start ≡ m .«map_start» → long ≡ m .«map_length» → unsent ≡ m .unsent
-    → sound ≡ m .sound → numbers (m .position) (m .«chunk_end») (m .columns) (m .rows) (m .front) has start long unsent sound ≡ m
-same-numbers m has start long unsent sound e f g h i = rw (e, f, g, h, i)
-
-pub numbers-cross : (m : MveState) → Written m → ofState (stateOf m) ≡ m
-unfolding stateOf withMap mapOf
-numbers-cross m w = by (ℕ-discrete (m .«has_map») 0)
+map-written : (m : List ℕ) → Written m → (l : List ℕ) → ofMap (mapOf (getD m 5 0) (getD m 6 0) (getD m 7 0)) ++ l ≡ getD m 5 0 ∷ getD m 6 0 ∷ getD m 7 0 ∷ l
+unfolding mapOf ofMap
+map-written m w l = by (ℕ-discrete (getD m 5 0) 0)
   where
-    by : Dec (m .«has_map» ≡ 0) → ofState (stateOf m) ≡ m
-    by (yes e) =
-        let z = w .none e in
-        rw (eq-eqb _ _ e) (same-numbers m 0 0 0 _ _ (sym e) (sym (z .0)) (sym (z .1)) (number-flag _ (w .unsent)) (sound-written (m .sound) (w .sound)))
-    by (no f) =
-        let e : 1 ≡ m .«has_map» = omega (arith, w .map) in
-        rw (ne-eqb _ _ f) (same-numbers m 1 _ _ _ _ e refl refl (number-flag _ (w .unsent)) (sound-written (m .sound) (w .sound)))
+    by : Dec (getD m 5 0 ≡ 0) → ofMap (mapOf (getD m 5 0) (getD m 6 0) (getD m 7 0)) ++ l ≡ getD m 5 0 ∷ getD m 6 0 ∷ getD m 7 0 ∷ l
+    by (yes e) = let z = w .unmapped e in rw (eq-eqb _ _ e, e, z .0, z .1)
+    by (no f) = let e : getD m 5 0 ≡ 1 = omega (arith, w .map) in rw (ne-eqb _ _ f, e)
+
+pub numbers-cross : (m : List ℕ) → Written m → ofState (stateOf m) ≡ m
+unfolding stateOf ofState values
+numbers-cross m w =
+    rw (map-written m w, number-flag _ (w .unsent), sound-written m w) (values-are m 17 0 (omega (arith, w .count)))

@@ -1,3 +1,4 @@
+pub mod Answers
 pub mod Boundary
 pub mod Steps
 pub mod Row

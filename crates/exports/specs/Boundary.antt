@@ -1,47 +1,56 @@
--- States survive the C boundary: a state that is written as numbers and read again is the same. Of every state that a call of the library gives:
+-- States survive the C boundary: a state that is written as numbers is a state's numbers, and read again it is the same. Of every state that a call of the library gives:
 -- `proofs/Boundary`, `proofs/Steps`.
 -- Assumes nothing.
 use mathlib.Core.Path.{_≡_}
-use Prim.Native.Nat.{_≤_}
+use mathlib.Core.List.{List}
+use Prim.Native.Nat.{ℕ, _≤_}
+use lib.ListN.{length, getD}
 use Rattle.sound.specs.declared.Format.the-variants.{Unknown}
 use Rattle.sound.specs.declared.Sound.{Sound}
 use Rattle.sound.specs.Format.{firstSound}
 use Rattle.state.specs.declared.State.{State}
 use Rattle.opcodes.specs.Opcodes.{Answer, taken, whole, unfinished, ended, refused}
 use Rattle.begin.specs.Begin.{Beginning, sized, stopped}
-use Rattle.mve_states.specs.declared.MveSound.{MveSound}
-use Rattle.mve_states.specs.declared.MveState.{MveState}
+use Rattle.separate.specs.Separate.{Bytes}
 
 -- before a 03 only the stream is written
 abbrev pub Plain : Sound → Type 0
 Plain s = s .format ≡ Unknown → s ≡ firstSound (s .stream)
 
-abbrev pub Crosses : State → Type 0
-Crosses st = Plain (st .sound)
+-- the last samples have 16 bits
+abbrev pub Narrow : Sound → Type 0
+Narrow s = (s .left ≤ 65535) × (s .right ≤ 65535)
+
+-- the sound of a state in a walk over a film; every film that is lent is bytes
+pub record CrossesSound (film : List ℕ) (s : Sound) : Type 0 where
+  pub plain : Plain s
+  pub narrow : Bytes film → Narrow s
+
+abbrev pub Crosses : List ℕ → State → Type 0
+Crosses film st = CrossesSound film (st .sound)
 
 -- of the state that an answer gives
-unfoldable pub OfAnswer : Answer → Type 0
-OfAnswer (taken st) = Crosses st
-OfAnswer (whole st) = Crosses st
-OfAnswer (unfinished st) = Crosses st
-OfAnswer (ended st) = Crosses st
-OfAnswer (refused n k) = Unit
+unfoldable pub OfAnswer : List ℕ → Answer → Type 0
+OfAnswer film (taken st) = Crosses film st
+OfAnswer film (whole st) = Crosses film st
+OfAnswer film (unfinished st) = Crosses film st
+OfAnswer film (ended st) = Crosses film st
+OfAnswer film (refused n k) = Unit
 
-unfoldable pub OfBeginning : Beginning → Type 0
-OfBeginning (sized st) = Crosses st
-OfBeginning (stopped n k st) = Crosses st
+unfoldable pub OfBeginning : List ℕ → Beginning → Type 0
+OfBeginning film (sized st) = Crosses film st
+OfBeginning film (stopped n k st) = Crosses film st
 
--- numbers as the library writes them: a flag is 0 or 1, and what is not read is 0
-pub record WrittenSound (m : MveSound) : Type 0 where
-  pub format : m .«has_format» ≤ 1
-  pub stereo : m .stereo ≤ 1
-  pub wide : m .wide ≤ 1
-  pub compressed : m .compressed ≤ 1
-  pub begun : m .begun ≤ 1
-  pub none : m .«has_format» ≡ 0 → (m .stereo ≡ 0) × (m .wide ≡ 0) × (m .compressed ≡ 0) × (m .begun ≡ 0) × (m .left ≡ 0) × (m .right ≡ 0)
-
-pub record Written (m : MveState) : Type 0 where
-  pub map : m .«has_map» ≤ 1
-  pub none : m .«has_map» ≡ 0 → (m .«map_start» ≡ 0) × (m .«map_length» ≡ 0)
-  pub unsent : m .unsent ≤ 1
-  pub sound : WrittenSound (m .sound)
+-- numbers as the library writes them: a flag is 0 or 1, and what is not read is 0. The flags are has_map, unsent, has_format, stereo, wide, compressed and begun
+pub record Written (m : List ℕ) : Type 0 where
+  pub count : length m ≡ 17
+  pub map : getD m 5 0 ≤ 1
+  pub unmapped : getD m 5 0 ≡ 0 → (getD m 6 0 ≡ 0) × (getD m 7 0 ≡ 0)
+  pub unsent : getD m 8 0 ≤ 1
+  pub format : getD m 10 0 ≤ 1
+  pub stereo : getD m 11 0 ≤ 1
+  pub wide : getD m 12 0 ≤ 1
+  pub compressed : getD m 13 0 ≤ 1
+  pub begun : getD m 14 0 ≤ 1
+  pub unformatted : getD m 10 0 ≡ 0
+      → (getD m 11 0 ≡ 0) × (getD m 12 0 ≡ 0) × (getD m 13 0 ≡ 0) × (getD m 14 0 ≡ 0) × (getD m 15 0 ≡ 0) × (getD m 16 0 ≡ 0)

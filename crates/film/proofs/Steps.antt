@@ -8,7 +8,7 @@ use native.Mathlib.Decide.{ℕ-discrete}
 use borrow.Author.Tests.{eq-eqb, ne-eqb, leb-true}
 use lib.ListN.{length}
 use Rattle.refusal.specs.declared.Refusal.{Refusal}
-use Rattle.refusal.specs.Number.{Verdict, refuse, number, block}
+use Rattle.refusal.specs.Number.{refuse, number, block}
 use Rattle.packet.specs.declared.Touched.the-variants.{None}
 use Rattle.stores.specs.Stores.{Memory, memory}
 use Rattle.stores.specs.Calls.{refusal, step}
@@ -16,9 +16,9 @@ use Rattle.draw.specs.declared.Allowed.{Allowed}
 use Rattle.draw.specs.Call.{Request, request, callVerdict, reason, calling, Pictures, pictures, leaves, Report, reporting, report}
 use Rattle.draw.proofs.Judged.{either-verdict}
 use Rattle.draw.proofs.Called.{says-refused}
-use Rattle.palette.specs.declared.Updated.{Updated}
-use Rattle.palette.specs.declared.Updated.the-variants.{Taken, Refused}
-use Rattle.palette.specs.Update.{told, verdictOn, paletteAfter}
+use Rattle.palette.specs.declared.Changed.{Changed}
+use Rattle.palette.specs.declared.Changed.the-variants.{Whole, Unfinished, Refused}
+use Rattle.palette.specs.Update.{Change, changeOn, paletteAfter, changedAs}
 use Rattle.palette.specs.Gradient.{createGradient}
 use Rattle.palette.specs.Entries.{setPalette}
 use Rattle.palette.specs.Mask.{setPaletteCompressed}
@@ -42,8 +42,8 @@ use Rattle.next.specs.declared.Next.{Next}
 use Rattle.next.specs.declared.Next.the-variants as found
 use Rattle.next.specs.Next.{nextAs, nextOf, Possible, Ready}
 use Rattle.next.proofs.Standing.{found-ready}
-use Rattle.opcodes.specs.Opcodes.{Step, taken, ended, refused, quiet, quietAnswer, heardStep, paletteAnswer, drawnAs, drawnStep}
-use Rattle.film.specs.Film.{Lent, lent, withPalette, withPictures, withRoom, swap, Outcome, after, called, drawOn, part, drawBy, act, actOn, heardBy, hear, takeOn, standing, stepOf}
+use Rattle.opcodes.specs.Opcodes.{Step, taken, unfinished, ended, refused, stored, quiet, quietAnswer, heardStep, drawnAs, drawnStep}
+use Rattle.film.specs.Film.{Lent, lent, withPalette, withPictures, withRoom, swap, Outcome, after, called, drawOn, part, drawBy, paletteStep, mapTo, act, actOn, heardBy, hear, takeOn, standing, stepOf}
 
 -- ---- 11
 
@@ -112,22 +112,30 @@ map-ends m ms ml film h e = leb-true (ms + ml) film (rw e at h)
 
 -- ---- palettes
 
-module _ (st : State) (p : ℕ) (u : Updated) where
-  pub palette-taken : (x : State) → u ≡ Taken → x ≡ behind st p → quiet (taken x) ≡ quiet (paletteAnswer st p (told u))
-  unfolding paletteAnswer
-  palette-taken x e f = rw (e, f)
+module _ (st : State) (p : ℕ) (c : Changed) where
+  pub palette-whole : (n : ℕ) (x : State) → c ≡ Whole n → x ≡ behind st p → stored (taken x) n ≡ paletteStep st p (changedAs c)
+  unfolding paletteStep
+  palette-whole n x e f = rw (e, f)
 
-  pub palette-refused : (r : Refusal) → u ≡ Refused r → quiet (refused (number r) (block r)) ≡ quiet (paletteAnswer st p (told u))
-  unfolding paletteAnswer
+  pub palette-short : (n : ℕ) → c ≡ Unfinished n → stored (unfinished st) n ≡ paletteStep st p (changedAs c)
+  unfolding paletteStep
+  palette-short n e = rw e
+
+  pub palette-refused : (r : Refusal) → c ≡ Refused r → quiet (refused (number r) (block r)) ≡ paletteStep st p (changedAs c)
+  unfolding paletteStep
   palette-refused r e = rw e
 
 -- ---- an opcode
 
 module _ (film : List ℕ) (st : State) (kind version s : ℕ) (body : List ℕ) (p : ℕ) (allowed : Allowed) (l : Lent) where
-  pub act-map : (x : State) (k : ℕ) → kind ≡ 15 → x ≡ mapped st p (Part s (p - s)) → k ≡ 0
-      → after (quiet (taken x)) (withPictures l (l .first) (l .second) k) ≡ act film st kind version s body p allowed l
-  unfolding act
-  act-map x k e f g = rw (e, f, g)
+  pub act-map : (x : State) (k : ℕ) → kind ≡ 15 → (allowed .stores ≡ 0 → ⊥) → x ≡ mapped st p (Part s (p - s)) → k ≡ 0
+      → after (stored (taken x) 1) (withPictures l (l .first) (l .second) k) ≡ act film st kind version s body p allowed l
+  unfolding act mapTo
+  act-map x k e n f g = rw (e, ne-eqb _ _ n, f, g)
+
+  pub act-map-short : kind ≡ 15 → allowed .stores ≡ 0 → after (quiet (unfinished st)) l ≡ act film st kind version s body p allowed l
+  unfolding act mapTo
+  act-map-short e z = rw (e, eq-eqb _ _ z)
 
   pub act-draw : (x : Step) (a b : List ℕ) (k : ℕ) → kind ≡ 17
       → ((m : Lent) → after x (withPictures m a b k) ≡ drawBy (st .map) film st body p allowed (withPictures m (l .first) (l .second) (l .place)))
@@ -135,18 +143,18 @@ module _ (film : List ℕ) (st : State) (kind version s : ℕ) (body : List ℕ)
   unfolding act
   act-draw x a b k e h = rw e (h l)
 
-  module _ (x : Step) (q : List ℕ) (v : Verdict) (f : x ≡ quiet (paletteAnswer st p v)) where
-    pub act-gradient : kind ≡ 11 → v ≡ verdictOn (createGradient body) (l .palette) → q ≡ paletteAfter (createGradient body) (l .palette)
+  module _ (x : Step) (q : List ℕ) (v : Change) (f : x ≡ paletteStep st p v) where
+    pub act-gradient : kind ≡ 11 → v ≡ changeOn (createGradient body) (allowed .stores) (l .palette) → q ≡ paletteAfter (createGradient body) (allowed .stores) (l .palette)
         → after x (withPalette l q) ≡ act film st kind version s body p allowed l
     unfolding act
     act-gradient e g h = rw (e, f, g, h)
 
-    pub act-entries : kind ≡ 12 → v ≡ verdictOn (setPalette body) (l .palette) → q ≡ paletteAfter (setPalette body) (l .palette)
+    pub act-entries : kind ≡ 12 → v ≡ changeOn (setPalette body) (allowed .stores) (l .palette) → q ≡ paletteAfter (setPalette body) (allowed .stores) (l .palette)
         → after x (withPalette l q) ≡ act film st kind version s body p allowed l
     unfolding act
     act-entries e g h = rw (e, f, g, h)
 
-    pub act-masks : kind ≡ 13 → v ≡ verdictOn (setPaletteCompressed body) (l .palette) → q ≡ paletteAfter (setPaletteCompressed body) (l .palette)
+    pub act-masks : kind ≡ 13 → v ≡ changeOn (setPaletteCompressed body) (allowed .stores) (l .palette) → q ≡ paletteAfter (setPaletteCompressed body) (allowed .stores) (l .palette)
         → after x (withPalette l q) ≡ act film st kind version s body p allowed l
     unfolding act
     act-masks e g h = rw (e, f, g, h)

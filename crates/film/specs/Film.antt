@@ -9,14 +9,15 @@ use Rattle.stores.specs.Stores.{memory}
 use Rattle.stores.specs.Calls.{step}
 use Rattle.draw.specs.declared.Allowed.{Allowed}
 use Rattle.draw.specs.Call.{Request, request, calling, report}
-use Rattle.palette.specs.Update.{Update, verdictOn, paletteAfter}
+use Rattle.palette.specs.Update.{Update, Change, changeOn, paletteAfter}
+use Rattle.palette.specs.Update as palette
 use Rattle.palette.specs.Gradient.{createGradient}
 use Rattle.palette.specs.Entries.{setPalette}
 use Rattle.palette.specs.Mask.{setPaletteCompressed}
 use Rattle.state.specs.declared.Map.{Map}
 use Rattle.state.specs.declared.Map.the-variants.{Missing, Part}
 use Rattle.state.specs.declared.State.{State}
-use Rattle.state.specs.Moves.{into, mapped}
+use Rattle.state.specs.Moves.{behind, into, mapped}
 use Rattle.sound.specs.declared.Sound.{Sound}
 use Rattle.sound.specs.Format.{chosen}
 use Rattle.sound.specs.Step as sound
@@ -25,7 +26,7 @@ use Rattle.heads.specs.declared.Opcode.{Opcode}
 use Rattle.heads.specs.Heads.{hears}
 use Rattle.next.specs.Next.{Standing, nextOf}
 use Rattle.next.specs.Next as found
-use Rattle.opcodes.specs.Opcodes.{Step, taken, ended, refused, quiet, quietAnswer, heardStep, paletteAnswer, drawnStep}
+use Rattle.opcodes.specs.Opcodes.{Step, taken, unfinished, ended, refused, stored, quiet, quietAnswer, heardStep, drawnStep}
 
 -- ---- what is lent
 
@@ -92,18 +93,28 @@ drawBy (Part start long) film st body p allowed l =
 
 -- ---- an opcode that is taken and is no sound
 
--- 0B, 0C, 0D
-abbrev pub update : State → ℕ → Update → Lent → Outcome
-update st p u l = after (quiet (paletteAnswer st p (verdictOn u (l .palette)))) (withPalette l (paletteAfter u (l .palette)))
+-- 0B, 0C, 0D, by what became of the palette's change: one that ran short keeps the state
+unfoldable pub paletteStep : State → ℕ → Change → Step
+paletteStep st p (palette.whole n) = stored (taken (behind st p)) n
+paletteStep st p (palette.unfinished n) = stored (unfinished st) n
+paletteStep st p (palette.refused n k) = quiet (refused n k)
 
--- type and version, and the body from s on, which ends at p. 0F: the body becomes the pending map and the place becomes 0
+-- where n stores are allowed
+abbrev pub update : State → ℕ → Update → ℕ → Lent → Outcome
+update st p u n l = after (paletteStep st p (changeOn u n (l .palette))) (withPalette l (paletteAfter u n (l .palette)))
+
+-- 0F, which leads to a state with another map: one store, by which the place becomes 0
+unfoldable pub mapTo : State → State → ℕ → Lent → Outcome
+mapTo st next n l = cond (eqb n 0) (after (quiet (unfinished st)) l) (after (stored (taken next) 1) (withPictures l (l .first) (l .second) 0))
+
+-- type and version, and the body from s on, which ends at p. 0F: the body becomes the pending map
 unfoldable pub act : List ℕ → State → ℕ → ℕ → ℕ → List ℕ → ℕ → Allowed → Lent → Outcome
 act film st kind version s body p allowed l =
-    cond (eqb kind 15) (after (quiet (taken (mapped st p (Part s (p - s))))) (withPictures l (l .first) (l .second) 0))
+    cond (eqb kind 15) (mapTo st (mapped st p (Part s (p - s))) (allowed .stores) l)
     (cond (eqb kind 17) (drawBy (st .map) film st body p allowed l)
-    (cond (eqb kind 11) (update st p (createGradient body) l)
-    (cond (eqb kind 12) (update st p (setPalette body) l)
-    (cond (eqb kind 13) (update st p (setPaletteCompressed body) l)
+    (cond (eqb kind 11) (update st p (createGradient body) (allowed .stores) l)
+    (cond (eqb kind 12) (update st p (setPalette body) (allowed .stores) l)
+    (cond (eqb kind 13) (update st p (setPaletteCompressed body) (allowed .stores) l)
     (after (quiet (quietAnswer (length film) st kind version body p)) l)))))
 
 abbrev pub actOn : List ℕ → State → Opcode → Allowed → Lent → Outcome

@@ -12,8 +12,9 @@ use opcodes::drawn_step;
 use opcodes::heard_step;
 use opcodes::quiet_step;
 use packet::Inspected;
+use packet::Touched;
 use paint::set_place;
-use palette::Updated;
+use palette::Changed;
 use palette::create_gradient;
 use palette::set_palette;
 use palette::set_palette_compressed;
@@ -31,11 +32,11 @@ ghost use mathlib.Core.List.{List};
 ghost use lib.ListN.{length};
 ghost use Rattle.packet.specs.Verdict.{default};
 ghost use Rattle.draw.specs.Call.{within};
-ghost use Rattle.palette.specs.Update.{told};
+ghost use Rattle.palette.specs.Update.{changedAs};
 ghost use Rattle.state.specs.State.{mapInside};
 ghost use Rattle.next.specs.Next.{Ready};
-ghost use Rattle.opcodes.specs.Opcodes.{quiet, steppedAs, paletteAnswer};
-ghost use Rattle.film.specs.Film.{Lent, lent, withPictures, withRoom, after, drawOn, drawBy, actOn, hear, takeOn, stepOf};
+ghost use Rattle.opcodes.specs.Opcodes.{steppedAs};
+ghost use Rattle.film.specs.Film.{Lent, lent, withPictures, withRoom, after, drawOn, drawBy, paletteStep, actOn, hear, takeOn, stepOf};
 
 // 11 on back, the picture that is not front. Whatever else is lent stays as it is. The tests come first and are gone from the stack while blocks are drawn.
 fn draw_on(
@@ -107,13 +108,14 @@ fn draw_by(
     }
 }
 
-// 0B, 0C, 0D, after the palette's update.
-pub fn palette_step(st: State, p: usize, u: Updated) -> Stepped
-    ensures { λ r. ⌜ steppedAs r ≡ quiet (paletteAnswer st p (told u)) ⌝ }
+// 0B, 0C, 0D, after the palette's change.
+fn palette_step(st: State, p: usize, c: Changed) -> Stepped
+    ensures { λ r. ⌜ steppedAs r ≡ paletteStep st p (changedAs c) ⌝ }
 {
-    match u {
-        Updated::Taken => Stepped::Taken(st.behind(p)),
-        Updated::Refused(r) => Stepped::Refused(r),
+    match c {
+        Changed::Whole(n) => Stepped::Taken(st.behind(p), n),
+        Changed::Unfinished(n) => Stepped::Unfinished(st, n, Touched::None),
+        Changed::Refused(r) => Stepped::Refused(r),
     }
 }
 
@@ -136,13 +138,17 @@ fn act_on(
     let p = s + o.long;
     let kind = o.kind;
     let body = &film[s..p];
+    let n = allowed.stores;
     match kind {
-        11 => palette_step(st, p, create_gradient(body, palette)),
-        12 => palette_step(st, p, set_palette(body, palette)),
-        13 => palette_step(st, p, set_palette_compressed(body, palette)),
+        11 => palette_step(st, p, create_gradient(body, palette, n)),
+        12 => palette_step(st, p, set_palette(body, palette, n)),
+        13 => palette_step(st, p, set_palette_compressed(body, palette, n)),
         15 => {
+            if n == 0 {
+                return Stepped::Unfinished(st, 0, Touched::None);
+            }
             set_place(place, 0);
-            Stepped::Taken(st.mapped(p, Map::Part(s, p - s)))
+            Stepped::Taken(st.mapped(p, Map::Part(s, p - s)), 1)
         }
         17 => draw_by(film, st, body, p, a, b, place, allowed),
         _ => quiet_step(film.len(), st, kind, o.version, body, p),
@@ -193,7 +199,8 @@ fn take_on(
     act_on(film, st, o, palette, a, b, place, allowed)
 }
 
-// One step: a chunk's head where position and chunk end are equal, else one opcode. Every test is made again; a refused step changes nothing.
+// One step: a chunk's head where position and chunk end are equal, else one opcode. Every test is made again; a refused step changes nothing, and one that runs short of
+// stores keeps the state.
 pub fn step_within(
     film: &[u8],
     st: State,
@@ -209,7 +216,7 @@ pub fn step_within(
     match find(film, st, palette.len(), a.len(), b.len()) {
         Next::Refused(r) => Stepped::Refused(r),
         Next::Ended => Stepped::Ended(st),
-        Next::Chunk(c) => Stepped::Taken(st.into_chunk(c)),
+        Next::Chunk(c) => Stepped::Taken(st.into_chunk(c), 0),
         Next::Opcode(o) => take_on(film, st, o, palette, a, b, place, room, allowed),
     }
 }

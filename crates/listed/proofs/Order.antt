@@ -21,10 +21,6 @@ unfolding applied
 due-all l b w = record { begun = record { found = b; made = refl; count = zero-le }; rest = []; next = sym (append-nil l); inside = w }
 
 module _ (l : List Store) (j : ℕ) (part : List Store) (b₀ : List ℕ) (d : Due l j part b₀) where
-  -- the part is of the list
-  pub due-count : j + length part ≤ length l
-  due-count = omega (arith, length-drop j l, ap length (d .next), length-append part (d .rest), d .begun .count)
-
   -- a part in three: a is made, q is next
   pub due-behind : (a q r : List Store) → part ≡ a ++ (q ++ r) → (b : List ℕ) → b ≡ applied a b₀ → Due l (j + length a) q b
   due-behind a q r e b m =

@@ -7,12 +7,12 @@ use mve_answers::answered;
 use mve_answers::of_check;
 use mve_answers::of_trace;
 use mve_answers::refused;
-use mve_states::MveState;
+use mve_states::is_state;
 use mve_states::state_of;
-use mve_steps::MveStep;
-use mve_steps::of_begun;
-use mve_steps::of_opened;
-use mve_steps::of_step;
+use mve_steps::put_begun;
+use mve_steps::put_opened;
+use mve_steps::put_step;
+use mve_steps::put_unread;
 use mve_steps::spare_of;
 ghost use mathlib.Core.Path.{_≡_};
 ghost use lib.ListN.{length};
@@ -22,12 +22,10 @@ ghost use Rattle.packet.specs.Rows.{touched, finding};
 ghost use Rattle.stores.specs.Stores.{memory};
 ghost use Rattle.draw.specs.Call.{within, request, pictures, leaves, report, said};
 ghost use Rattle.origin.specs.Trace.{traceOf};
-ghost use Rattle.state.specs.State.{shownOf};
 ghost use Rattle.film.specs.Film.{lent};
 ghost use Rattle.mve_answers.specs.Answer.{ofFound, ofReport};
 ghost use Rattle.mve_answers.specs.Trace.{ofTrace};
-ghost use Rattle.mve_states.specs.State.{stateOf};
-ghost use Rattle.exports.specs.Calls.{exported, opening, mveOpen, mveStep, mveBegin};
+ghost use Rattle.exports.specs.Calls.{exit, mveOpen, mveStep, mveBegin, mveShown};
 
 // Whether a packet is accepted for a picture of columns by rows blocks.
 #[no_mangle]
@@ -100,12 +98,18 @@ pub extern "C" fn mve_draw_strict(
     of_draw(d)
 }
 
+// An answer over a film has so many numbers. A call that is lent fewer for it, in `out`, touches nothing and returns 4; else it returns the answer's kind.
+const ANSWER: usize = 25;
+
 // The first state of a film, and the stream whose sound is acted on: 0 to 15, or none above that.
 #[no_mangle]
-pub extern "C" fn mve_open(film: &[u8], stream: usize) -> MveStep
-    ensures { λ r. ⌜ r ≡ mveOpen (now (film .entry)) stream ⌝ }
+pub extern "C" fn mve_open(film: &[u8], stream: usize, out: &mut [usize]) -> usize
+    ensures { λ r. ⌜ exit r (now (out .exit)) tt ≡ mveOpen (now (film .entry)) stream (now (out .entry)) ⌝ }
 {
-    of_opened(opening::open(film, stream))
+    if out.len() < ANSWER {
+        return 4;
+    }
+    put_opened(out, opening::open(film, stream))
 }
 
 // The state just after 05, with the palette and the place as the steps up to there leave them. A refusal leaves both as they were.
@@ -113,57 +117,71 @@ pub extern "C" fn mve_open(film: &[u8], stream: usize) -> MveStep
 pub extern "C" fn mve_begin(
     film: &[u8],
     stream: usize,
+    out: &mut [usize],
     palette: &mut [u8],
     place: &mut usize,
-) -> MveStep
-    ensures { λ r. ⌜ opening r (now (palette .exit)) (now (place .exit)) ≡ mveBegin (now (film .entry)) stream (now (palette .entry)) (now (place .entry)) ⌝ }
+) -> usize
+    ensures { λ r. ⌜ exit r (now (out .exit)) (now (palette .exit), now (place .exit)) ≡ mveBegin (now (film .entry)) stream (now (out .entry)) (now (palette .entry)) (now (place .entry)) ⌝ }
 {
+    if out.len() < ANSWER {
+        return 4;
+    }
     let b = begin::begin(film, stream, palette, place);
-    of_begun(b)
+    put_begun(out, b)
 }
 
-// One step over a film, in the default form where strict is 0, else in the strict form. Both forms are one export: a second one would call the same step, and
-// that would cost a frame with a state and an answer in it.
+// One step over a film, in the default form where form is 0, else in the strict form. `from` is a state's numbers. Both forms are one export: each of two would hand all
+// it is given on to the same step, and that costs 128 bytes of stack.
 #[no_mangle]
-pub extern "C" fn mve_step_as(
+pub extern "C" fn mve_step(
     film: &[u8],
-    state: MveState,
+    from: &[usize],
+    out: &mut [usize],
     palette: &mut [u8],
     a: &mut [u8],
     b: &mut [u8],
     place: &mut usize,
     room: &mut [u8],
     allowed: usize,
-    strict: usize,
-) -> MveStep
-    ensures { λ r. ⌜ exported r (lent (now (palette .exit)) (now (a .exit)) (now (b .exit)) (now (place .exit)) (now (room .exit))) ≡ mveStep (now (film .entry)) state allowed strict (lent (now (palette .entry)) (now (a .entry)) (now (b .entry)) (now (place .entry)) (now (room .entry))) ⌝ }
+    form: usize,
+) -> usize
+    ensures { λ r. ⌜ exit r (now (out .exit)) (lent (now (palette .exit)) (now (a .exit)) (now (b .exit)) (now (place .exit)) (now (room .exit))) ≡ mveStep (now (film .entry)) (now (from .entry)) allowed form (now (out .entry)) (lent (now (palette .entry)) (now (a .entry)) (now (b .entry)) (now (place .entry)) (now (room .entry))) ⌝ }
 {
-    let st = state_of(state);
-    let spare = spare_of(strict);
-    let x = film::step_within(
-        film,
-        st,
-        palette,
-        a,
-        b,
-        place,
-        room,
-        Allowed {
-            stores: allowed,
-            spare,
-        },
-    );
-    of_step(state, x)
+    if out.len() < ANSWER {
+        return 4;
+    }
+    if is_state(from) {
+        let st = state_of(from);
+        let spare = spare_of(form);
+        let x = film::step_within(
+            film,
+            st,
+            palette,
+            a,
+            b,
+            place,
+            room,
+            Allowed {
+                stores: allowed,
+                spare,
+            },
+        );
+        return put_step(out, from, x);
+    }
+    put_unread(out)
 }
 
 // How many leading bytes of which lent picture are shown: 0 where none are. The picture is the first where front is 0, the second where it is 1.
 #[no_mangle]
-pub extern "C" fn mve_shown<'a>(state: MveState, a: &'a [u8], b: &'a [u8]) -> usize
-    ensures { λ r. ⌜ r ≡ length (shownOf (stateOf state) (now (a .entry)) (now (b .entry))) ⌝ }
+pub extern "C" fn mve_shown<'a>(from: &[usize], a: &'a [u8], b: &'a [u8]) -> usize
+    ensures { λ r. ⌜ r ≡ mveShown (now (from .entry)) (now (a .entry)) (now (b .entry)) ⌝ }
 {
-    let st = state_of(state);
-    let s = state::shown(st, a, b);
-    s.len()
+    if is_state(from) {
+        let st = state_of(from);
+        let s = state::shown(st, a, b);
+        return s.len();
+    }
+    0
 }
 
 // Where the value of the pixel at x, y comes from, in the picture that a packet gives with these pictures as they are at place 0.

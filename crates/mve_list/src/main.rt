@@ -76,7 +76,7 @@ fn walk(film: &[u8], first: State) {
             &mut room,
             312000,
         ) {
-            Stepped::Taken(next) => {
+            Stepped::Taken(next, _) => {
                 if listed(film, p, inside, next) {
                     return;
                 }

@@ -1,48 +1,30 @@
-// The state of a walk as numbers, for hosts in other languages: written, and read again.
+// The state of a walk as 17 numbers, for hosts in other languages: read, and written behind the 8 numbers that an answer begins with. In this order: position,
+// chunk_end, columns, rows, front, has_map, map_start, map_length, unsent, stream, has_format, stereo, wide, compressed, begun, left, right. has_map is 0 where no map
+// is pending, and unsent is 0 where no frame is finished and unsent. stream is the one that opening was given. has_format is 0 before a 03, and nothing behind it is
+// read there. stereo, wide and compressed are what the last 03 said; wide is 16-bit. begun is 0 where no compressed 08 was taken since. left and right are the last
+// sample of each channel.
 use sound::Format;
 use sound::Sound;
 use state::Cursor;
 use state::Map;
 use state::State;
 ghost use mathlib.Core.Path.{_≡_};
-ghost use Rattle.mve_states.specs.State.{flagOf, numberOf, soundOf, sounds, ofSound, mapOf, stateOf, numbers, ofState};
+ghost use mathlib.Core.List.{[], _∷_};
+ghost use Prim.Native.Nat.{_≤_};
+ghost use lib.ListN.{length, getD};
+ghost use lib.Seq.{sets};
+ghost use Rattle.mve_states.specs.State.{flagOf, numberOf, isState, mapOf, soundOf, stateOf, ofMap, ofSound, ofState, noState};
 
-// The sound that a state keeps. stream: the one that opening was given. has_format: 0 before a 03; where it is 0, nothing below is read. stereo, wide, compressed: what
-// the last 03 said; wide is 16-bit. begun: 0 where no compressed 08 was taken since. left, right: the last sample of each channel.
-#[repr(C)]
-pub struct MveSound {
-    pub stream: usize,
-    pub has_format: usize,
-    pub stereo: usize,
-    pub wide: usize,
-    pub compressed: usize,
-    pub begun: usize,
-    pub left: u16,
-    pub right: u16,
-}
-
-// The state of a walk. has_map: 0 where no map is pending. unsent: 0 where no frame is finished and unsent.
-#[repr(C)]
-pub struct MveState {
-    pub position: usize,
-    pub chunk_end: usize,
-    pub columns: usize,
-    pub rows: usize,
-    pub front: usize,
-    pub has_map: usize,
-    pub map_start: usize,
-    pub map_length: usize,
-    pub unsent: usize,
-    pub sound: MveSound,
-}
-
-fn map_of(has: usize, start: usize, long: usize) -> Map
-    ensures { λ r. ⌜ r ≡ mapOf has start long ⌝ }
+// Whether these are a state's numbers.
+pub fn is_state(from: &[usize]) -> bool
+    ensures { λ r. ⌜ r ≡ isState (now (from .entry)) ⌝ }
 {
-    if has == 0 {
-        return Map::Missing;
+    if from.len() == 17 {
+        if from[15] <= 65535 {
+            return from[16] <= 65535;
+        }
     }
-    Map::Part(start, long)
+    false
 }
 
 fn flag(n: usize) -> bool
@@ -54,6 +36,72 @@ fn flag(n: usize) -> bool
     true
 }
 
+fn narrow(n: usize) -> u16
+    requires { ⌜ n ≤ 65535 ⌝ }
+    ensures { λ r. ⌜ r ≡ n ⌝ }
+{
+    n as u16
+}
+
+fn map_of(has: usize, start: usize, long: usize) -> Map
+    ensures { λ r. ⌜ r ≡ mapOf has start long ⌝ }
+{
+    if has == 0 {
+        return Map::Missing;
+    }
+    Map::Part(start, long)
+}
+
+fn sound_of(from: &[usize]) -> Sound
+    requires { ⌜ length (now from) ≡ 17 ⌝ }
+    requires { ⌜ (getD (now from) 15 0 ≤ 65535) × (getD (now from) 16 0 ≤ 65535) ⌝ }
+    ensures { λ r. ⌜ r ≡ soundOf (now (from .entry)) ⌝ }
+{
+    let stream = from[9];
+    if from[10] == 0 {
+        return Sound::new(stream);
+    }
+    let stereo = flag(from[11]);
+    let wide = flag(from[12]);
+    let compressed = flag(from[13]);
+    let begun = flag(from[14]);
+    let left = narrow(from[15]);
+    let right = narrow(from[16]);
+    Sound {
+        stream,
+        format: Format::Known {
+            stereo,
+            wide,
+            compressed,
+        },
+        begun,
+        left,
+        right,
+    }
+}
+
+pub fn state_of(from: &[usize]) -> State
+    requires { ⌜ length (now from) ≡ 17 ⌝ }
+    requires { ⌜ (getD (now from) 15 0 ≤ 65535) × (getD (now from) 16 0 ≤ 65535) ⌝ }
+    ensures { λ r. ⌜ r ≡ stateOf (now (from .entry)) ⌝ }
+{
+    let map = map_of(from[5], from[6], from[7]);
+    let unsent = flag(from[8]);
+    let sound = sound_of(from);
+    State {
+        cursor: Cursor {
+            position: from[0],
+            chunk_end: from[1],
+        },
+        columns: from[2],
+        rows: from[3],
+        front: from[4],
+        map,
+        unsent,
+        sound,
+    }
+}
+
 fn number(b: bool) -> usize
     ensures { λ r. ⌜ r ≡ numberOf b ⌝ }
 {
@@ -63,115 +111,139 @@ fn number(b: bool) -> usize
     0
 }
 
-fn sound_of(m: MveSound) -> Sound
-    ensures { λ r. ⌜ r ≡ soundOf m ⌝ }
+fn wide(n: u16) -> usize
+    ensures { λ r. ⌜ r ≡ n ⌝ }
 {
-    if m.has_format == 0 {
-        return Sound::new(m.stream);
-    }
-    let stereo = flag(m.stereo);
-    let wide = flag(m.wide);
-    let compressed = flag(m.compressed);
-    let begun = flag(m.begun);
-    Sound {
-        stream: m.stream,
-        format: Format::Known {
-            stereo,
-            wide,
-            compressed,
-        },
-        begun,
-        left: m.left,
-        right: m.right,
+    n as usize
+}
+
+// The first five numbers of a state. An answer's number 8 is the state's first.
+fn put_place(out: &mut [usize], st: State)
+    requires { ⌜ 25 ≤ length (now out) ⌝ }
+    ensures { λ _. ⌜ now (out .exit) ≡ sets (now (out .entry)) 8 (st .cursor .position ∷ st .cursor .«chunk_end» ∷ st .columns ∷ st .rows ∷ st .front ∷ []) ⌝ }
+{
+    let c = st.cursor;
+    out[8] = c.position;
+    out[9] = c.chunk_end;
+    out[10] = st.columns;
+    out[11] = st.rows;
+    out[12] = st.front;
+}
+
+fn put_map(out: &mut [usize], has: usize, start: usize, long: usize)
+    requires { ⌜ 25 ≤ length (now out) ⌝ }
+    ensures { λ _. ⌜ now (out .exit) ≡ sets (now (out .entry)) 13 (has ∷ start ∷ long ∷ []) ⌝ }
+{
+    out[13] = has;
+    out[14] = start;
+    out[15] = long;
+}
+
+fn put_pending(out: &mut [usize], map: Map)
+    requires { ⌜ 25 ≤ length (now out) ⌝ }
+    ensures { λ _. ⌜ now (out .exit) ≡ sets (now (out .entry)) 13 (ofMap map) ⌝ }
+{
+    match map {
+        Map::Missing => put_map(out, 0, 0, 0),
+        Map::Part(start, long) => put_map(out, 1, start, long),
     }
 }
 
-fn format_numbers(s: Sound, stereo: bool, wide: bool, compressed: bool) -> MveSound
-    ensures { λ r. ⌜ r ≡ sounds (s .stream) 1 (numberOf stereo) (numberOf wide) (numberOf compressed) (numberOf (s .begun)) (s .left) (s .right) ⌝ }
+fn put_unsent(out: &mut [usize], unsent: usize)
+    requires { ⌜ 25 ≤ length (now out) ⌝ }
+    ensures { λ _. ⌜ now (out .exit) ≡ sets (now (out .entry)) 16 (unsent ∷ []) ⌝ }
 {
-    MveSound {
-        stream: s.stream,
-        has_format: 1,
-        stereo: number(stereo),
-        wide: number(wide),
-        compressed: number(compressed),
-        begun: number(s.begun),
-        left: s.left,
-        right: s.right,
-    }
+    out[16] = unsent;
 }
 
-fn of_sound(s: Sound) -> MveSound
-    ensures { λ r. ⌜ r ≡ ofSound s ⌝ }
+fn put_format(
+    out: &mut [usize],
+    stream: usize,
+    has: usize,
+    stereo: usize,
+    wide: usize,
+    compressed: usize,
+)
+    requires { ⌜ 25 ≤ length (now out) ⌝ }
+    ensures { λ _. ⌜ now (out .exit) ≡ sets (now (out .entry)) 17 (stream ∷ has ∷ stereo ∷ wide ∷ compressed ∷ []) ⌝ }
+{
+    out[17] = stream;
+    out[18] = has;
+    out[19] = stereo;
+    out[20] = wide;
+    out[21] = compressed;
+}
+
+fn put_samples(out: &mut [usize], begun: usize, left: usize, right: usize)
+    requires { ⌜ 25 ≤ length (now out) ⌝ }
+    ensures { λ _. ⌜ now (out .exit) ≡ sets (now (out .entry)) 22 (begun ∷ left ∷ right ∷ []) ⌝ }
+{
+    out[22] = begun;
+    out[23] = left;
+    out[24] = right;
+}
+
+fn put_sound(out: &mut [usize], s: Sound)
+    requires { ⌜ 25 ≤ length (now out) ⌝ }
+    ensures { λ _. ⌜ now (out .exit) ≡ sets (now (out .entry)) 17 (ofSound s) ⌝ }
 {
     let f = s.format;
     match f {
-        Format::Unknown => MveSound {
-            stream: s.stream,
-            has_format: 0,
-            stereo: 0,
-            wide: 0,
-            compressed: 0,
-            begun: 0,
-            left: 0,
-            right: 0,
-        },
+        Format::Unknown => {
+            put_format(out, s.stream, 0, 0, 0, 0);
+            put_samples(out, 0, 0, 0);
+        }
         Format::Known {
             stereo,
-            wide,
+            wide: w,
             compressed,
-        } => format_numbers(s, stereo, wide, compressed),
+        } => {
+            put_format(
+                out,
+                s.stream,
+                1,
+                number(stereo),
+                number(w),
+                number(compressed),
+            );
+            put_samples(out, number(s.begun), wide(s.left), wide(s.right));
+        }
     }
 }
 
-pub fn state_of(m: MveState) -> State
-    ensures { λ r. ⌜ r ≡ stateOf m ⌝ }
+pub fn put_state(out: &mut [usize], st: State)
+    requires { ⌜ 25 ≤ length (now out) ⌝ }
+    ensures { λ _. ⌜ now (out .exit) ≡ sets (now (out .entry)) 8 (ofState st) ⌝ }
 {
-    let map = map_of(m.has_map, m.map_start, m.map_length);
-    let unsent = flag(m.unsent);
-    let kept = m.sound;
-    let sound = sound_of(kept);
-    State {
-        cursor: Cursor {
-            position: m.position,
-            chunk_end: m.chunk_end,
-        },
-        columns: m.columns,
-        rows: m.rows,
-        front: m.front,
-        map,
-        unsent,
-        sound,
+    let map = st.map;
+    let sound = st.sound;
+    put_place(out, st);
+    put_pending(out, map);
+    put_unsent(out, number(st.unsent));
+    put_sound(out, sound);
+}
+
+// A state's numbers as they came.
+pub fn put_numbers(out: &mut [usize], from: &[usize])
+    requires { ⌜ 25 ≤ length (now out) ⌝ }
+    requires { ⌜ length (now from) ≡ 17 ⌝ }
+    ensures { λ _. ⌜ now (out .exit) ≡ sets (now (out .entry)) 8 (now (from .entry)) ⌝ }
+{
+    let mut i: usize = 0;
+    while i < 17 {
+        out[8 + i] = from[i];
+        i += 1;
     }
 }
 
-fn numbers_of(st: State, has: usize, start: usize, long: usize) -> MveState
-    ensures { λ r. ⌜ r ≡ numbers (st .cursor .position) (st .cursor .«chunk_end») (st .columns) (st .rows) (st .front) has start long (numberOf (st .unsent)) (ofSound (st .sound)) ⌝ }
+// The numbers where there is no state.
+pub fn put_no_state(out: &mut [usize])
+    requires { ⌜ 25 ≤ length (now out) ⌝ }
+    ensures { λ _. ⌜ now (out .exit) ≡ sets (now (out .entry)) 8 noState ⌝ }
 {
-    let unsent = number(st.unsent);
-    let kept = st.sound;
-    let sound = of_sound(kept);
-    let c = st.cursor;
-    MveState {
-        position: c.position,
-        chunk_end: c.chunk_end,
-        columns: st.columns,
-        rows: st.rows,
-        front: st.front,
-        has_map: has,
-        map_start: start,
-        map_length: long,
-        unsent,
-        sound,
-    }
-}
-
-pub fn of_state(st: State) -> MveState
-    ensures { λ r. ⌜ r ≡ ofState st ⌝ }
-{
-    let m = st.map;
-    match m {
-        Map::Missing => numbers_of(st, 0, 0, 0),
-        Map::Part(start, long) => numbers_of(st, 1, start, long),
+    let mut i: usize = 0;
+    while i < 17 {
+        out[8 + i] = 0;
+        i += 1;
     }
 }

@@ -1,85 +1,51 @@
 -- Answers about a film as numbers, by what code found.
 -- Assumes nothing.
-use mathlib.Core.Path.{_≡_, refl}
-use Prim.Native.Nat.{ℕ}
+use mathlib.Core.Path.{_≡_, refl, ap, _∙_}
+use mathlib.Core.List.{List, [], _∷_, _++_}
+use Prim.Native.Nat.{ℕ, _+_, _≤_}
+use native.Mathlib.Omega.{arith}
+use native.Mathlib.Nat.{zero-add}
+use lib.ListN.{length, drop}
+use lib.Seq.{sets, sets-eq}
+use Rattle.room.specs.Room.{written}
 use Rattle.refusal.specs.declared.Refusal.{Refusal}
 use Rattle.refusal.specs.Number.{number, block}
-use Rattle.packet.specs.declared.Touched.{Touched}
 use Rattle.packet.specs.declared.Touched.the-variants.{None}
-use Rattle.state.specs.declared.State.{State}
-use Rattle.opening.specs.declared.Opened.{Opened}
-use Rattle.opening.specs.declared.Opened.the-variants as opened
-use Rattle.opening.specs.Opening.{openedAs}
-use Rattle.opcodes.specs.declared.Stepped.{Stepped}
-use Rattle.opcodes.specs.declared.Stepped.the-variants as step
-use Rattle.opcodes.specs.Opcodes.{steppedAs}
-use Rattle.begin.specs.declared.Begun.{Begun}
-use Rattle.begin.specs.declared.Begun.the-variants as begun
-use Rattle.begin.specs.Begin.{begunAs, nowhere}
+use Rattle.begin.specs.Begin.{nowhere}
 use Rattle.mve_answers.specs.declared.MveRows.{MveRows}
 use Rattle.mve_answers.specs.Answer.{ofRows}
-use Rattle.mve_states.specs.declared.MveState.{MveState}
-use Rattle.mve_states.specs.State.{sounds, withFormat, numbers, withMap, ofState}
-use Rattle.mve_steps.specs.declared.MveStep.{MveStep}
-use Rattle.mve_steps.specs.Step.{stepped, ofAnswer, ofStep, ofOpening, ofBeginning}
+use Rattle.mve_states.specs.State.{ofMap, withFormat, ofState, noState}
+use Rattle.mve_steps.specs.Step.{stepped, kindIn}
 
-pub step-is : (kind stores bytes : ℕ) (t : Touched) (st : State) (r : MveRows) (s : MveState) → r ≡ ofRows t → s ≡ ofState st → stepped kind 0 0 stores bytes r s ≡ stepped kind 0 0 stores bytes (ofRows t) (ofState st)
-step-is kind stores bytes t st r s e f = rw (e, f)
+-- the numbers of an answer stand at the front of `out`
+all-put : (o a : List ℕ) → length a ≡ 25 → 25 ≤ length o → sets o 0 a ≡ written a o
+unfolding written
+all-put o a n h = sets-eq a o 0 (omega (arith, n)) ∙ ap (λ (k : ℕ). a ++ drop k o) (zero-add (length a))
 
-pub kept-is : (kind stores : ℕ) (t : Touched) (r : MveRows) (s : MveState) → r ≡ ofRows t → stepped kind 0 0 stores 0 r s ≡ stepped kind 0 0 stores 0 (ofRows t) s
-kept-is kind stores t r s e = rw e
+-- the three numbers of the rows, as code has them
+pub rows-put : (o : List ℕ) (t rows : MveRows) → t ≡ rows → sets o 5 (t .touched ∷ t .first ∷ t .last ∷ []) ≡ sets o 5 (rows .touched ∷ rows .first ∷ rows .last ∷ [])
+rows-put o t rows e = rw e
 
-pub refused-step : (r : Refusal) (n m k : ℕ) (rows : MveRows) (s : MveState) → n ≡ number r → m ≡ n → k ≡ block r → rows ≡ ofRows None
-    → stepped 4 m k 0 0 rows s ≡ stepped 4 (number r) (block r) 0 0 (ofRows None) s
-refused-step r n m k rows s e f g h = rw (f, e, g, h)
+module _ (o : List ℕ) (kind number block stores bytes : ℕ) (rows : MveRows) where
+  -- a state's numbers behind the first eight
+  pub state-put : {r q : List ℕ} (s : List ℕ) → 25 ≤ length o → length s ≡ 17 → r ≡ sets o 0 (stepped kind number block stores bytes rows []) → q ≡ sets r 8 s
+      → q ≡ written (stepped kind number block stores bytes rows s) o
+  state-put s h n e f = rw (f, e) (all-put o (stepped kind number block stores bytes rows s) (rw n) h)
 
-module _ (m : MveState) (x : Stepped) (a : MveStep) where
-  pub taken-as : (st : State) → x ≡ step.Taken st → a ≡ stepped 0 0 0 0 0 (ofRows None) (ofState st) → a ≡ ofStep m (steppedAs x)
-  unfolding ofAnswer
-  taken-as st e q = rw e q
+  -- and behind five and three
+  pub answer-put : {p r q : List ℕ} (s : List ℕ) → 25 ≤ length o → length s ≡ 17 → p ≡ sets o 0 (kind ∷ number ∷ block ∷ stores ∷ bytes ∷ [])
+      → r ≡ sets p 5 (rows .touched ∷ rows .first ∷ rows .last ∷ []) → q ≡ sets r 8 s → q ≡ written (stepped kind number block stores bytes rows s) o
+  answer-put s h n d e f = state-put s h n (rw (e, d)) f
 
-  pub heard-as : (st : State) (n : ℕ) → x ≡ step.Heard st n → a ≡ stepped 0 0 0 0 n (ofRows None) (ofState st) → a ≡ ofStep m (steppedAs x)
-  unfolding ofAnswer
-  heard-as st n e q = rw e q
+pub refusal-put : (o : List ℕ) (r : Refusal) {p q : List ℕ} {n m k : ℕ} → n ≡ number r → m ≡ n → k ≡ block r → p ≡ sets o 0 (4 ∷ m ∷ k ∷ 0 ∷ 0 ∷ [])
+    → q ≡ sets p 5 (ofRows None .touched ∷ ofRows None .first ∷ ofRows None .last ∷ []) → q ≡ sets o 0 (stepped 4 (number r) (block r) 0 0 (ofRows None) [])
+refusal-put o r e f g h i = rw (i, h, f, e, g)
 
-  pub whole-as : (st : State) (n : ℕ) (t : Touched) → x ≡ step.Whole st n t → a ≡ stepped 1 0 0 n 0 (ofRows t) (ofState st) → a ≡ ofStep m (steppedAs x)
-  unfolding ofAnswer
-  whole-as st n t e q = rw e q
-
-  pub unfinished-as : (st : State) (n : ℕ) (t : Touched) → x ≡ step.Unfinished st n t → a ≡ stepped 2 0 0 n 0 (ofRows t) m → a ≡ ofStep m (steppedAs x)
-  unfolding ofAnswer
-  unfinished-as st n t e q = rw e q
-
-  pub ended-as : (st : State) → x ≡ step.Ended st → a ≡ stepped 3 0 0 0 0 (ofRows None) m → a ≡ ofStep m (steppedAs x)
-  unfolding ofAnswer
-  ended-as st e q = rw e q
-
-  pub step-refused-as : (r : Refusal) → x ≡ step.Refused r → a ≡ stepped 4 (number r) (block r) 0 0 (ofRows None) m → a ≡ ofStep m (steppedAs x)
-  unfolding ofAnswer
-  step-refused-as r e q = rw e q
-
-module _ (o : Opened) (a : MveStep) where
-  pub opened-as : (st : State) → o ≡ opened.First st → a ≡ stepped 0 0 0 0 0 (ofRows None) (ofState st) → a ≡ ofOpening (openedAs o)
-  unfolding ofOpening
-  opened-as st k q = rw k q
-
-  pub not-opened-as : (r : Refusal) (s : MveState) → o ≡ opened.Refused r → s ≡ numbers 0 0 0 0 0 0 0 0 0 (sounds 0 0 0 0 0 0 0 0) → a ≡ stepped 4 (number r) (block r) 0 0 (ofRows None) s
-      → a ≡ ofOpening (openedAs o)
-  unfolding ofOpening
-  not-opened-as r s k f q = rw (k, ← f) q
-
--- ---- the opening call
-
-module _ (b : Begun) (a : MveStep) where
-  pub sized-as : (st : State) → b ≡ begun.Sized st → a ≡ stepped 0 0 0 0 0 (ofRows None) (ofState st) → a ≡ ofBeginning (begunAs b)
-  unfolding ofBeginning
-  sized-as st e q = rw e q
-
-  pub stopped-as : (r : Refusal) (st : State) (s : MveState) → b ≡ begun.Refused r st → s ≡ ofState st → a ≡ stepped 4 (number r) (block r) 0 0 (ofRows None) s → a ≡ ofBeginning (begunAs b)
-  unfolding ofBeginning
-  stopped-as r st s e f q = rw (e, ← f) q
+-- what a function gives and leaves in `out` o is an answer: by its case
+pub answers : {A : Type 0} (f : A → List ℕ) (o p : List ℕ) (k : ℕ) (x y : A) → x ≡ y → (k ≡ kindIn (f y)) × (p ≡ written (f y) o) → (k ≡ kindIn (f x)) × (p ≡ written (f x) o)
+answers f o p k x y e t = rw e t
 
 -- refusal 1 gives a state of zeros
-pub nowhere-zeros : ofState nowhere ≡ numbers 0 0 0 0 0 0 0 0 0 (sounds 0 0 0 0 0 0 0 0)
-unfolding nowhere withMap withFormat
+pub nowhere-zeros : ofState nowhere ≡ noState
+unfolding nowhere ofState ofMap withFormat
 nowhere-zeros = refl

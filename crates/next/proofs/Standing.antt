@@ -169,7 +169,7 @@ opcode-ready hears film c (heads.gives x) o l q h =
       packet = packet-long hears (x .kind) (x .version) (x .long) (s .0);
     })
 
-standing-ready : (hears : Bool) (film : List ℕ) (c : Cursor) (o : Opcode) → c .«chunk_end» ≤ length film → standingAt hears film c ≡ opcode o → Ready (length film) c o
+pub standing-ready : (hears : Bool) (film : List ℕ) (c : Cursor) (o : Opcode) → c .«chunk_end» ≤ length film → standingAt hears film c ≡ opcode o → Ready (length film) c o
 unfolding standingAt chunkEnd chunkStanding
 standing-ready hears film c o l h = by (eqb (c .position) (c .«chunk_end»)) (eqb (c .«chunk_end») (length film)) (chunkAt film c) h
   where
@@ -211,7 +211,7 @@ unfolding on
 on-chunk accept s c e = (refl, e)
 on-chunk (refuse n k) s c e = absurd (let z : _≡_ {A = ℕ} 0 1 = cc in let y : ⊥ = omega arith in y)
 
-standing-opens : (hears : Bool) (film : List ℕ) (c x : Cursor) → standingAt hears film c ≡ chunk x → (c .position ≡ c .«chunk_end») × Opens (length film) (c .«chunk_end») x
+pub standing-opens : (hears : Bool) (film : List ℕ) (c x : Cursor) → standingAt hears film c ≡ chunk x → (c .position ≡ c .«chunk_end») × Opens (length film) (c .«chunk_end») x
 unfolding standingAt chunkEnd chunkStanding opcodeStanding chunkAt on
 standing-opens hears film c x h = by (eqb (c .position) (c .«chunk_end»)) (eqb (c .«chunk_end») (length film)) (chunkAt film c) (opcodeAt film c) refl refl h
   where

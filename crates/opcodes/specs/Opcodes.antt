@@ -5,7 +5,7 @@ use mathlib.Core.List.{List}
 use Prim.Native.Nat.{ℕ}
 use lib.Dec.{eqb}
 use Rattle.words.specs.Word.{wordAt}
-use Rattle.refusal.specs.Number.{Verdict, accept, refuse, number, block}
+use Rattle.refusal.specs.Number.{number, block}
 use Rattle.packet.specs.declared.Touched.{Touched}
 use Rattle.packet.specs.declared.Touched.the-variants.{None}
 use Rattle.packet.specs.Verdict.{legalSize}
@@ -19,13 +19,13 @@ use Rattle.opcodes.specs.declared.Stepped.the-variants.{Taken, Heard, Wh
 
 -- ---- answers
 
--- with the state that is given back. taken: without drawing. whole, unfinished: document 01's answers of the drawing. ended: the film is over.
+-- with the state that is given back. taken: done, without drawing. whole: a drawing is done. unfinished: the stores allowed ran short. ended: the film is over.
 -- refused: number and block
 pub data Answer : Type 0 where
   taken whole unfinished ended : State → Answer
   refused : ℕ → ℕ → Answer
 
--- an answer, how many stores the drawing made, how many bytes of sound were written, and the rows of blocks that the drawn packet touches
+-- an answer, how many stores were made, those of sound not counted, how many bytes of sound were written, and the rows of blocks that the drawn packet touches
 pub record Step : Type 0 where
   pub answer : Answer
   pub stores : ℕ
@@ -35,16 +35,20 @@ pub record Step : Type 0 where
 abbrev pub drew : Answer → ℕ → Touched → Step
 drew x n t = record { answer = x; stores = n; bytes = 0; rows = t }
 
--- a step that does not draw reports 0 stores and no rows, and one that is no sound 0 bytes
+-- a step that does not draw tells no rows
+abbrev pub stored : Answer → ℕ → Step
+stored x n = drew x n None
+
+-- and one that is no sound tells 0 bytes
 abbrev pub quiet : Answer → Step
-quiet x = drew x 0 None
+quiet x = stored x 0
 
 abbrev pub wrote : Answer → ℕ → Step
 wrote x n = record { answer = x; stores = 0; bytes = n; rows = None }
 
 -- document 01's values of each answer
 abbrev pub steppedAs : Stepped → Step
-steppedAs (Taken st) = quiet (taken st)
+steppedAs (Taken st n) = stored (taken st) n
 steppedAs (Heard st n) = wrote (taken st) n
 steppedAs (Whole st n t) = drew (whole st) n t
 steppedAs (Unfinished st n t) = drew (unfinished st) n t
@@ -69,15 +73,11 @@ quietAnswer film st kind version body p =
     (cond (eqb kind 5) (sizeAnswer st p (wordAt body 0) (wordAt body 2) (colourOf body version))
     (cond (eqb kind 7) (taken (sent st p)) (taken (behind st p))))
 
--- ---- sound, the palette opcodes and the drawing, by what they came to
+-- ---- sound and the drawing, by what they came to
 
 unfoldable pub heardStep : State → ℕ → sound.Answer → Step
 heardStep st p (sound.heard s n) = wrote (taken (heard st p s)) n
 heardStep st p (sound.refusal n k) = quiet (refused n k)
-
-unfoldable pub paletteAnswer : State → ℕ → Verdict → Answer
-paletteAnswer st p accept = taken (behind st p)
-paletteAnswer st p (refuse n k) = refused n k
 
 -- 11: "whole" uses the map up and marks the frame finished; "unfinished" keeps the state; a refused drawing makes no store
 unfoldable pub drawnAs : State → ℕ → drawing.Answer Reason → ℕ → Touched → Step

@@ -11,9 +11,10 @@ ghost use Rattle.draw.specs.Call.{said};
 ghost use Rattle.sound.specs.Sound.{heardAs};
 ghost use Rattle.opcodes.specs.Opcodes.{quiet, steppedAs, sizeAnswer, colourOf, quietAnswer, heardStep, drawnStep};
 
-// What a step answers, with the state that it gives back, the bytes of sound that it wrote, or the stores that drawing made and the rows of blocks that its packet touches.
+// What a step answers, with the state that it gives back: Taken with the stores made, Heard with the bytes of sound written, Whole and Unfinished with the stores made
+// and the rows of blocks that the drawn packet touches.
 pub enum Stepped {
-    Taken(State),
+    Taken(State, usize),
     Heard(State, usize),
     Whole(State, usize, Touched),
     Unfinished(State, usize, Touched),
@@ -28,7 +29,7 @@ pub fn size_step(st: State, p: usize, columns: usize, rows: usize, colour: usize
     if st.columns == 0 {
         if is_legal_size(columns, rows) {
             if colour == 0 {
-                return Stepped::Taken(st.sized(p, columns, rows));
+                return Stepped::Taken(st.sized(p, columns, rows), 0);
             }
             return Stepped::Refused(Refusal::Size);
         }
@@ -59,16 +60,16 @@ pub fn quiet_step(
     ensures { λ r. ⌜ steppedAs r ≡ quiet (quietAnswer film st kind version (now (body .entry)) p) ⌝ }
 {
     if kind == 0 {
-        return Stepped::Taken(st.at_end(film));
+        return Stepped::Taken(st.at_end(film), 0);
     }
     if kind == 5 {
         let colour = colour_of(body, version);
         return size_step(st, p, word_at(body, 0), word_at(body, 2), colour);
     }
     if kind == 7 {
-        return Stepped::Taken(st.sent(p));
+        return Stepped::Taken(st.sent(p), 0);
     }
-    Stepped::Taken(st.behind(p))
+    Stepped::Taken(st.behind(p), 0)
 }
 
 // 11, after the drawing.

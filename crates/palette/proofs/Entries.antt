@@ -1,19 +1,19 @@
 -- Opcode 0C by its tests: a law for each way out, over the words that code has read.
 -- Assumes nothing.
-use mathlib.Core.Path.{_≡_, refl, _∙_}
+use mathlib.Core.Path.{_≡_, refl, sym, _∙_}
 use mathlib.Core.Bool.{true, false}
 use mathlib.Core.List.{List}
-use Prim.Native.Nat.{ℕ, _+_, _*_, _≤_, _<_}
+use Prim.Native.Nat.{ℕ, _+_, _-_, _*_, _≤_, _<_, min}
 use native.Mathlib.Omega.{arith}
 use borrow.Author.Tests.{eq-eqb, ne-eqb, eqb-true, le-leb, lt-leb, leb-true}
-use lib.ListN.{length}
+use lib.ListN.{length, take}
 use Rattle.refusal.specs.Number.{accept, refuse}
 use Rattle.listed.specs.Store.{applied, bytes, from, Within}
 use Rattle.palette.specs.declared.Updated.{Updated}
 use Rattle.palette.specs.declared.Updated.the-variants.{Taken}
 use Rattle.palette.specs.Update.{legal, verdict, verdictFor, told}
 use Rattle.listed.proofs.Lists.{bytes-length, within-bytes}
-use Rattle.listed.proofs.Order.{due-all}
+use Rattle.palette.proofs.Allowing.{due-list}
 use Rattle.palette.proofs.Judging.{legal-bytes}
 use Rattle.palette.proofs.Outcome.{refuses-5, refuses-range, refuses-component, accepts, accepted, taken-on}
 use Rattle.palette.specs.Entries.{start, count, setPalette}
@@ -51,15 +51,26 @@ module _ (body : List ℕ) (m : ℕ) (z : Updated) (v : told z ≡ verdictFor (s
   unfolding storesOf
   entries-list = rw (x, y) refl
 
-  pub entries-next : (p : List ℕ) → length p ≡ m → Next 12 body 0 (bytes (3 * s) (from body 4) (3 * n)) p
-  entries-next p l =
+  pub entries-next : (allowed : ℕ) (p : List ℕ) → length p ≡ m → Next 12 body allowed 0 (bytes (3 * s) (from body 4) (3 * n)) p
+  entries-next allowed p l =
       let a = entries-fit in
       let w : Within (length p) (bytes (3 * s) (from body 4) (3 * n)) = within-bytes (length p) (3 * s) (from body 4) (3 * n) (λ i h. omega (arith, a .0, a .2)) in
-      let f : length (bytes (3 * s) (from body 4) (3 * n)) ≤ 1536 = omega (arith, bytes-length (3 * s) (from body 4) (3 * n), a .2) in
-      record { due = rw entries-list (due-all _ p w); few = rw entries-list f }
+      let z : min 0 allowed ≡ 0 = omega arith in
+      record {
+        due = rw (z, entries-list) (due-list (allowed - 0) (bytes (3 * s) (from body 4) (3 * n)) p w);
+        few = omega (arith, bytes-length (3 * s) (from body 4) (3 * n), a .2);
+      }
 
-  pub entries-stored : (p q : List ℕ) → q ≡ applied (bytes (3 * s) (from body 4) (3 * n)) p → q ≡ applied (setPalette body .stores) p
-  entries-stored p q f = rw (← x, ← y) f
+  pub entries-stored : (allowed : ℕ) (p q : List ℕ) → q ≡ applied (take (allowed - 0) (bytes (3 * s) (from body 4) (3 * n))) p → q ≡ applied (take allowed (setPalette body .stores)) p
+  entries-stored allowed p q f = let z : allowed - 0 ≡ allowed = omega arith in rw (← x, ← y) (rw z at f)
+
+  pub entries-count : (r : ℕ) → r ≡ 0 + 3 * n → r ≡ length (setPalette body .stores)
+  entries-count r f = rw (← x, ← y) (omega (arith, bytes-length (3 * s) (from body 4) (3 * n)))
+
+pub entries-few : (body : List ℕ) (n : ℕ) → verdictFor (setPalette body) n ≡ accept → length (setPalette body .stores) ≤ 1536
+entries-few body n v =
+    let a = taken-on (setPalette body) n Taken (sym v) refl in
+    omega (arith, bytes-length (3 * start body) (from body 4) (3 * count body), leb-true (start body + count body) 256 (a .1 .inside))
 
 -- each index is one of the palette's
 pub entries-within : (body : List ℕ) → verdict (setPalette body) ≡ accept → Within 768 (setPalette body .stores)

@@ -3,21 +3,21 @@
 use mathlib.Core.Path.{_≡_, refl, sym, ap, _∙_}
 use mathlib.Core.Bool.{Bool, true, false, cond}
 use mathlib.Core.List.{List}
-use Prim.Native.Nat.{ℕ, zero, suc, _+_, _-_, _*_, _/_, _%_, _≤_, _<_, zero-le}
+use Prim.Native.Nat.{ℕ, zero, suc, _+_, _-_, _*_, _/_, _%_, _≤_, _<_, zero-le, min}
 use native.Mathlib.Omega.{arith}
 use native.Mathlib.Nat.{mul-le-mul, mul-le-mul-left, mul-comm, mul-zero, mod-lt, div-lt-iff-lt-mul, div-le-of-le-mul}
 use borrow.Author.Tests.{eq-eqb, ne-eqb, leb-true}
 use lib.Arith.{digits-div, digits-mod}
 use lib.Dec.{eqb, ltb}
-use lib.ListN.{length, getD, length-append}
+use lib.ListN.{length, getD, take, length-append, length-take}
 use Rattle.words.proofs.Tests.{first}
 use Rattle.refusal.specs.Number.{accept, refuse}
-use Rattle.listed.specs.Store.{applied, bytes, Within}
+use Rattle.listed.specs.Store.{Store, applied, bytes, Within}
 use Rattle.palette.specs.declared.Updated.{Updated}
 use Rattle.palette.specs.declared.Updated.the-variants.{Taken}
 use Rattle.palette.specs.Update.{legal, verdict, verdictFor, told}
 use Rattle.listed.proofs.Lists.{applied-append, bytes-length, within-append, within-bytes}
-use Rattle.listed.proofs.Order.{due-first, due-second}
+use Rattle.palette.proofs.Allowing.{take-both, due-part, due-rest}
 use Rattle.palette.proofs.Judging.{legal-both, legal-each, byte-legal}
 use Rattle.palette.proofs.Outcome.{refuses-range, accepts, accepted, taken-on}
 use Rattle.palette.specs.Gradient.{Gradient, entries, fits, gradientFits, level, component, gradientStores, gradientAt, redBlue, redGreen, createGradient}
@@ -84,16 +84,16 @@ module _ (body : List ℕ) (at second base rows columns : ℕ) (x : base ≡ get
   pub fits-at : fits base (rows * columns) ≡ gradientFits (gradientAt body at second)
   fits-at = rw (x, y, z)
 
-  pub stored-at : (p q : List ℕ) → q ≡ applied (bytes (3 * base) (component rows columns second) (3 * (rows * columns))) p
-      → q ≡ applied (gradientStores (gradientAt body at second)) p
-  stored-at p q e = rw (← x, ← y, ← z) e
+  pub stored-at : (k : ℕ) (p q : List ℕ) → q ≡ applied (take k (bytes (3 * base) (component rows columns second) (3 * (rows * columns)))) p
+      → q ≡ applied (take k (gradientStores (gradientAt body at second))) p
+  stored-at k p q e = rw (← x, ← y, ← z) e
 
-  pub next-at : (made : ℕ) (p : List ℕ) → Next 11 body made (gradientStores (gradientAt body at second)) p
-      → Next 11 body made (bytes (3 * base) (component rows columns second) (3 * (rows * columns))) p
-  next-at made p d = rw (x, y, z) d
+  pub next-at : (allowed before : ℕ) (p : List ℕ) → Next 11 body allowed before (gradientStores (gradientAt body at second)) p
+      → Next 11 body allowed before (bytes (3 * base) (component rows columns second) (3 * (rows * columns))) p
+  next-at allowed before p d = rw (x, y, z) d
 
-  pub count-at : (made : ℕ) → made + 3 * (rows * columns) ≡ made + length (gradientStores (gradientAt body at second))
-  count-at made = rw (← x, ← y, ← z) (ap (λ (n : ℕ). made + n) (sym (bytes-length (3 * base) (component rows columns second) (3 * (rows * columns)))))
+  pub count-at : (before : ℕ) → before + 3 * (rows * columns) ≡ before + length (gradientStores (gradientAt body at second))
+  count-at before = rw (← x, ← y, ← z) (ap (λ (n : ℕ). before + n) (sym (bytes-length (3 * base) (component rows columns second) (3 * (rows * columns)))))
 
 -- component k of the entry in row i and column j
 pub entry-is : (rows columns second i j k : ℕ) → j < columns → k < 3
@@ -164,30 +164,50 @@ both-fit body n x v e =
     let i = first _ _ _ _ false-true (a .1 .inside) in
     (a .0, i .0, i .1)
 
-pub both-stored : (body p m q : List ℕ) → m ≡ applied (gradientStores (redBlue body)) p → q ≡ applied (gradientStores (redGreen body)) m
-    → q ≡ applied (createGradient body .stores) p
-both-stored body p m q x y =
-    y ∙ ap (applied (gradientStores (redGreen body))) x ∙ sym (applied-append (gradientStores (redBlue body)) (gradientStores (redGreen body)) p)
+-- of both, where n are allowed: the second gradient gets what the first leaves
+module _ (body : List ℕ) (n before : ℕ) (c : before ≡ 0 + length (gradientStores (redBlue body))) where
+  pub both-stored : (p m q : List ℕ) → m ≡ applied (take (n - 0) (gradientStores (redBlue body))) p → q ≡ applied (take (n - before) (gradientStores (redGreen body))) m
+      → q ≡ applied (take n (createGradient body .stores)) p
+  both-stored p m q x y =
+      let a = gradientStores (redBlue body) in
+      let b = gradientStores (redGreen body) in
+      let e : n - 0 ≡ n = omega arith in
+      let f : n - before ≡ n - length a = omega arith in
+      y ∙ ap (λ (k : ℕ). applied (take k b) m) f ∙ ap (applied (take (n - length a) b)) (x ∙ ap (λ (k : ℕ). applied (take k a) p) e)
+      ∙ sym (applied-append (take n a) (take (n - length a) b) p) ∙ ap (λ (l : List Store). applied l p) (sym (take-both n a b))
+
+  pub both-count : (due : ℕ) → due ≡ before + length (gradientStores (redGreen body)) → due ≡ length (createGradient body .stores)
+  both-count due d = omega (arith, length-append (gradientStores (redBlue body)) (gradientStores (redGreen body)))
 
 -- red and blue come first, then red and green
-module _ (body p : List ℕ) (l : length p ≡ 768) (a : gradientFits (redBlue body) ≡ true) (b : gradientFits (redGreen body) ≡ true) where
-  both-few : length (storesOf 11 body) ≤ 1536
-  unfolding storesOf
-  both-few =
-      omega (arith, length-append (gradientStores (redBlue body)) (gradientStores (redGreen body)), gradient-few (redBlue body) a, gradient-few (redGreen body) b)
-
-  pub red-blue-next : Next 11 body 0 (gradientStores (redBlue body)) p
+module _ (body p : List ℕ) (l : length p ≡ 768) (a : gradientFits (redBlue body) ≡ true) (b : gradientFits (redGreen body) ≡ true) (n : ℕ) where
+  pub red-blue-next : Next 11 body n 0 (gradientStores (redBlue body)) p
   unfolding storesOf
   red-blue-next =
-      record { due = due-first (gradientStores (redBlue body)) (gradientStores (redGreen body)) p (rw l (gradient-within (redBlue body) a)); few = both-few }
+      let z : min 0 n ≡ 0 = omega arith in
+      record {
+        due = rw z (due-part (n - 0) (gradientStores (redBlue body)) (gradientStores (redGreen body)) p (rw l (gradient-within (redBlue body) a)));
+        few = omega (arith, gradient-few (redBlue body) a);
+      }
 
-  pub red-green-next : (q : List ℕ) → q ≡ applied (gradientStores (redBlue body)) p → (made : ℕ) → made ≡ 0 + length (gradientStores (redBlue body))
-      → Next 11 body made (gradientStores (redGreen body)) q
+  pub red-green-next : (q : List ℕ) → q ≡ applied (take (n - 0) (gradientStores (redBlue body))) p → (before : ℕ) → before ≡ 0 + length (gradientStores (redBlue body))
+      → Next 11 body n before (gradientStores (redGreen body)) q
   unfolding storesOf
-  red-green-next q e made n =
-      let w = within-append 768 (gradientStores (redBlue body)) (gradientStores (redGreen body)) (gradient-within (redBlue body) a) (gradient-within (redGreen body) b) in
-      let z : made ≡ length (gradientStores (redBlue body)) = omega arith in
-      record { due = rw z (due-second (gradientStores (redBlue body)) (gradientStores (redGreen body)) p q (rw l w) e); few = both-few }
+  red-green-next q e before c =
+      let g = gradientStores (redBlue body) in
+      let w = within-append 768 g (gradientStores (redGreen body)) (gradient-within (redBlue body) a) (gradient-within (redGreen body) b) in
+      let x : 0 + length (take (n - 0) g) ≡ min before n = omega (arith, length-take (n - 0) g) in
+      let y : n - 0 - length g ≡ n - before = omega arith in
+      record {
+        due = rw (← x, ← y) (due-rest (n - 0) g (gradientStores (redGreen body)) p q (rw l w) e);
+        few = omega (arith, gradient-few (redBlue body) a, gradient-few (redGreen body) b);
+      }
+
+-- there are at most two whole palettes
+pub gradients-few : (body : List ℕ) (n : ℕ) → verdictFor (createGradient body) n ≡ accept → length (createGradient body .stores) ≤ 1536
+gradients-few body n v =
+    let a = both-fit body n Taken (sym v) refl in
+    omega (arith, length-append (gradientStores (redBlue body)) (gradientStores (redGreen body)), gradient-few (redBlue body) (a .1), gradient-few (redGreen body) (a .2))
 
 -- each index is one of the palette's
 pub gradients-within : (body : List ℕ) → verdict (createGradient body) ≡ accept → Within 768 (createGradient body .stores)

@@ -2,15 +2,14 @@
 -- Assumes nothing.
 use mathlib.Core.Path.{_≡_, refl, sym, ap, _∙_}
 use mathlib.Core.List.{List}
-use Prim.Native.Nat.{ℕ, zero, suc, _+_, _-_, _*_, _≤_, _<_, zero-le}
+use Prim.Native.Nat.{ℕ, zero, suc, _+_, _-_, _*_, _≤_, _<_, zero-le, min}
 use native.Mathlib.Omega.{arith}
 use native.Mathlib.Numerals.{add-one}
-use lib.ListN.{length, getD}
+use lib.ListN.{length, getD, take}
 use Rattle.listed.specs.Store.{Store, applied, each, bytes, from, Within}
 use Rattle.palette.specs.Update.{legal}
 use Rattle.listed.proofs.Lists.{each-few, bytes-add, bytes-length, from-add, within-each, within-bytes}
-use Rattle.listed.proofs.Making.{Making}
-use Rattle.listed.proofs.Order.{due-all}
+use Rattle.palette.proofs.Allowing.{due-list, Allowing, allowing-end}
 use Rattle.palette.proofs.Judging.{legal-append, legal-bytes}
 use Rattle.palette.specs.Mask.{bit, ones, groupEnd, groupAt, masked, groupStores, setPaletteCompressed}
 use Rattle.palette.specs.Asked.{storesOf, Next, Group}
@@ -101,8 +100,8 @@ unfolding groupStores
 group-is body k at mask w m = rw (m, w .found)
 
 pub group-stored : (body : List ℕ) (k at mask : ℕ) → Walked body k at → mask ≡ getD body at 0
-    → (p q : List ℕ) → q ≡ applied (each (masked body mask (at + 1) (8 * k)) 8) p → q ≡ applied (groupStores body k) p
-group-stored body k at mask w m p q e = e ∙ ap (λ (l : List Store). applied l p) (group-is body k at mask w m)
+    → (left : ℕ) (p q : List ℕ) → q ≡ applied (take left (each (masked body mask (at + 1) (8 * k)) 8)) p → q ≡ applied (take left (groupStores body k)) p
+group-stored body k at mask w m left p q e = e ∙ ap (λ (l : List Store). applied (take left l) p) (group-is body k at mask w m)
 
 -- ---- indices: each is one of the palette's, whatever the masks are
 
@@ -115,7 +114,7 @@ masks-within body =
 
 -- ---- the list
 
-groups-few : (body : List ℕ) → length (each (groupStores body) 32) ≤ 1536
+pub groups-few : (body : List ℕ) → length (each (groupStores body) 32) ≤ 1536
 unfolding groupStores
 groups-few body =
     let group : (k : ℕ) → length (groupStores body k) ≤ 24 =
@@ -123,14 +122,33 @@ groups-few body =
     (λ i. omega (arith, bytes-length (3 * (8 * k + i)) (from body (groupAt body k + 1 + 3 * ones (getD body (groupAt body k) 0) i)) (3 * bit (getD body (groupAt body k) 0) i), bit-most (getD body (groupAt body k) 0) i)) in
     omega (arith, each-few (groupStores body) 24 32 group)
 
-pub groups-next : (body p : List ℕ) → length p ≡ 768 → Next 13 body 0 (each (groupStores body) 32) p
+pub groups-next : (body : List ℕ) (allowed : ℕ) (p : List ℕ) → length p ≡ 768 → Next 13 body allowed 0 (each (groupStores body) 32) p
 unfolding storesOf
-groups-next body p l = record { due = due-all _ p (rw l (masks-within body)); few = groups-few body }
+groups-next body allowed p l =
+    let z : min 0 allowed ≡ 0 = omega arith in
+    record { due = rw z (due-list (allowed - 0) _ p (rw l (masks-within body))); few = omega (arith, groups-few body) }
 
 -- group k, with the count that code keeps
-module _ (body : List ℕ) (made k at mask : ℕ) (w : Walked body k at) (n : made ≡ 0 + length (each (groupStores body) k)) (m : mask ≡ getD body at 0) where
-  pub group-next : (p₀ : List ℕ) → length p₀ ≡ 768 → (p : List ℕ) → Making (groupStores body) p₀ 32 p k → k < 32 → Next 13 body made (each (masked body mask (at + 1) (8 * k)) 8) p
-  group-next p₀ l p g h = rw (group-is body k at mask w m) (next-turn 13 body 0 (groupStores body) 32 p₀ (groups-next body p₀ l) p k g h made n)
+module _ (body : List ℕ) (allowed before k at mask : ℕ) (w : Walked body k at) (n : before ≡ 0 + length (each (groupStores body) k)) (m : mask ≡ getD body at 0) where
+  pub group-next : (p₀ : List ℕ) → length p₀ ≡ 768 → (p : List ℕ) → Allowing (groupStores body) p₀ (allowed - 0) 32 p k → k < 32
+      → Next 13 body allowed before (each (masked body mask (at + 1) (8 * k)) 8) p
+  group-next p₀ l p g h = rw (group-is body k at mask w m) (next-turn 13 body allowed 0 (groupStores body) 32 p₀ (groups-next body allowed p₀ l) p k g h before n)
 
-  pub group-count : (r : ℕ) → r ≡ made + length (each (masked body mask (at + 1) (8 * k)) 8) → r ≡ 0 + length (each (groupStores body) (k + 1))
-  group-count r e = count-more (groupStores body) 0 k made (length (each (masked body mask (at + 1) (8 * k)) 8)) r n (ap length (group-is body k at mask w m)) e
+  pub group-left : (p q : List ℕ) → q ≡ applied (take (allowed - before) (each (masked body mask (at + 1) (8 * k)) 8)) p
+      → q ≡ applied (take (allowed - 0 - length (each (groupStores body) k)) (groupStores body k)) p
+  group-left p q e =
+      let z : allowed - before ≡ allowed - 0 - length (each (groupStores body) k) = omega arith in
+      rw (← z) (group-stored body k at mask w m (allowed - before) p q e)
+
+  pub group-count : (r : ℕ) → r ≡ before + length (each (masked body mask (at + 1) (8 * k)) 8) → r ≡ 0 + length (each (groupStores body) (k + 1))
+  group-count r e = count-more (groupStores body) 0 k before (length (each (masked body mask (at + 1) (8 * k)) 8)) r n (ap length (group-is body k at mask w m)) e
+
+-- behind the last group
+pub groups-count : (body p₀ : List ℕ) (allowed : ℕ) (p : List ℕ) (k before : ℕ) → Allowing (groupStores body) p₀ (allowed - 0) 32 p k → 32 ≤ k → before ≡ 0 + length (each (groupStores body) k)
+    → before ≡ length (each (groupStores body) 32)
+groups-count body p₀ allowed p k before g h n =
+    let e : k ≡ 32 = omega (arith, g .within) in
+    omega (arith, n, ap (λ (i : ℕ). length (each (groupStores body) i)) e)
+
+pub groups-stored : (body p₀ : List ℕ) (allowed : ℕ) (p : List ℕ) (k : ℕ) → Allowing (groupStores body) p₀ (allowed - 0) 32 p k → 32 ≤ k → p ≡ applied (take allowed (each (groupStores body) 32)) p₀
+groups-stored body p₀ allowed p k g h = let z : allowed - 0 ≡ allowed = omega arith in rw z at (allowing-end (groupStores body) p₀ (allowed - 0) 32 p k g h)

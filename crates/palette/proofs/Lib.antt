@@ -1,3 +1,4 @@
+pub mod Allowing
 pub mod Order
 pub mod Again
 pub mod Judging

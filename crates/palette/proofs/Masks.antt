@@ -3,16 +3,16 @@
 use mathlib.Core.Path.{_≡_, sym, ap, _∙_}
 use mathlib.Core.List.{List}
 use mathlib.Core.Logic.{⊎-elim}
-use Prim.Native.Nat.{ℕ, zero, suc, _+_, _*_, _/_, _%_, _^_, _≤_, _<_, zero-le}
+use Prim.Native.Nat.{ℕ, zero, suc, _+_, _-_, _*_, _/_, _%_, _^_, _≤_, _<_, zero-le}
 use native.Mathlib.Omega.{arith}
 use native.Mathlib.Numerals.{add-one}
 use native.Mathlib.Nat.{le-refl, div-one, div-div-eq-div-mul, pow-suc, eq-or-lt-of-le, le-of-suc-le-suc}
-use lib.ListN.{length}
+use lib.ListN.{length, take}
 use Rattle.listed.specs.Store.{applied, each, bytes, from}
 use Rattle.listed.proofs.Lists.{bytes-length}
-use Rattle.listed.proofs.Making.{Making, making-start, making-more}
 use Rattle.palette.specs.Mask.{bit, ones, masked}
 use Rattle.palette.specs.Asked.{Next, Group}
+use Rattle.palette.proofs.Allowing.{Allowing, allowing-start, allowing-more}
 use Rattle.palette.proofs.Order.{next-turn, count-more}
 
 -- ---- bits
@@ -56,45 +56,46 @@ bit-is mask i bits e = rw e
 
 -- ---- the loop over the bits
 
--- entry i is next: its bit is the lowest of bits, and its bytes, if it has any, stand at position next. then: the stores made
-pub record Masking (body p₀ : List ℕ) (made entry mask at : ℕ) (p : List ℕ) (then bits next i : ℕ) : Type 0 where
-  pub stored : Making (masked body mask at entry) p₀ 8 p i
-  pub counted : then ≡ made + length (each (masked body mask at entry) i)
+-- entry i is next: its bit is the lowest of bits, and its bytes, if it has any, stand at position next. then: the stores that come before
+pub record Masking (body p₀ : List ℕ) (allowed before entry mask at : ℕ) (p : List ℕ) (then bits next i : ℕ) : Type 0 where
+  pub stored : Allowing (masked body mask at entry) p₀ (allowed - before) 8 p i
+  pub counted : then ≡ before + length (each (masked body mask at entry) i)
   pub shifted : bits ≡ mask / 2 ^ i
   pub behind : next ≡ at + 3 * ones mask i
 
-pub masking-start : (body p : List ℕ) (made entry mask at : ℕ) → Masking body p made entry mask at p made mask at 0
+pub masking-start : (body p : List ℕ) (allowed before entry mask at : ℕ) → Masking body p allowed before entry mask at p before mask at 0
 unfolding ones each
-masking-start body p made entry mask at =
-    record { stored = making-start _ p 8; counted = omega arith; shifted = bits-none mask; behind = omega arith }
+masking-start body p allowed before entry mask at =
+    record { stored = allowing-start _ p (allowed - before) 8; counted = omega arith; shifted = bits-none mask; behind = omega arith }
 
-module _ (body p₀ : List ℕ) (made entry mask at : ℕ) (p : List ℕ) (then bits next i : ℕ) (m : Masking body p₀ made entry mask at p then bits next i) (h : i < 8) where
+module _ (body p₀ : List ℕ) (allowed before entry mask at : ℕ) (p : List ℕ) (then bits next i : ℕ) (m : Masking body p₀ allowed before entry mask at p then bits next i) (h : i < 8) where
   own : bits % 2 ≡ bit mask i
   own = bit-is mask i bits (m .shifted)
 
-  pub masking-next : Next 13 body made (each (masked body mask at entry) 8) p₀
-      → Next 13 body then (bytes (3 * (entry + i)) (from body next) (3 * (bits % 2))) p
-  masking-next d = rw (own, m .behind) (next-turn 13 body made (masked body mask at entry) 8 p₀ d p i (m .stored) h then (m .counted))
+  pub masking-next : Next 13 body allowed before (each (masked body mask at entry) 8) p₀
+      → Next 13 body allowed then (bytes (3 * (entry + i)) (from body next) (3 * (bits % 2))) p
+  masking-next d = rw (own, m .behind) (next-turn 13 body allowed before (masked body mask at entry) 8 p₀ d p i (m .stored) h then (m .counted))
 
   pub masking-there : Group body p₀ mask at entry → next + 3 * (bits % 2) ≤ length body
   masking-there g =
       let l : i + 1 ≤ 8 = omega arith in
       omega (arith, own, m .behind, ones-more mask i, ones-below mask (i + 1) 8 l, g .there)
 
-  pub masking-more : (q : List ℕ) → q ≡ applied (bytes (3 * (entry + i)) (from body next) (3 * (bits % 2))) p → (r : ℕ) → r ≡ then + 3 * (bits % 2)
-      → Masking body p₀ made entry mask at q r (bits / 2) (next + 3 * (bits % 2)) (i + 1)
+  pub masking-more : (q : List ℕ) → q ≡ applied (take (allowed - then) (bytes (3 * (entry + i)) (from body next) (3 * (bits % 2)))) p → (r : ℕ) → r ≡ then + 3 * (bits % 2)
+      → Masking body p₀ allowed before entry mask at q r (bits / 2) (next + 3 * (bits % 2)) (i + 1)
   masking-more q e r c =
       let n : 3 * (bits % 2) ≡ length (masked body mask at entry i) = ap (λ (x : ℕ). 3 * x) own ∙ sym (bytes-length (3 * (entry + i)) (from body (at + 3 * ones mask i)) (3 * bit mask i)) in
+      let z : allowed - then ≡ allowed - before - length (each (masked body mask at entry) i) = omega (arith, m .counted) in
       record {
-        stored = making-more _ p₀ 8 p i (m .stored) h q (rw (← own, ← m .behind) e);
-        counted = count-more (masked body mask at entry) made i then (3 * (bits % 2)) r (m .counted) n c;
+        stored = allowing-more _ p₀ (allowed - before) 8 p i (m .stored) h q (rw (← z, ← own, ← m .behind) e);
+        counted = count-more (masked body mask at entry) before i then (3 * (bits % 2)) r (m .counted) n c;
         shifted = bits-more mask i bits (m .shifted);
         behind = omega (arith, own, m .behind, ones-more mask i);
       }
 
 -- behind the last bit
-pub masked-count : (body p₀ : List ℕ) (made entry mask at : ℕ) (p : List ℕ) (then bits next i : ℕ) → Masking body p₀ made entry mask at p then bits next i → 8 ≤ i
-    → then ≡ made + length (each (masked body mask at entry) 8)
-masked-count body p₀ made entry mask at p then bits next i m h =
+pub masked-count : (body p₀ : List ℕ) (allowed before entry mask at : ℕ) (p : List ℕ) (then bits next i : ℕ) → Masking body p₀ allowed before entry mask at p then bits next i → 8 ≤ i
+    → then ≡ before + length (each (masked body mask at entry) 8)
+masked-count body p₀ allowed before entry mask at p then bits next i m h =
     let e : i ≡ 8 = omega (arith, m .stored .within) in
-    m .counted ∙ ap (λ (k : ℕ). made + length (each (masked body mask at entry) k)) e
+    m .counted ∙ ap (λ (k : ℕ). before + length (each (masked body mask at entry) k)) e

@@ -3,18 +3,19 @@
 use mathlib.Core.Path.{_≡_, refl, sym, ap, _∙_}
 use mathlib.Core.Bool.{true, false}
 use mathlib.Core.List.{List}
-use Prim.Native.Nat.{ℕ}
+use Prim.Native.Nat.{ℕ, _≤_, _<_}
 use native.Mathlib.Omega.{arith}
-use borrow.Author.Tests.{eq-eqb, ne-eqb, eqb-true}
+use borrow.Author.Tests.{eq-eqb, ne-eqb, eqb-true, lt-ltb, le-ltb}
 use lib.Dec.{eqb}
-use lib.ListN.{length}
+use lib.ListN.{length, take}
+use lib.Seq.{take-all, take-length}
 use Rattle.words.proofs.Tests.{first}
 use Rattle.refusal.specs.declared.Refusal.{Refusal}
-use Rattle.refusal.specs.Number.{Verdict, accept, refuse, refusal}
-use Rattle.listed.specs.Store.{applied}
+use Rattle.refusal.specs.Number.{Verdict, accept, refuse, refusal, number, block}
+use Rattle.listed.specs.Store.{Store, applied}
 use Rattle.palette.specs.declared.Updated.{Updated}
 use Rattle.palette.specs.declared.Updated.the-variants.{Taken, Refused}
-use Rattle.palette.specs.Update.{Update, legal, verdict, verdictFor, verdictOn, onAccept, paletteAfter, told}
+use Rattle.palette.specs.Update.{Update, legal, verdict, verdictFor, verdictOn, told, Change, whole, unfinished, refused, changeOf, changeBy, changeOn, onAccept, paletteAfter}
 use Rattle.listed.proofs.Lists.{applied-length}
 
 -- ---- the verdict, a law for each way out
@@ -49,27 +50,55 @@ module _ (u : Update) (n : ℕ) where
 
 -- ---- the palette that is left
 
-module _ (u : Update) (p : List ℕ) (x : Updated) (v : told x ≡ verdictOn u p) where
-  -- the verdict w, with the palette q left
-  abbrev pub Out : Verdict → List ℕ → Type 0
-  Out w q = (w ≡ verdictOn u p) × (q ≡ paletteAfter u p)
+module _ (u : Update) (n : ℕ) (p : List ℕ) (x : Updated) (v : told x ≡ verdictOn u p) where
+  -- what comes of it, with the palette q left
+  abbrev pub Out : Change → List ℕ → Type 0
+  Out c q = (c ≡ changeOn u n p) × (q ≡ paletteAfter u n p)
 
-  pub keeps : (r : Refusal) → x ≡ Refused r → Out (refusal r) p
-  unfolding paletteAfter onAccept
-  keeps r e = let w : refusal r ≡ verdictOn u p = sym (ap told e) ∙ v in (w, rw (← w))
+  pub keeps : (r : Refusal) → x ≡ Refused r → Out (refused (number r) (block r)) p
+  unfolding paletteAfter onAccept changeBy
+  keeps r e = let w : refusal r ≡ verdictOn u p = sym (ap told e) ∙ v in (rw (← w), rw (← w))
 
-  pub stores-all : x ≡ Taken → (q : List ℕ) → q ≡ applied (u .stores) p → Out accept q
+  -- by the count of stores that code found
+  pub stores-some : x ≡ Taken → (q : List ℕ) → q ≡ applied (take n (u .stores)) p → (due : ℕ) → due ≡ length (u .stores) → (c : Change) → c ≡ changeOf n due → Out c q
+  unfolding paletteAfter onAccept changeBy
+  stores-some e q s due d c f = let w : accept ≡ verdictOn u p = sym (ap told e) ∙ v in (rw (← w) (f ∙ ap (changeOf n) d), rw (← w) s)
+
+-- what becomes of a body that is taken
+pub change-short : (allowed due : ℕ) → allowed < due → unfinished allowed ≡ changeOf allowed due
+unfolding changeOf
+change-short allowed due h = rw (lt-ltb _ _ h)
+
+pub change-whole : (allowed due : ℕ) → due ≤ allowed → whole due ≡ changeOf allowed due
+unfolding changeOf
+change-whole allowed due h = rw (le-ltb _ _ h)
+
+-- where as many are allowed as are due, it is the same whatever the number
+module _ (u : Update) (n : ℕ) (p : List ℕ) (few : verdictOn u p ≡ accept → length (u .stores) ≤ n) where
+  pub change-enough : changeOn u n p ≡ changeOn u (length (u .stores)) p
+  unfolding changeBy changeOf
+  change-enough = by (verdictOn u p) few
+    where
+      by : (v : Verdict) → (v ≡ accept → length (u .stores) ≤ n) → changeBy v (u .stores) n ≡ changeBy v (u .stores) (length (u .stores))
+      by accept f = let h : length (u .stores) ≤ length (u .stores) = omega arith in rw (le-ltb n (length (u .stores)) (f refl), le-ltb (length (u .stores)) (length (u .stores)) h)
+      by (refuse m k) f = refl
+
+  pub palette-enough : paletteAfter u n p ≡ paletteAfter u (length (u .stores)) p
   unfolding paletteAfter onAccept
-  stores-all e q s = let w : accept ≡ verdictOn u p = sym (ap told e) ∙ v in (w, rw (← w) s)
+  palette-enough = by (verdictOn u p) few
+    where
+      by : (v : Verdict) → (v ≡ accept → length (u .stores) ≤ n) → onAccept v (applied (take n (u .stores)) p) p ≡ onAccept v (applied (take (length (u .stores)) (u .stores)) p) p
+      by accept f = ap (λ (l : List Store). applied l p) (take-all n (u .stores) (f refl) ∙ sym (take-length (u .stores)))
+      by (refuse m k) f = refl
 
 -- no update changes the palette's length
-pub after-length : (u : Update) (p : List ℕ) → length (paletteAfter u p) ≡ length p
+pub after-length : (u : Update) (n : ℕ) (p : List ℕ) → length (paletteAfter u n p) ≡ length p
 unfolding paletteAfter onAccept
-after-length u p = by (verdictOn u p)
+after-length u n p = by (verdictOn u p)
   where
-    by : (v : Verdict) → length (onAccept v (applied (u .stores) p) p) ≡ length p
-    by accept = applied-length (u .stores) p
-    by (refuse n k) = refl
+    by : (v : Verdict) → length (onAccept v (applied (take n (u .stores)) p) p) ≡ length p
+    by accept = applied-length (take n (u .stores)) p
+    by (refuse m k) = refl
 
 -- ---- acceptance, both ways
 

@@ -2,9 +2,9 @@
 -- Assumes nothing.
 use mathlib.Core.Bool.{cond}
 use mathlib.Core.List.{List}
-use Prim.Native.Nat.{ℕ, _+_, _*_, _≤_, _<_}
+use Prim.Native.Nat.{ℕ, _+_, _-_, _*_, _≤_, _<_, min}
 use lib.Dec.{eqb}
-use lib.ListN.{length}
+use lib.ListN.{length, take}
 use Rattle.listed.specs.Store.{Store}
 use Rattle.listed.specs.Order.{Due}
 use Rattle.palette.specs.Gradient.{createGradient}
@@ -17,10 +17,11 @@ use Rattle.palette.specs.Mask.{ones, setPaletteCompressed}
 unfoldable pub storesOf : ℕ → List ℕ → List Store
 storesOf opcode body = cond (eqb opcode 11) (createGradient body .stores) (cond (eqb opcode 12) (setPalette body .stores) (setPaletteCompressed body .stores))
 
--- the first so many stores of the opcode's list are made, and those of a part come next. The longest list that is taken is 0B's, of two whole palettes
-pub record Next (opcode : ℕ) (body : List ℕ) (made : ℕ) (part : List Store) (palette : List ℕ) : Type 0 where
-  pub due : Due (storesOf opcode body) made part palette
-  pub few : length (storesOf opcode body) ≤ 1536
+-- the stores of the opcode's list that come before a part are made, as far as they are allowed, and those of the part that are allowed come next. The longest list
+-- that is taken is 0B's, of two whole palettes
+pub record Next (opcode : ℕ) (body : List ℕ) (allowed before : ℕ) (part : List Store) (palette : List ℕ) : Type 0 where
+  pub due : Due (storesOf opcode body) (min before allowed) (take (allowed - before) part) palette
+  pub few : before + length part ≤ 1536
 
 -- ---- numbers
 

@@ -1,8 +1,8 @@
--- Document 01, "Numbers of refusal", and document 02, W5 (17 to 19), W8 (21) and W9 (22): the number and the block that each refusal carries.
+-- Document 01, "Numbers of refusal", and document 02, W5 (17 to 19), W8 (21), W9 (22), W10 (23) and W12 (24 to 26): the number and the block that each refusal carries.
 -- Assumes nothing.
 use Prim.Native.Nat.{ℕ}
 use Rattle.refusal.specs.declared.Refusal.{Refusal}
-use Rattle.refusal.specs.declared.Refusal.the-variants.{Header, FilmEnd, ChunkEnd, Opcode, BodyLength, Size, Palette, Buffer, NoMap, MapLength, Place, Code, DataShort, CopyOutside, LeftOver, State, SoundFormat, SoundLength, Room, NoSize, Position}
+use Rattle.refusal.specs.declared.Refusal.the-variants.{Header, FilmEnd, ChunkEnd, Opcode, BodyLength, Size, Palette, Buffer, NoMap, MapLength, Place, Code, DataShort, CopyOutside, LeftOver, State, SoundFormat, SoundLength, Room, NoSize, Position, PacketLength, FrameShort, SkipOutside, EndMark}
 
 abbrev pub number : Refusal → ℕ
 number Header = 1
@@ -26,6 +26,10 @@ number SoundLength = 18
 number Room = 19
 number NoSize = 21
 number Position = 22
+number PacketLength = 23
+number FrameShort = 24
+number SkipOutside = 25
+number EndMark = 26
 
 -- the block that is drawn, for 12 to 14; else 0
 abbrev pub block : Refusal → ℕ
@@ -50,6 +54,10 @@ block SoundLength = 0
 block Room = 0
 block NoSize = 0
 block Position = 0
+block PacketLength = 0
+block FrameShort = 0
+block SkipOutside = 0
+block EndMark = 0
 
 -- what a call that only judges comes to: it accepts, or it refuses by a number and a block
 pub data Verdict : Type 0 where

@@ -45,6 +45,14 @@ pub enum Refusal {
     NoSize,
     // The position lies outside the picture.
     Position,
+    // The packet of a made frame, with its front, is longer than an opcode's body can be.
+    PacketLength,
+    // A Video 1 frame's data ends before all blocks are passed.
+    FrameShort,
+    // A skip of a Video 1 frame passes the last block.
+    SkipOutside,
+    // Behind the last block of a Video 1 frame stands not the end mark alone.
+    EndMark,
 }
 
 pub fn number_of(r: Refusal) -> u8
@@ -72,6 +80,10 @@ pub fn number_of(r: Refusal) -> u8
         Refusal::Room => 19,
         Refusal::NoSize => 21,
         Refusal::Position => 22,
+        Refusal::PacketLength => 23,
+        Refusal::FrameShort => 24,
+        Refusal::SkipOutside => 25,
+        Refusal::EndMark => 26,
     }
 }
 
@@ -100,5 +112,9 @@ pub fn block_of(r: Refusal) -> usize
         Refusal::Room => 0,
         Refusal::NoSize => 0,
         Refusal::Position => 0,
+        Refusal::PacketLength => 0,
+        Refusal::FrameShort => 0,
+        Refusal::SkipOutside => 0,
+        Refusal::EndMark => 0,
     }
 }

@@ -11,13 +11,17 @@ use Rattle.state.specs.declared.State.{State}
 use Rattle.opening.specs.Opening.{Opening, started, openingOf}
 use Rattle.walk.specs.Walk.{Forward}
 use Rattle.begin.specs.Begin.{zeros, allowance, stepBefore, Course, goes, stops, courseOf, Came, until, toSize, kept, beginAt}
-use Rattle.separate.specs.Separate.{Bytes, Beside, stepBeside, Stepping, there, ends, more, Separately}
+use Rattle.separate.specs.Separate.{Bytes, Beside, Ample, stepBeside, Stepping, there, ends, more, Separately}
 use Rattle.separate.proofs.Same.{same-step}
+use Rattle.begin.proofs.Before.{ample}
 use Rattle.begin.proofs.Until.{roomy, until-sized, until-goes, until-stops, goes-forward}
 
 -- what the opening call's definition lends to its steps
 abbrev plain : Beside
 plain = record { first = []; second = []; room = zeros enough; allowed = allowance }
+
+always : Ample plain
+always = record { room = roomy; stores = ample }
 
 module _ (film : List ℕ) where
   -- one step, and then what the rest of them come to
@@ -27,8 +31,8 @@ module _ (film : List ℕ) where
   one-step n st palette place rest = by (ℕ-discrete (st .columns) 0)
     where
       on : (z : st .columns ≡ 0) (c : Course) → courseOf (stepBefore film st palette place .step .answer) ≡ c → Stepping film st palette place (until film (suc n) st palette place)
-      on z (stops i k) e = rw (until-stops film n st palette place z i k e) (ends z plain roomy e)
-      on z (goes t) e = rw (until-goes film n st palette place z t e) (more z plain roomy e (rest t _ _ (goes-forward film st allowance _ t z e)))
+      on z (stops i k) e = rw (until-stops film n st palette place z i k e) (ends z plain always e)
+      on z (goes t) e = rw (until-goes film n st palette place z t e) (more z plain always e (rest t _ _ (goes-forward film st allowance ample _ t e)))
 
       by : Dec (st .columns ≡ 0) → Stepping film st palette place (until film (suc n) st palette place)
       by (yes z) = on z (courseOf (stepBefore film st palette place .step .answer)) refl
@@ -44,18 +48,18 @@ module _ (film : List ℕ) where
     steps-same : (n : ℕ) (st : State) (palette : List ℕ) (place : ℕ) (c : Came) → length film ≤ st .cursor .position + n → Stepping film st palette place c → until film (suc n) st palette place ≡ c
     steps-same n st palette place c a (there h) = until-sized film n st palette place h
     steps-same n st palette place c a (ends {n = i} {k = k} z y big′ e) =
-        until-stops film n st palette place z i k (ap courseOf (same-step film bytes st z palette place plain y roomy big′ .answer) ∙ e)
+        until-stops film n st palette place z i k (ap courseOf (same-step film bytes st z palette place plain y always big′ .answer) ∙ e)
     steps-same n st palette place c a (more {t = t} z y big′ e s) = by n a (λ m l. steps-same m t _ _ c l s)
       where
         f : Forward (length film) st t
-        f = goes-forward film st (y .allowed) _ t z e
+        f = goes-forward film st (y .allowed) (big′ .stores) _ t e
 
         by : (n : ℕ) → length film ≤ st .cursor .position + n
             → ((m : ℕ) → length film ≤ t .cursor .position + m → until film (suc m) t (stepBeside y film st palette place .lent .palette) (stepBeside y film st palette place .lent .place) ≡ c)
             → until film (suc n) st palette place ≡ c
         by zero a rest = absurd (let y : ⊥ = omega (arith, f .rises, f .ordered, f .inside) in y)
         by (suc m) a rest =
-            let w = same-step film bytes st z palette place plain y roomy big′ in
+            let w = same-step film bytes st z palette place plain y always big′ in
             until-goes film (suc m) st palette place z t (ap courseOf (w .answer) ∙ e)
             ∙ rw (w .palette, w .place) (rest m (omega (arith, f .rises)))
 

@@ -1,5 +1,5 @@
 -- What the separate calls come to, said without a count of steps: each step may be lent other pictures and another room that is always enough, and be
--- allowed another number of stores. `proofs/Separate`: for every film they come to one end, and the opening call answers and leaves that.
+-- allowed any number of stores from 312,000 on. `proofs/Separate`: for every film they come to one end, and the opening call answers and leaves that.
 -- Assumes nothing.
 use mathlib.Core.Path.{_≡_}
 use mathlib.Core.List.{List}
@@ -10,6 +10,7 @@ use Rattle.sound.specs.Step.{enough}
 use Rattle.state.specs.declared.State.{State}
 use Rattle.opening.specs.Opening.{started, refuses, openingOf}
 use Rattle.film.specs.Film.{lent, Outcome, stepOf}
+use Rattle.walk.specs.Play.{most}
 use Rattle.begin.specs.Begin.{goes, stops, courseOf, sized, stopped, Came, came, kept, nowhere, beginOf}
 
 -- a film is bytes
@@ -23,9 +24,10 @@ pub record Beside : Type 0 where
   pub room : List ℕ
   pub allowed : Allowed
 
--- the room is one that is always enough
-abbrev pub Ample : Beside → Type 0
-Ample x = enough ≤ length (x .room)
+-- the room and the stores are always enough
+pub record Ample (x : Beside) : Type 0 where
+  pub room : enough ≤ length (x .room)
+  pub stores : most ≤ x .allowed .stores
 
 abbrev pub stepBeside : Beside → List ℕ → State → List ℕ → ℕ → Outcome
 stepBeside x film st palette place = stepOf film st (x .allowed) (lent palette (x .first) (x .second) place (x .room))

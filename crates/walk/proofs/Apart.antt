@@ -15,6 +15,8 @@ use Rattle.stores.specs.Calls as drawing
 use Rattle.draw.specs.declared.Allowed.{Allowed}
 use Rattle.draw.specs.Call.{Reason, request, report}
 use Rattle.words.specs.Word.{wordAt}
+use Rattle.palette.specs.Update.{Change}
+use Rattle.palette.specs.Update as palette
 use Rattle.sound.specs.declared.Sound.{Sound}
 use Rattle.sound.specs.Format.{chosen, formatOf, possibleFormat, afresh}
 use Rattle.sound.specs.Step as sound
@@ -24,7 +26,7 @@ use Rattle.state.specs.declared.State.{State}
 use Rattle.heads.specs.declared.Opcode.{Opcode}
 use Rattle.heads.specs.Heads.{hears}
 use Rattle.opcodes.specs.Opcodes.{heardStep, drawnAs}
-use Rattle.film.specs.Film.{Lent, withRoom, swap, Outcome, after, called, drawSecond, drawOn, part, heardBy, hear, takeOn, standing, stepOf}
+use Rattle.film.specs.Film.{Lent, withRoom, swap, Outcome, after, called, drawSecond, drawOn, part, paletteStep, mapTo, heardBy, hear, takeOn, standing, stepOf}
 use Rattle.walk.specs.Draws.{packetOf}
 use Rattle.walk.specs.View.{endOf, View, refuses, ends, enters, sounds, maps, colours, undrawn, draws, others}
 use Rattle.walk.specs.Apart.{RoomKept, OthersKept, AtSound, Apart}
@@ -45,6 +47,14 @@ unfolding drawnAs
 drawn-silent st p drawing.whole n t = refl
 drawn-silent st p drawing.unfinished n t = refl
 drawn-silent st p (drawing.refusal r) n t = refl
+
+-- ---- palettes
+
+change-silent : (st : State) (p : ℕ) (x : Change) → paletteStep st p x .bytes ≡ 0
+unfolding paletteStep
+change-silent st p (palette.whole n) = refl
+change-silent st p (palette.unfinished n) = refl
+change-silent st p (palette.refused n k) = refl
 
 module _ (film : List ℕ) (st : State) (allowed : Allowed) (l : Lent) where
   second-silent : (p : ℕ) (map packet : List ℕ) (m : Lent) → m .room ≡ l .room → RoomKept l (drawSecond st p map packet allowed m)
@@ -98,12 +108,13 @@ module _ (film : List ℕ) (st : State) (allowed : Allowed) (l : Lent) where
       (sound-fits (st .sound) (o .kind) (o .version) body))
 
   silent-view : {o : Outcome} → View film st allowed l o → (AtSound film st l → ⊥) → RoomKept l o
+  unfolding mapTo
   silent-view (refuses n k e) f = silent l refl refl
   silent-view (ends e v) f = silent l refl refl
   silent-view (enters c e v) f = silent l refl refl
   silent-view (sounds o a h) f = absurd (f (record { found = o; stands = a .stands; acted = h }))
-  silent-view (maps o a u e) f = silent l refl refl
-  silent-view (colours o x a u c) f = silent l refl refl
+  silent-view (maps o a u e) f = silent-by l (eqb (allowed .stores) 0) (silent l refl refl) (silent l refl refl)
+  silent-view (colours o x a u c) f = silent l refl (change-silent st (endOf o) _)
   silent-view (undrawn o a u e m) f = silent l refl refl
   silent-view (draws o start long a u e m c) f = on-silent (endOf o) (part film start (start + long)) (packetOf film o)
   silent-view (others o a u x) f = silent l refl refl

@@ -19,7 +19,7 @@ use Rattle.draw.proofs.Judged.{judged-6}
 use Rattle.book.specs.Beyond.{showing, SameCalls}
 use Rattle.book.specs.Beyond.{SameTo as SameMemory}
 use Rattle.book.proofs.Beyond.{beyond-unwritten, beyond-unread}
-use Rattle.palette.specs.Update.{Update, verdictOn, paletteAfter}
+use Rattle.palette.specs.Update.{Update, changeOn, paletteAfter}
 use Rattle.palette.specs.Gradient.{createGradient}
 use Rattle.palette.specs.Entries.{setPalette}
 use Rattle.palette.specs.Mask.{setPaletteCompressed}
@@ -33,8 +33,8 @@ use Rattle.sound.specs.Sound.{answer}
 use Rattle.heads.specs.Heads.{hears}
 use Rattle.next.specs.Next.{Standing, nextOf}
 use Rattle.next.specs.Next as found
-use Rattle.opcodes.specs.Opcodes.{quiet, heardStep, paletteAnswer, drawnStep}
-use Rattle.film.specs.Film.{Lent, swap, Outcome, after, called, drawSecond, drawOn, part, drawBy, update, act, heardBy, hear, takeOn, standing, stepOf}
+use Rattle.opcodes.specs.Opcodes.{heardStep, drawnStep}
+use Rattle.film.specs.Film.{Lent, swap, Outcome, after, called, drawSecond, drawOn, part, drawBy, paletteStep, update, mapTo, act, heardBy, hear, takeOn, standing, stepOf}
 use Rattle.walk.specs.Draws.{packetOf}
 use Rattle.walk.specs.View.{endOf, View, refuses, ends, enters, sounds, maps, colours, undrawn, draws, others}
 use Rattle.walk.specs.Beyond.{bytes, KeptFrom, Unwritten, SameTo, SameSteps, Unread}
@@ -109,12 +109,12 @@ module _ (film : List ℕ) (st : State) (allowed : Allowed) where
       (kept-swapped (bytes st) l _ (kept-drawn p map packet (swap l)))
 
   kept-view : {l : Lent} {o : Outcome} → View film st allowed l o → KeptFrom (bytes st) l o
-  unfolding hear
+  unfolding hear mapTo
   kept-view {l} (refuses n k e) = kept (bytes st) l _ refl refl
   kept-view {l} (ends e v) = kept (bytes st) l _ refl refl
   kept-view {l} (enters c e v) = kept (bytes st) l _ refl refl
   kept-view {l} (sounds o a h) = kept (bytes st) l _ refl refl
-  kept-view {l} (maps o a u e) = kept (bytes st) l _ refl refl
+  kept-view {l} (maps o a u e) = kept-by (bytes st) l (eqb (allowed .stores) 0) _ _ (kept (bytes st) l _ refl refl) (kept (bytes st) l _ refl refl)
   kept-view {l} (colours o x a u c) = kept (bytes st) l _ refl refl
   kept-view {l} (undrawn o a u e m) = kept (bytes st) l _ refl refl
   kept-view {l} (draws o start long a u e m c) = kept-on (endOf o) (part film start (start + long)) (packetOf film o) l
@@ -159,23 +159,24 @@ module _ (film : List ℕ) (st : State) (allowed : Allowed) where
   same-map (Part a long) body p l m s =
       same-by (bytes st) (eqb (st .columns) 0) _ _ _ _ (record { step = refl; lent = s }) (same-on p (part film a (a + long)) (part body 14 (length body)) l m s)
 
-  same-update : (p : ℕ) (u : Update) (l m : Lent) → SameTo (bytes st) l m → SameSteps (bytes st) (update st p u l) (update st p u m)
-  same-update p u l m s =
+  same-update : (p : ℕ) (u : Update) (n : ℕ) (l m : Lent) → SameTo (bytes st) l m → SameSteps (bytes st) (update st p u n l) (update st p u n m)
+  same-update p u n l m s =
       record {
-        step = ap (λ (x : List ℕ). quiet (paletteAnswer st p (verdictOn u x))) (s .palette);
-        lent = record { palette = ap (paletteAfter u) (s .palette); first = s .first; second = s .second; place = s .place; room = s .room };
+        step = ap (λ (x : List ℕ). paletteStep st p (changeOn u n x)) (s .palette);
+        lent = record { palette = ap (paletteAfter u n) (s .palette); first = s .first; second = s .second; place = s .place; room = s .room };
       }
 
   same-act : (kind version a : ℕ) (body : List ℕ) (p : ℕ) (l m : Lent) → SameTo (bytes st) l m
       → SameSteps (bytes st) (act film st kind version a body p allowed l) (act film st kind version a body p allowed m)
-  unfolding act
+  unfolding act mapTo
   same-act kind version a body p l m s =
       same-by (bytes st) (eqb kind 15) _ _ _ _
-      (record { step = refl; lent = record { palette = s .palette; first = s .first; second = s .second; place = refl; room = s .room } })
+      (same-by (bytes st) (eqb (allowed .stores) 0) _ _ _ _ (record { step = refl; lent = s })
+      (record { step = refl; lent = record { palette = s .palette; first = s .first; second = s .second; place = refl; room = s .room } }))
       (same-by (bytes st) (eqb kind 17) _ _ _ _ (same-map (st .map) body p l m s)
-      (same-by (bytes st) (eqb kind 11) _ _ _ _ (same-update p (createGradient body) l m s)
-      (same-by (bytes st) (eqb kind 12) _ _ _ _ (same-update p (setPalette body) l m s)
-      (same-by (bytes st) (eqb kind 13) _ _ _ _ (same-update p (setPaletteCompressed body) l m s)
+      (same-by (bytes st) (eqb kind 11) _ _ _ _ (same-update p (createGradient body) (allowed .stores) l m s)
+      (same-by (bytes st) (eqb kind 12) _ _ _ _ (same-update p (setPalette body) (allowed .stores) l m s)
+      (same-by (bytes st) (eqb kind 13) _ _ _ _ (same-update p (setPaletteCompressed body) (allowed .stores) l m s)
       (record { step = refl; lent = s })))))
 
   same-heard : (kind version : ℕ) (body : List ℕ) (p : ℕ) (l m : Lent) → SameTo (bytes st) l m

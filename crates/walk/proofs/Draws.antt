@@ -1,6 +1,6 @@
--- A step answers "whole" or "unfinished" exactly when `Draws` holds: `draws-exactly`.
+-- A step at opcode 11 answers "whole" or "unfinished" exactly when `Draws` holds: `draws-exactly`.
 -- Assumes nothing.
-use mathlib.Core.Path.{_≡_, refl, ap, _∙_}
+use mathlib.Core.Path.{_≡_, refl, sym, ap, _∙_}
 use mathlib.Core.Bool.{Bool, true, false, cond}
 use mathlib.Core.List.{List}
 use Prim.Native.Nat.{ℕ, _+_, _≤_}
@@ -20,6 +20,7 @@ use Rattle.draw.specs.declared.Allowed.{Allowed}
 use Rattle.draw.specs.Call.{Request, request, drawVerdict, comes, calling, report}
 use Rattle.draw.specs.Taken.{DrawAccepts}
 use Rattle.draw.proofs.Exactly.{drawn-exactly}
+use Rattle.palette.specs.Update.{Update}
 use Rattle.state.specs.declared.Map.{Map}
 use Rattle.state.specs.declared.Map.the-variants.{Part}
 use Rattle.state.specs.declared.State.{State}
@@ -33,10 +34,10 @@ use Rattle.heads.specs.Heads.{hears}
 use Rattle.next.proofs.Standing.{not-17}
 use Rattle.next.specs.Next.{Standing, on, nextOf}
 use Rattle.next.specs.Next as found
-use Rattle.opcodes.specs.Opcodes.{Answer, taken, ended, refused, sizeAnswer, colourOf, quietAnswer, heardStep, paletteAnswer, drawnAs, drawnStep}
+use Rattle.opcodes.specs.Opcodes.{Answer, taken, ended, refused, sizeAnswer, colourOf, quietAnswer, heardStep, drawnAs, drawnStep}
 use Rattle.film.specs.Film.{Lent, swap, Outcome, after, called, drawSecond, drawOn, part, drawBy, act, actOn, heardBy, hear, takeOn, standing, stepOf}
-use Rattle.walk.specs.Draws.{bodyOf, packetOf, Draws, Drew}
-use Rattle.walk.specs.View.{endOf, View, refuses, ends, enters, sounds, maps, colours, undrawn, draws, others}
+use Rattle.walk.specs.Draws.{bodyOf, packetOf, Draws, AtPacket, Drew}
+use Rattle.walk.specs.View.{endOf, AtOpcode, Colours, gradient, entries, masks, View, refuses, ends, enters, sounds, maps, colours, undrawn, draws, others}
 use Rattle.walk.proofs.View.{view-of}
 
 -- ---- a drawing call that is not refused
@@ -100,11 +101,6 @@ not-ended s d = d
 not-by : (b : Bool) (x y : Answer) → (Drew x → ⊥) → (Drew y → ⊥) → Drew (cond b x y) → ⊥
 not-by true x y f g d = f d
 not-by false x y f g d = g d
-
-pub not-palette : (st : State) (p : ℕ) (v : Verdict) → Drew (paletteAnswer st p v) → ⊥
-unfolding paletteAnswer
-not-palette st p accept = not-taken (behind st p)
-not-palette st p (refuse n k) = not-refused n k
 
 not-sized : (st : State) (p columns rows colour : ℕ) → Drew (sizeAnswer st p columns rows colour) → ⊥
 unfolding sizeAnswer
@@ -180,21 +176,34 @@ module _ (film : List ℕ) (st : State) (allowed : Allowed) where
   unfolding takeOn
   drew-taken o l e d = rw (ap (hears (chosen (st .sound .stream))) e ∙ not-17 (chosen (st .sound .stream))) d
 
-  view-drew : {l : Lent} {o : Outcome} → View film st allowed l o → Drew (o .step .answer) → Draws (allowed .spare) film st l
-  unfolding hear
-  view-drew (refuses n k e) d = absurd (not-refused n k d)
-  view-drew (ends e v) d = absurd (not-ended st d)
-  view-drew (enters c e v) d = absurd (not-taken _ d)
-  view-drew {l} (sounds o a h) d = absurd (not-heard st (endOf o) (heardBy (st .sound) (o .kind) (o .version) (bodyOf film o) (length (l .room))) d)
-  view-drew (maps o a u e) d = absurd (not-taken _ d)
-  view-drew (colours o x a u c) d = absurd (not-palette st (endOf o) _ d)
-  view-drew (undrawn o a u e m) d = absurd (not-refused 9 0 d)
-  view-drew {l} (draws o start long a u e m c) d =
-      let x = on-drew (endOf o) (part film start (start + long)) (packetOf film o) l d in
-      record { found = o; stands = a .stands; is-11 = e; start = start; long = long; mapped = m; accepted = x .accepted; within = x .within }
-  view-drew (others o a u x) d = absurd (not-quiet (length film) st (o .kind) (o .version) (bodyOf film o) (endOf o) d)
+  -- an opcode that stands there is the 11
+  stands-11 : {l : Lent} (o : Opcode) → AtOpcode film st l o → AtPacket film st l → o .kind ≡ 17
+  stands-11 o a x = let e : o ≡ x .found = same (sym (a .stands) ∙ x .stands) in ap (λ (y : Opcode). y .kind) e ∙ x .is-11
+    where
+      same : {m n : Opcode} → found.opcode m ≡ found.opcode n → m ≡ n
+      same e = cc
 
-  pub draws-exactly : (l : Lent) → (Draws (allowed .spare) film st l → Drew (stepOf film st allowed l .step .answer)) × (Drew (stepOf film st allowed l .step .answer) → Draws (allowed .spare) film st l)
+  no-colours : (kind : ℕ) (body : List ℕ) {u : Update} → Colours kind body u → kind ≡ 17 → ⊥
+  no-colours kind body (gradient e) q = omega arith
+  no-colours kind body (entries e) q = omega arith
+  no-colours kind body (masks e) q = omega arith
+
+  view-drew : {l : Lent} {o : Outcome} → View film st allowed l o → AtPacket film st l → Drew (o .step .answer) → Draws (allowed .spare) film st l
+  unfolding hear
+  view-drew (refuses n k e) x d = absurd (not-refused n k d)
+  view-drew (ends e v) x d = absurd (not-ended st d)
+  view-drew (enters c e v) x d = absurd (not-taken _ d)
+  view-drew {l} (sounds o a h) x d = absurd (not-heard st (endOf o) (heardBy (st .sound) (o .kind) (o .version) (bodyOf film o) (length (l .room))) d)
+  view-drew (maps o a u e) x d = absurd (let q = stands-11 o a x in let z : ⊥ = omega arith in z)
+  view-drew (colours o u a h c) x d = absurd (no-colours (o .kind) (bodyOf film o) c (stands-11 o a x))
+  view-drew (undrawn o a u e m) x d = absurd (not-refused 9 0 d)
+  view-drew {l} (draws o start long a u e m c) x d =
+      let y = on-drew (endOf o) (part film start (start + long)) (packetOf film o) l d in
+      record { found = o; stands = a .stands; is-11 = e; start = start; long = long; mapped = m; accepted = y .accepted; within = y .within }
+  view-drew (others o a u n) x d = absurd (not-quiet (length film) st (o .kind) (o .version) (bodyOf film o) (endOf o) d)
+
+  pub draws-exactly : (l : Lent)
+      → (Draws (allowed .spare) film st l → Drew (stepOf film st allowed l .step .answer)) × (AtPacket film st l → Drew (stepOf film st allowed l .step .answer) → Draws (allowed .spare) film st l)
   unfolding stepOf standing area
   draws-exactly l = (
     λ d.

@@ -4,9 +4,10 @@ use mathlib.Core.Path.{_≡_, refl, sym, ap, _∙_, subst}
 use mathlib.Core.Logic.{_⊎_, inl, inr}
 use mathlib.Core.Bool.{Bool, true, false, cond}
 use mathlib.Core.List.{List}
-use Prim.Native.Nat.{ℕ, _+_, _≤_}
+use Prim.Native.Nat.{ℕ, _+_, _-_, _≤_}
 use native.Mathlib.Decide.{decLt}
 use native.Mathlib.Omega.{arith}
+use borrow.Author.Tests.{eqb-true}
 use lib.Dec.{eqb}
 use lib.ListN.{length}
 use Rattle.refusal.specs.Number.{Verdict}
@@ -22,23 +23,35 @@ use Rattle.draw.specs.Call.{Request, within, request, packetOf as packetIn, dra
 use Rattle.draw.specs.Drawing.{plan}
 use Rattle.packet.proofs.Forms.{Differ as DifferAs}
 use Rattle.draw.proofs.Forms.{verdicts-differ}
+use Rattle.palette.specs.Gradient.{createGradient}
+use Rattle.palette.specs.Entries.{setPalette}
+use Rattle.palette.specs.Mask.{setPaletteCompressed}
 use Rattle.state.specs.declared.Map.{Map}
 use Rattle.state.specs.declared.Map.the-variants.{Missing, Part}
 use Rattle.state.specs.declared.State.{State}
+use Rattle.state.specs.Moves.{mapped}
 use Rattle.sound.specs.Format.{chosen}
 use Rattle.heads.specs.declared.Opcode.{Opcode}
 use Rattle.heads.specs.Heads.{hears}
 use Rattle.next.specs.Next.{Standing, nextOf}
 use Rattle.next.specs.Next as found
-use Rattle.opcodes.specs.Opcodes.{refused, quiet, drawnAs, drawnStep}
-use Rattle.film.specs.Film.{Lent, withPictures, swap, Outcome, after, called, drawSecond, drawOn, part, drawBy, act, takeOn, standing, stepOf}
-use Rattle.walk.specs.Draws.{packetOf, Draws, Drew}
+use Rattle.opcodes.specs.Opcodes.{refused, quiet, quietAnswer, drawnAs, drawnStep}
+use Rattle.film.specs.Film.{Lent, withPictures, swap, Outcome, after, called, drawSecond, drawOn, part, drawBy, update, mapTo, act, actOn, hear, takeOn, standing, stepOf}
+use Rattle.walk.specs.Draws.{packetOf, Draws, AtPacket, Drew}
 use Rattle.walk.specs.Forms.{Odd, Forms}
 use Rattle.walk.proofs.Draws.{drew-accepted, not-refused, draws-exactly}
 
 -- the outcomes x of the default and y of the strict form: one, or a drawing that the strict form refuses by 15
 abbrev Differ : Lent → Outcome → Outcome → Type 0
 Differ l x y = (x ≡ y) ⊎ (Drew (x .step .answer) × (y ≡ after (quiet (refused 15 0)) l))
+
+-- the same, with what is known where they differ
+abbrev DifferIf : Type 0 → Lent → Outcome → Outcome → Type 0
+DifferIf P l x y = (x ≡ y) ⊎ (P × Drew (x .step .answer) × (y ≡ after (quiet (refused 15 0)) l))
+
+differ-if : (P : Type 0) (l : Lent) (x y : Outcome) → P → Differ l x y → DifferIf P l x y
+differ-if P l x y p (inl e) = inl e
+differ-if P l x y p (inr d) = inr (p, d .0, d .1)
 
 differ-by : (l : Lent) (b : Bool) (x x′ y y′ : Outcome) → Differ l x x′ → Differ l y y′ → Differ l (cond b x y) (cond b x′ y′)
 differ-by l true x x′ y y′ p q = p
@@ -82,27 +95,56 @@ module _ (film : List ℕ) (st : State) (n : ℕ) where
       differ-by l (eqb (st .columns) 0) _ _ _ _ (inl refl) (on-differ p (part film s (s + long)) (part body 14 (length body)) l)
 
   act-differ : (kind version s : ℕ) (body : List ℕ) (p : ℕ) (l : Lent)
-      → Differ l (act film st kind version s body p (within n default) l) (act film st kind version s body p (within n strict) l)
+      → DifferIf (kind ≡ 17) l (act film st kind version s body p (within n default) l) (act film st kind version s body p (within n strict) l)
   unfolding act
-  act-differ kind version s body p l =
-      differ-by l (eqb kind 15) _ _ _ _ (inl refl) (differ-by l (eqb kind 17) _ _ _ _ (map-differ (st .map) body p l) (inl refl))
+  act-differ kind version s body p l = by (eqb kind 15) (eqb kind 17) refl
+    where
+      other : Outcome
+      other =
+          cond (eqb kind 11) (update st p (createGradient body) n l)
+          (cond (eqb kind 12) (update st p (setPalette body) n l)
+          (cond (eqb kind 13) (update st p (setPaletteCompressed body) n l) (after (quiet (quietAnswer (length film) st kind version body p)) l)))
 
-  standing-differ : (s : Standing) (l : Lent) → Differ l (standing s film st (within n default) l) (standing s film st (within n strict) l)
-  unfolding standing takeOn
-  standing-differ (found.refused k b) l = inl refl
-  standing-differ found.ended l = inl refl
-  standing-differ (found.chunk c) l = inl refl
-  standing-differ (found.opcode o) l =
-      differ-by l (hears (chosen (st .sound .stream)) (o .kind)) _ _ _ _ (inl refl)
-      (act-differ (o .kind) (o .version) (o .start) (part film (o .start) (o .start + o .long)) (o .start + o .long) l)
+      by : (b c : Bool) → eqb kind 17 ≡ c
+          → DifferIf (kind ≡ 17) l (cond b (mapTo st (mapped st p (Part s (p - s))) n l) (cond c (drawBy (st .map) film st body p (within n default) l) other))
+          (cond b (mapTo st (mapped st p (Part s (p - s))) n l) (cond c (drawBy (st .map) film st body p (within n strict) l) other))
+      by true c e = inl refl
+      by false true e = differ-if (kind ≡ 17) l _ _ (eqb-true _ _ e) (map-differ (st .map) body p l)
+      by false false e = inl refl
 
   module _ (l : Lent) where
-    steps-differ : Differ l (stepOf film st (within n default) l) (stepOf film st (within n strict) l)
-    unfolding stepOf
-    steps-differ = standing-differ (nextOf film st (length (l .palette)) (length (l .first)) (length (l .second))) l
+    taken-differ : (o : Opcode) → nextOf film st (length (l .palette)) (length (l .first)) (length (l .second)) ≡ found.opcode o
+        → DifferIf (AtPacket film st l) l (takeOn film st o (within n default) l) (takeOn film st o (within n strict) l)
+    unfolding takeOn
+    taken-differ o q = by (hears (chosen (st .sound .stream)) (o .kind)) (act-differ (o .kind) (o .version) (o .start) (part film (o .start) (o .start + o .long)) (o .start + o .long) l)
+      where
+        heard : Outcome
+        heard = hear st (o .kind) (o .version) (part film (o .start) (o .start + o .long)) (o .start + o .long) l
 
-    exactly : (spare : ℕ) → (Draws spare film st l → Drew (stepOf film st (within n spare) l .step .answer)) × (Drew (stepOf film st (within n spare) l .step .answer) → Draws spare film st l)
+        by : (b : Bool) → DifferIf (o .kind ≡ 17) l (actOn film st o (within n default) l) (actOn film st o (within n strict) l)
+            → DifferIf (AtPacket film st l) l (cond b heard (actOn film st o (within n default) l)) (cond b heard (actOn film st o (within n strict) l))
+        by true d = inl refl
+        by false (inl e) = inl e
+        by false (inr d) = inr (record { found = o; stands = q; is-11 = d .0 }, d .1, d .2)
+
+    standing-differ : (s : Standing) → nextOf film st (length (l .palette)) (length (l .first)) (length (l .second)) ≡ s
+        → DifferIf (AtPacket film st l) l (standing s film st (within n default) l) (standing s film st (within n strict) l)
+    unfolding standing
+    standing-differ (found.refused k b) q = inl refl
+    standing-differ found.ended q = inl refl
+    standing-differ (found.chunk c) q = inl refl
+    standing-differ (found.opcode o) q = taken-differ o q
+
+    steps-differ : DifferIf (AtPacket film st l) l (stepOf film st (within n default) l) (stepOf film st (within n strict) l)
+    unfolding stepOf
+    steps-differ = standing-differ (nextOf film st (length (l .palette)) (length (l .first)) (length (l .second))) refl
+
+    exactly : (spare : ℕ)
+        → (Draws spare film st l → Drew (stepOf film st (within n spare) l .step .answer)) × (AtPacket film st l → Drew (stepOf film st (within n spare) l .step .answer) → Draws spare film st l)
     exactly spare = draws-exactly film st (within n spare) l
+
+    at-packet : {spare : ℕ} → Draws spare film st l → AtPacket film st l
+    at-packet d = record { found = d .found; stands = d .stands; is-11 = d .is-11 }
 
     -- the bytes that a drawing uses, with so many that may be left over
     Used : ℕ → Opcode → ℕ → ℕ → Type 0
@@ -149,10 +191,10 @@ module _ (film : List ℕ) (st : State) (n : ℕ) where
     odd-refused : Odd film st l → stepOf film st (within n strict) l ≡ after (quiet (refused 15 0)) l
     odd-refused o = by steps-differ
       where
-        by : Differ l (stepOf film st (within n default) l) (stepOf film st (within n strict) l) → stepOf film st (within n strict) l ≡ after (quiet (refused 15 0)) l
-        by (inr d) = d .1
+        by : DifferIf (AtPacket film st l) l (stepOf film st (within n default) l) (stepOf film st (within n strict) l) → stepOf film st (within n strict) l ≡ after (quiet (refused 15 0)) l
+        by (inr d) = d .2
         by (inl e) =
-            absurd (none-over (exactly strict .1 (subst (λ (y : Outcome). Drew (y .step .answer)) e (exactly default .0 (o .draws)))) o)
+            absurd (none-over (exactly strict .1 (at-packet (o .draws)) (subst (λ (y : Outcome). Drew (y .step .answer)) e (exactly default .0 (o .draws)))) o)
 
     is-odd : (d : Draws default film st l) → (Draws strict film st l → ⊥) → Odd film st l
     unfolding Used
@@ -170,9 +212,9 @@ module _ (film : List ℕ) (st : State) (n : ℕ) where
     same-step : (Odd film st l → ⊥) → stepOf film st (within n default) l ≡ stepOf film st (within n strict) l
     same-step never = by steps-differ
       where
-        by : Differ l (stepOf film st (within n default) l) (stepOf film st (within n strict) l) → stepOf film st (within n default) l ≡ stepOf film st (within n strict) l
+        by : DifferIf (AtPacket film st l) l (stepOf film st (within n default) l) (stepOf film st (within n strict) l) → stepOf film st (within n default) l ≡ stepOf film st (within n strict) l
         by (inl e) = e
-        by (inr d) = absurd (never (is-odd (exactly default .1 (d .0)) (λ s. not-drawn _ (d .1) (exactly strict .0 s))))
+        by (inr d) = absurd (never (is-odd (exactly default .1 (d .0) (d .1)) (λ s. not-drawn _ (d .2) (exactly strict .0 s))))
 
     pub step-forms : Forms film st n l
     step-forms =
@@ -181,5 +223,5 @@ module _ (film : List ℕ) (st : State) (n : ℕ) where
           nothing-over =
               λ n. same-step (λ o. let d = o .draws in let z : ⊥ = omega (arith, n (d .found) (d .start) (d .long) (d .stands) (d .is-11) (d .mapped), o .over) in z);
           odd = λ o. (exactly default .0 (o .draws), odd-refused o);
-          strict-draws = λ d. same-step (none-over (exactly strict .1 d));
+          strict-draws = λ d. same-step (λ o. none-over (exactly strict .1 (at-packet (o .draws)) d) o);
         }

@@ -5,7 +5,7 @@ use mathlib.Core.Bool.{Bool, true, false, cond}
 use mathlib.Core.List.{List, [], _++_}
 use Prim.Native.Nat.{ℕ, zero, suc, _+_, _-_, _≤_}
 use native.Mathlib.Omega.{arith}
-use borrow.Author.Tests.{eq-eqb}
+use borrow.Author.Tests.{eq-eqb, ne-eqb, le-ltb}
 use lib.Dec.{eqb}
 use lib.ListN.{length}
 use lib.Seq.{take-all}
@@ -22,18 +22,22 @@ use Rattle.draw.specs.Call.{Request, request, drawVerdict, comes, report}
 use Rattle.draw.specs.Call.{packetOf as packetIn}
 use Rattle.draw.proofs.Judged.{accepted-call}
 use Rattle.book.proofs.Lawful.{stores-few}
+use Rattle.palette.specs.Update.{Update, verdictFor, verdictOn, changeOf, changeBy}
+use Rattle.palette.proofs.Gradients.{gradients-few}
+use Rattle.palette.proofs.Entries.{entries-few}
+use Rattle.palette.proofs.Groups.{groups-few}
 use Rattle.state.specs.declared.State.{State}
 use Rattle.opcodes.specs.Opcodes.{Answer, taken, whole, unfinished, ended, refused, drawnAs, drawnStep}
-use Rattle.film.specs.Film.{Lent, swap, Outcome, after, called, drawSecond, drawOn, part, heardBy, hear, stepOf}
+use Rattle.film.specs.Film.{Lent, swap, Outcome, after, called, drawSecond, drawOn, part, paletteStep, update, mapTo, heardBy, hear, stepOf}
 use Rattle.walk.specs.Walk.{Forward, Moves}
 use Rattle.walk.specs.Draws.{bodyOf, packetOf, Drew}
-use Rattle.walk.specs.View.{endOf, View, refuses, ends, enters, sounds, maps, colours, undrawn, draws, others}
+use Rattle.walk.specs.View.{endOf, Colours, gradient, entries, masks, View, refuses, ends, enters, sounds, maps, colours, undrawn, draws, others}
 use Rattle.walk.specs.Possible.{OfState, Follows}
 use Rattle.walk.specs.Play.{most, Event, eventsOf, End, over, by-refusal, on, leadOf, Plays, stops, goes, Play}
 use Rattle.walk.proofs.Walk.{step-moves}
 use Rattle.walk.proofs.View.{view-of}
 use Rattle.walk.proofs.Possible.{step-possible}
-use Rattle.walk.proofs.Draws.{not-taken, not-refused, not-ended, not-palette, not-quiet, not-heard}
+use Rattle.walk.proofs.Draws.{not-taken, not-refused, not-ended, not-quiet, not-heard}
 
 -- ---- one way
 
@@ -80,6 +84,12 @@ through d m n h l =
 
 -- ---- no step is unfinished
 
+-- a palette opcode makes two whole palettes at most
+pub colours-few : (kind : ℕ) (body : List ℕ) {u : Update} → Colours kind body u → (n : ℕ) → verdictFor u n ≡ accept → length (u .stores) ≤ 1536
+colours-few kind body (gradient e) n v = gradients-few body n v
+colours-few kind body (entries e) n v = entries-few body n v
+colours-few kind body (masks e) n v = groups-few body
+
 -- an answer "unfinished" is one of a drawing
 stuck : (x : Answer) (s : State) → x ≡ unfinished s → Drew x
 unfolding Drew
@@ -115,14 +125,34 @@ module _ (film : List ℕ) (st : State) (allowed : Allowed) (big : most ≤ allo
       by true e = second-done p map packet l s e
       by false e = second-done p map packet (swap l) s e
 
-  done : {l : Lent} {o : Outcome} → View film st allowed l o → (s : State) → o .step .answer ≡ unfinished s → ⊥
+  update-done : (p : ℕ) (u : Update) (l : Lent) → (verdictOn u (l .palette) ≡ accept → length (u .stores) ≤ 1536) → (s : State)
+      → update st p u (allowed .stores) l .step .answer ≡ unfinished s → ⊥
+  unfolding paletteStep changeBy changeOf
+  update-done p u l few s = by (verdictOn u (l .palette)) few
+    where
+      by : (v : Verdict) → (v ≡ accept → length (u .stores) ≤ 1536) → paletteStep st p (changeBy v (u .stores) (allowed .stores)) .answer ≡ unfinished s → ⊥
+      by accept f q =
+          let h : length (u .stores) ≤ allowed .stores = omega (arith, f refl, big) in
+          let g = rw (le-ltb (allowed .stores) (length (u .stores)) h) at q in
+          let z : _≡_ {A = ℕ} 0 1 = cc in
+          omega arith
+      by (refuse n k) f q = let z : _≡_ {A = ℕ} 0 1 = cc in omega arith
+
+  map-done : (next : State) (l : Lent) (s : State) → mapTo st next (allowed .stores) l .step .answer ≡ unfinished s → ⊥
+  unfolding mapTo
+  map-done next l s q =
+      let g = rw (ne-eqb (allowed .stores) 0 (λ z. let y : ⊥ = omega (arith, z, big) in y)) at q in
+      let z : _≡_ {A = ℕ} 0 1 = cc in
+      omega arith
+
+  pub done : {l : Lent} {o : Outcome} → View film st allowed l o → (s : State) → o .step .answer ≡ unfinished s → ⊥
   unfolding hear
   done (refuses n k e) s q = not-refused n k (stuck _ s q)
   done (ends e v) s q = not-ended st (stuck _ s q)
   done (enters c e v) s q = not-taken _ (stuck _ s q)
   done {l} (sounds o a h) s q = not-heard st (endOf o) (heardBy (st .sound) (o .kind) (o .version) (bodyOf film o) (length (l .room))) (stuck _ s q)
-  done (maps o a u e) s q = not-taken _ (stuck _ s q)
-  done (colours o x a u c) s q = not-palette st (endOf o) _ (stuck _ s q)
+  done {l} (maps o a u e) s q = map-done _ l s q
+  done {l} (colours o x a u c) s q = update-done (endOf o) x l (λ v. colours-few (o .kind) (bodyOf film o) c (length (l .palette)) v) s q
   done (undrawn o a u e m) s q = not-refused 9 0 (stuck _ s q)
   done {l} (draws o start long a u e m c) s q = on-done (endOf o) (part film start (start + long)) (packetOf film o) l s q
   done (others o a u x) s q = not-quiet (length film) st (o .kind) (o .version) (bodyOf film o) (endOf o) (stuck _ s q)

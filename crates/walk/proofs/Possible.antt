@@ -10,13 +10,15 @@ use lib.Dec.{eqb, ltb}
 use lib.ListN.{length, drop}
 use Rattle.words.specs.Word.{wordAt}
 use Rattle.words.proofs.Tests.{first, not-first}
-use Rattle.refusal.specs.Number.{Verdict, accept, refuse}
+use Rattle.refusal.specs.Number.{accept, refuse}
 use Rattle.packet.specs.declared.Touched.{Touched}
 use Rattle.packet.specs.Verdict.{legal, legalSize}
 use Rattle.stores.specs.Calls.{Answer, whole, unfinished, refusal}
 use Rattle.draw.specs.declared.Allowed.{Allowed}
 use Rattle.draw.specs.Call.{Reason, request, report}
 use Rattle.stores.specs.Stores.{memory}
+use Rattle.palette.specs.Update.{Change}
+use Rattle.palette.specs.Update as palette
 use Rattle.sound.specs.declared.Format.{Format}
 use Rattle.sound.specs.declared.Format.the-variants.{Unknown, Known}
 use Rattle.sound.specs.declared.Sound.{Sound}
@@ -31,8 +33,9 @@ use Rattle.state.specs.Moves.{cursorBehind, cursorAtEnd, at, behind, atEnd, siz
 use Rattle.state.specs.State.{possibleSize, mapInside, possible, boundsVerdict, stateVerdict}
 use Rattle.next.proofs.Standing.{found-chunk}
 use Rattle.next.proofs.Standing as next
-use Rattle.opcodes.specs.Opcodes.{taken, refused, sizeAnswer, colourOf, quietAnswer, heardStep, paletteAnswer, drawnAs}
-use Rattle.film.specs.Film.{Lent, swap, Outcome, after, called, drawSecond, drawOn, heardBy, hear, stepOf}
+use Rattle.opcodes.specs.Opcodes.{taken, refused, stored, quiet, sizeAnswer, colourOf, quietAnswer, heardStep, drawnAs}
+use Rattle.opcodes.specs.Opcodes as step
+use Rattle.film.specs.Film.{Lent, withPictures, swap, Outcome, after, called, drawSecond, drawOn, paletteStep, mapTo, heardBy, hear, stepOf}
 use Rattle.walk.specs.Possible.{OfState, Follows}
 use Rattle.walk.specs.Draws.{bodyOf}
 use Rattle.walk.specs.View.{View, refuses, ends, enters, sounds, maps, colours, undrawn, draws, others, endOf}
@@ -244,10 +247,20 @@ module _ (film : List ℕ) (st : State) (v : stateVerdict st (length film) ≡ a
         by false false true = to-sent
         by false false false = to-behind
 
-    palette-given : (w : Verdict) → OfState To (paletteAnswer st p w)
-    unfolding paletteAnswer OfState
-    palette-given accept = to-behind
-    palette-given (refuse n i) = tt
+    palette-given : (x : Change) → OfState To (paletteStep st p x .answer)
+    unfolding paletteStep OfState
+    palette-given (palette.whole n) = to-behind
+    palette-given (palette.unfinished n) = record { possible = v; stream = refl }
+    palette-given (palette.refused n i) = tt
+
+    map-given : (m : Map) → mapInside m (length film) ≡ true → (n : ℕ) (l : Lent) → OfState To (mapTo st (mapped st p m) n l .step .answer)
+    unfolding mapTo OfState
+    map-given m h n l = by (eqb n 0)
+      where
+        by : (b : Bool)
+            → OfState To (cond b (after (quiet (step.unfinished st)) l) (after (stored (taken (mapped st p m)) 1) (withPictures l (l .first) (l .second) 0)) .step .answer)
+        by true = record { possible = v; stream = refl }
+        by false = to-mapped m h
 
     heard-given : (x : sound.Step) → Tuned (st .sound) x → OfState To (heardStep st p (answer x) .answer)
     unfolding heardStep answer OfState Tuned
@@ -290,7 +303,7 @@ module _ (film : List ℕ) (st : State) (allowed : Allowed) (l : Lent) where
       (tuned-heard (st .sound) (both film st (a .accepted) .1) (o .kind) (o .version) (bodyOf film o) (length (l .room)))
   given (maps o a u e) =
       let h : o .start + (endOf o - o .start) ≤ length film = omega (arith, a .ready .inside) in
-      to-mapped film st (a .accepted) (endOf o) (a .ready .within) (Part (o .start) (endOf o - o .start)) (le-leb _ _ h)
+      map-given film st (a .accepted) (endOf o) (a .ready .within) (Part (o .start) (endOf o - o .start)) (le-leb _ _ h) (allowed .stores) l
   given (colours o x a u c) = palette-given film st (a .accepted) (endOf o) (a .ready .within) _
   given (undrawn o a u e m) = tt
   given (draws o start long a u e m n) = on-given film st (a .accepted) (endOf o) (a .ready .within) _ _ allowed l

@@ -18,7 +18,7 @@ use Rattle.draw.specs.Call.{packetOf as packetIn}
 use Rattle.book.proofs.Rows.{rows-unchanged}
 use Rattle.state.specs.declared.State.{State}
 use Rattle.opcodes.specs.Opcodes.{drawnAs, drawnStep}
-use Rattle.film.specs.Film.{Lent, swap, Outcome, called, drawSecond, drawOn, part, hear}
+use Rattle.film.specs.Film.{Lent, swap, Outcome, called, drawSecond, drawOn, part, mapTo, hear}
 use Rattle.walk.specs.Draws.{packetOf}
 use Rattle.walk.specs.View.{endOf, View, refuses, ends, enters, sounds, maps, colours, undrawn, draws, others}
 use Rattle.walk.specs.Rows.{PixelKept, Unchanged}
@@ -64,12 +64,13 @@ module _ (film : List ℕ) (st : State) (n : Allowed) (t : ℕ) where
       (λ o. let k = second-keeps p map packet (swap l) o in record { first = k .second; second = k .first })
 
   view-keeps : {l : Lent} {o : Outcome} → View film st n l o → Keeps (st .columns) t l o
-  unfolding hear
+  unfolding hear mapTo
   view-keeps {l} (refuses k b e) = keeps-all (st .columns) t l _ refl refl
   view-keeps {l} (ends e v) = keeps-all (st .columns) t l _ refl refl
   view-keeps {l} (enters c e v) = keeps-all (st .columns) t l _ refl refl
   view-keeps {l} (sounds o a h) = keeps-all (st .columns) t l _ refl refl
-  view-keeps {l} (maps o a u e) = keeps-all (st .columns) t l _ refl refl
+  view-keeps {l} (maps o a u e) =
+      keeps-by (st .columns) t l (eqb (n .stores) 0) _ _ (keeps-all (st .columns) t l _ refl refl) (keeps-all (st .columns) t l _ refl refl)
   view-keeps {l} (colours o x a u c) = keeps-all (st .columns) t l _ refl refl
   view-keeps {l} (undrawn o a u e m) = keeps-all (st .columns) t l _ refl refl
   view-keeps {l} (draws o start long a u e m c) = on-keeps (endOf o) (part film start (start + long)) (packetOf film o) l

@@ -22,8 +22,8 @@ use Rattle.heads.specs.declared.Opcode.{Opcode}
 use Rattle.next.specs.Next.{Standing, on, nextOf}
 use Rattle.next.specs.Next as found
 use Rattle.next.proofs.Standing.{found-ready}
-use Rattle.opcodes.specs.Opcodes.{taken, refused, quiet, quietAnswer}
-use Rattle.film.specs.Film.{Lent, withPictures, after, drawOn, part, drawBy, update, act, actOn, hear, takeOn, standing, stepOf}
+use Rattle.opcodes.specs.Opcodes.{refused, quiet, quietAnswer}
+use Rattle.film.specs.Film.{Lent, after, drawOn, part, drawBy, update, mapTo, act, actOn, hear, takeOn, standing, stepOf}
 use Rattle.walk.specs.Draws.{bodyOf, packetOf}
 use Rattle.walk.specs.View.{standsAt, endOf, AtOpcode, asSound, gradient, entries, masks, no-map, no-size, View, refuses, ends, enters, sounds, maps, colours, undrawn, draws, others}
 
@@ -54,11 +54,11 @@ module _ (film : List ℕ) (st : State) (allowed : Allowed) (l : Lent) where
       where
         by : (b15 b17 b11 b12 b13 : Bool) → eqb (o .kind) 15 ≡ b15 → eqb (o .kind) 17 ≡ b17 → eqb (o .kind) 11 ≡ b11 → eqb (o .kind) 12 ≡ b12 → eqb (o .kind) 13 ≡ b13
             → View film st allowed l
-            (cond b15 (after (quiet (taken (mapped st (endOf o) (Part (o .start) (endOf o - o .start))))) (withPictures l (l .first) (l .second) 0))
+            (cond b15 (mapTo st (mapped st (endOf o) (Part (o .start) (endOf o - o .start))) (allowed .stores) l)
             (cond b17 (drawBy (st .map) film st (bodyOf film o) (endOf o) allowed l)
-            (cond b11 (update st (endOf o) (createGradient (bodyOf film o)) l)
-            (cond b12 (update st (endOf o) (setPalette (bodyOf film o)) l)
-            (cond b13 (update st (endOf o) (setPaletteCompressed (bodyOf film o)) l)
+            (cond b11 (update st (endOf o) (createGradient (bodyOf film o)) (allowed .stores) l)
+            (cond b12 (update st (endOf o) (setPalette (bodyOf film o)) (allowed .stores) l)
+            (cond b13 (update st (endOf o) (setPaletteCompressed (bodyOf film o)) (allowed .stores) l)
             (after (quiet (quietAnswer (length film) st (o .kind) (o .version) (bodyOf film o) (endOf o))) l))))))
         by true b17 b11 b12 b13 e f g h i = maps o a u (eqb-true _ _ e)
         by false true b11 b12 b13 e f g h i = by-map (eqb-true _ _ f) (st .map) refl

@@ -1,12 +1,12 @@
 -- `step-moves`, `step-keeps`: of every step. `walked-far`, `walked-few`: of every walk.
 -- Assumes nothing.
-use mathlib.Core.Path.{_≡_, refl, ap, subst}
+use mathlib.Core.Path.{refl, ap, subst}
 use mathlib.Core.Bool.{Bool, true, false, cond}
 use mathlib.Core.List.{List}
 use Prim.Native.Nat.{ℕ, _+_, _*_, _≤_}
 use native.Mathlib.Omega.{arith}
-use lib.Dec.{eqb}
-use lib.ListN.{length}
+use lib.Dec.{eqb, ltb}
+use lib.ListN.{length, take}
 use Rattle.words.specs.Word.{wordAt}
 use Rattle.refusal.specs.Number.{Verdict, accept, refuse}
 use Rattle.packet.specs.declared.Touched.{Touched}
@@ -19,7 +19,8 @@ use Rattle.draw.specs.Drawing.{plan}
 use Rattle.draw.specs.declared.Allowed.{Allowed}
 use Rattle.draw.specs.Call.{Request, request, packetOf, drawVerdict, Reason, comes}
 use Rattle.listed.specs.Store.{applied}
-use Rattle.palette.specs.Update.{Update, verdictOn, onAccept, paletteAfter}
+use Rattle.palette.specs.Update.{Update, verdictOn, changeOf, changeBy, onAccept, paletteAfter}
+use Rattle.palette.specs.Update as palette
 use Rattle.state.specs.declared.Map.{Map}
 use Rattle.state.specs.declared.State.{State}
 use Rattle.state.specs.Moves.{cursorBehind, cursorAtEnd, at, behind, atEnd, sized, sent, mapped, heard, finished}
@@ -28,8 +29,8 @@ use Rattle.sound.specs.Step as sound
 use Rattle.sound.specs.Sound.{answer}
 use Rattle.heads.specs.declared.Opcode.{Opcode}
 use Rattle.next.proofs.Standing.{possible, found-chunk}
-use Rattle.opcodes.specs.Opcodes.{Answer, Step, taken, whole, unfinished, ended, refused, quiet, sizeAnswer, colourOf, quietAnswer, heardStep, paletteAnswer, drawnAs, drawnStep}
-use Rattle.film.specs.Film.{Lent, withPalette, withPictures, withRoom, swap, Outcome, after, called, drawOn, update, heardBy, hear, stepOf}
+use Rattle.opcodes.specs.Opcodes.{Answer, Step, taken, whole, unfinished, ended, refused, stored, quiet, sizeAnswer, colourOf, quietAnswer, heardStep, drawnAs, drawnStep}
+use Rattle.film.specs.Film.{Lent, withPalette, withPictures, withRoom, swap, Outcome, after, called, drawOn, paletteStep, update, mapTo, heardBy, hear, stepOf}
 use Rattle.walk.specs.Draws.{bodyOf}
 use Rattle.walk.specs.View.{endOf, AtOpcode, View, refuses, ends, enters, sounds, maps, colours, undrawn, draws, others}
 use Rattle.walk.specs.Walk.{Forward, Moves, Still, Keeps, GoesTo, Walked, none, more}
@@ -97,14 +98,29 @@ module _ (film : List ℕ) (st : State) (p : ℕ) (rises : st .cursor .position 
   quiet-good : (l : Lent) (x : Answer) → Moves (length film) st x → Good (length film) st l (after (quiet x) l)
   quiet-good l x m = record { moves = m; keeps = λ s. refl }
 
-  update-good : (u : Update) (l : Lent) → Good (length film) st l (update st p u l)
-  unfolding paletteAnswer paletteAfter onAccept Moves Still
-  update-good u l = by (verdictOn u (l .palette)) refl
+  -- a palette's change that is not refused is done, or keeps the state
+  change-good : (n m : ℕ) (l k : Lent) (b : Bool) → Good (length film) st l (after (paletteStep st p (cond b (palette.unfinished n) (palette.whole m))) k)
+  unfolding paletteStep Moves Still
+  change-good n m l k true = record { moves = refl; keeps = λ s. absurd s }
+  change-good n m l k false = record { moves = on-behind; keeps = λ s. absurd s }
+
+  update-good : (u : Update) (n : ℕ) (l : Lent) → Good (length film) st l (update st p u n l)
+  unfolding paletteStep changeBy changeOf paletteAfter onAccept Moves
+  update-good u n l = by (verdictOn u (l .palette))
     where
-      by : (v : Verdict) → verdictOn u (l .palette) ≡ v
-          → Good (length film) st l (after (quiet (paletteAnswer st p v)) (withPalette l (onAccept v (applied (u .stores) (l .palette)) (l .palette))))
-      by accept e = record { moves = on-behind; keeps = λ s. absurd s }
-      by (refuse n k) e = quiet-good l (refused n k) tt
+      by : (v : Verdict)
+          → Good (length film) st l (after (paletteStep st p (changeBy v (u .stores) n)) (withPalette l (onAccept v (applied (take n (u .stores)) (l .palette)) (l .palette))))
+      by accept = change-good n (length (u .stores)) l _ (ltb n (length (u .stores)))
+      by (refuse m k) = quiet-good l (refused m k) tt
+
+  map-good : (m : Map) (n : ℕ) (l : Lent) → Good (length film) st l (mapTo st (mapped st p m) n l)
+  unfolding mapTo Moves Still
+  map-good m n l = by (eqb n 0)
+    where
+      by : (b : Bool)
+          → Good (length film) st l (cond b (after (quiet (unfinished st)) l) (after (stored (taken (mapped st p m)) 1) (withPictures l (l .first) (l .second) 0)))
+      by true = record { moves = refl; keeps = λ s. absurd s }
+      by false = record { moves = on-mapped m; keeps = λ s. absurd s }
 
   -- 11, on the second picture
   plan-good : (d : Plan) (t : Touched) (l : Lent) (v : Call Reason)
@@ -165,8 +181,8 @@ module _ (film : List ℕ) (st : State) (n : Allowed) (l : Lent) where
       let f = found-chunk film st (length (l .palette)) (length (l .first)) (length (l .second)) c e in
       record { moves = record { rises = omega (arith, f .1, f .2 .behind); ordered = f .2 .ordered; inside = f .2 .inside }; keeps = λ s. refl }
   good (sounds o a h) = hear-good film st (endOf o) (rises o a) (a .ready .within) (inside o a) (o .kind) (o .version) (bodyOf film o) l
-  good (maps o a u e) = record { moves = on-mapped film st (endOf o) (rises o a) (a .ready .within) (inside o a) _; keeps = λ s. absurd s }
-  good (colours o x a u c) = update-good film st (endOf o) (rises o a) (a .ready .within) (inside o a) x l
+  good (maps o a u e) = map-good film st (endOf o) (rises o a) (a .ready .within) (inside o a) _ (n .stores) l
+  good (colours o x a u c) = update-good film st (endOf o) (rises o a) (a .ready .within) (inside o a) x (n .stores) l
   good (undrawn o a u e m) = record { moves = tt; keeps = λ s. refl }
   good (draws o start long a u e m c) = on-good film st (endOf o) (rises o a) (a .ready .within) (inside o a) _ _ n l
   good (others o a u x) =

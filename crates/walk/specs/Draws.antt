@@ -1,4 +1,4 @@
--- Which films, states and lent memory lead to a drawing that is not refused: a step answers "whole" or "unfinished" exactly when this holds
+-- Which films, states and lent memory lead to a drawing that is not refused: a step at opcode 11 answers "whole" or "unfinished" exactly when this holds
 -- (`proofs/Draws`), whatever number of stores it is allowed, by the bytes that may be left over.
 -- Assumes nothing.
 use mathlib.Core.Path.{_≡_}
@@ -34,7 +34,13 @@ pub record Draws (spare : ℕ) (film : List ℕ) (st : State) (l : Lent) : Type 
   pub accepted : Accepts spare (st .columns) (st .rows) (part film start (start + long)) (packetOf film found)
   pub within : l .place ≤ blocks (packet (st .columns) (st .rows) (part film start (start + long)) (packetOf film found))
 
--- an answer of a drawing that is not refused
+-- opcode 11 stands where the state is
+pub record AtPacket (film : List ℕ) (st : State) (l : Lent) : Type 0 where
+  pub found : Opcode
+  pub stands : nextOf film st (length (l .palette)) (length (l .first)) (length (l .second)) ≡ opcode found
+  pub is-11 : found .kind ≡ 17
+
+-- an answer of a drawing that is not refused. (0B, 0C, 0D and 0F may be unfinished, too.)
 unfoldable pub Drew : Answer → Type 0
 Drew (taken s) = ⊥
 Drew (whole s) = Unit

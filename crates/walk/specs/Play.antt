@@ -12,7 +12,7 @@ use Rattle.state.specs.State.{shownOf}
 use Rattle.opcodes.specs.Opcodes.{Answer, taken, whole, unfinished, ended, refused}
 use Rattle.film.specs.Film.{Lent, Outcome, stepOf}
 
--- the stores that are always enough for a call: 65 a block, 4,800 blocks
+-- the stores that are always enough for a call: 65 a block, 4,800 blocks. (No palette opcode makes more than 1,536.)
 abbrev pub most : ℕ
 most = 312000
 

@@ -23,7 +23,7 @@ use Rattle.heads.specs.Heads.{hears}
 use Rattle.next.specs.Next.{Standing, nextOf, Ready}
 use Rattle.next.specs.Next as found
 use Rattle.opcodes.specs.Opcodes.{taken, ended, refused, quiet, quietAnswer}
-use Rattle.film.specs.Film.{Lent, withPictures, Outcome, after, drawOn, part, update, hear}
+use Rattle.film.specs.Film.{Lent, Outcome, after, drawOn, part, update, mapTo, hear}
 use Rattle.walk.specs.Draws.{bodyOf, packetOf}
 
 -- what stands where a state is, with what is lent
@@ -72,9 +72,10 @@ pub data View (film : List ℕ) (st : State) (allowed : Allowed) (l : Lent) : Ou
   sounds : (o : Opcode) → AtOpcode film st l o → asSound st o ≡ true → View film st allowed l (hear st (o .kind) (o .version) (bodyOf film o) (endOf o) l)
   -- 0F
   maps : (o : Opcode) → AtOpcode film st l o → asSound st o ≡ false → o .kind ≡ 15
-      → View film st allowed l (after (quiet (taken (mapped st (endOf o) (Part (o .start) (endOf o - o .start))))) (withPictures l (l .first) (l .second) 0))
+      → View film st allowed l (mapTo st (mapped st (endOf o) (Part (o .start) (endOf o - o .start))) (allowed .stores) l)
   -- 0B, 0C, 0D
-  colours : (o : Opcode) (u : Update) → AtOpcode film st l o → asSound st o ≡ false → Colours (o .kind) (bodyOf film o) u → View film st allowed l (update st (endOf o) u l)
+  colours : (o : Opcode) (u : Update) → AtOpcode film st l o → asSound st o ≡ false → Colours (o .kind) (bodyOf film o) u
+      → View film st allowed l (update st (endOf o) u (allowed .stores) l)
   -- 11: refused by 9, or a drawing call with the pending map
   undrawn : (o : Opcode) → AtOpcode film st l o → asSound st o ≡ false → o .kind ≡ 17 → Unmapped st → View film st allowed l (after (quiet (refused 9 0)) l)
   draws : (o : Opcode) (start long : ℕ) → AtOpcode film st l o → asSound st o ≡ false → o .kind ≡ 17 → st .map ≡ Part start long → (st .columns ≡ 0 → ⊥)

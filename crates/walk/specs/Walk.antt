@@ -1,6 +1,6 @@
 -- What a host may rely on, of every step by the function that the contract of `film::step` cites: a refused step and one at the end change nothing that
 -- is lent, the cursor never goes back, and a film of n bytes is walked in at most n / 4 steps that are taken or whole. (Between them a drawing that is
--- allowed 65 stores or more a call goes on: `progress` of demand 3.)
+-- allowed 65 stores or more a call goes on: `progress` of demand 3. A palette opcode is done where all its stores are allowed, at most 1,536.)
 -- Assumes nothing.
 use mathlib.Core.Path.{_≡_}
 use mathlib.Core.List.{List}

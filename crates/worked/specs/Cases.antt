@@ -40,7 +40,7 @@ offset bias v rest = (v .right + bias - v .left) ∷ ((v .down + bias - v .up) �
 
 -- the palette after opcode 0B with the gradient 12, 5, 4 for red and blue and none for red and green, on one whose bytes are all 9
 unfoldable pub palette : List ℕ
-palette = paletteAfter (createGradient (12 ∷ 5 ∷ 4 ∷ 0 ∷ 0 ∷ 0 ∷ [])) (replicate 768 9)
+palette = paletteAfter (createGradient (12 ∷ 5 ∷ 4 ∷ 0 ∷ 0 ∷ 0 ∷ [])) 312000 (replicate 768 9)
 
 -- component c of entry e
 abbrev pub entry : ℕ → ℕ → ℕ

@@ -163,7 +163,7 @@ impl Proved {
         let room = vec![0; mve::ROOM_BYTES];
         let mut program = Proved { film, states: Vec::new(), palette: [0; 768], room, bytes: 0 };
         let mut state = mve::open(&program.film, STREAM).expect("a header");
-        while let Ok(mve::Step::Taken { state: next, bytes }) = program.step(state) {
+        while let Ok(mve::Step::Taken { state: next, bytes, .. }) = program.step(state) {
             program.states.extend((bytes > 0).then_some(state));
             state = next;
         }
@@ -172,7 +172,7 @@ impl Proved {
 
     fn step(&mut self, state: mve::State) -> Result<mve::Step, mve::Refusal> {
         let Proved { film, palette, room, .. } = self;
-        mve::step(film, state, palette, &mut [], &mut [], &mut 0, room, 0)
+        mve::step(film, state, palette, &mut [], &mut [], &mut 0, room, 0, mve::Form::Default)
     }
 }
 
@@ -210,7 +210,7 @@ impl Second {
         let room = vec![0; mve::ROOM_BYTES];
         let mut program = Second { film, states: Vec::new(), palette: [0; 768], room, bytes: 0 };
         let mut state = second::open(&program.film, STREAM).expect("a header");
-        while let second::Stepped::Taken(next, bytes) = program.step(state) {
+        while let second::Stepped::Taken(next, _, bytes) = program.step(state) {
             program.states.extend((bytes > 0).then_some(state));
             state = next;
         }
@@ -232,7 +232,7 @@ impl Program for Second {
 
     fn run(&mut self, number: usize) -> Result<(), String> {
         match self.step(self.states[number]) {
-            second::Stepped::Taken(_, bytes) => {
+            second::Stepped::Taken(_, _, bytes) => {
                 self.bytes = bytes;
                 Ok(())
             }

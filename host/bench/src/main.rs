@@ -1,9 +1,10 @@
 //! Times of the proved drawing call beside libavcodec's decoder, the second decoder and a copy of
 //! the picture, all on the same frames, whose pictures are compared; and of the film step on packets
-//! of sound beside the same, with every sample compared.
+//! of sound beside the same, with every sample compared; and of the film step on palettes.
 
 mod allowance;
 mod blocks;
+mod colours;
 mod fault;
 #[cfg(libavcodec)]
 mod ffi;
@@ -18,6 +19,7 @@ mod table;
 
 use allowance::Cuts;
 use blocks::{Line, Series};
+use colours::Colours;
 use hearing::Hearing;
 use kind::{frames, Kind, KINDS, MIX, PRIMERS, SAME};
 use measure::Bench;
@@ -103,6 +105,7 @@ struct Run {
     cuts: Vec<Cuts>,
     series: Vec<Series>,
     hearings: Vec<Hearing>,
+    colours: Vec<Colours>,
 }
 
 impl Run {
@@ -114,12 +117,13 @@ impl Run {
             [SAME, MIX].map(|kind| Cuts::new(kind, seed)).into_iter().collect();
         let (benches, cuts) = (benches?, cuts?);
         let (series, hearings) = (Series::all(seed)?, Hearing::all(seed)?);
-        let mut run = Run { benches, cuts, series, hearings };
+        let mut run = Run { benches, cuts, series, hearings, colours: Colours::all(seed)? };
         for round in 0..rounds {
             run.benches.iter_mut().try_for_each(|bench| bench.round(round))?;
             run.cuts.iter_mut().try_for_each(|cuts| cuts.round(round))?;
             run.series.iter_mut().for_each(Series::round);
             run.hearings.iter_mut().try_for_each(|hearing| hearing.round(round))?;
+            run.colours.iter_mut().try_for_each(|colours| colours.round(round))?;
         }
         Ok(run)
     }
@@ -127,12 +131,14 @@ impl Run {
 
 /// Compares the pictures of everything that is measured, and the sound.
 fn quick(seed: u64, rounds: usize) -> Result<(), String> {
-    let Run { benches, cuts, series, hearings: _ } = Run::new(seed, rounds)?;
+    let Run { benches, cuts, series, hearings: _, colours } = Run::new(seed, rounds)?;
     let (kinds, lists, sizes) = (benches.len(), cuts.len() * cuts[0].pieces.len(), series.len());
     println!(
         "bench: seed {seed}: {kinds} kinds of frames, {lists} lists of calls, {sizes} sizes: \
          the pictures are those of the second decoder"
     );
+    let opcodes: Vec<&str> = colours.iter().map(|colours| colours.name).collect();
+    println!("bench: the palettes of {} are those of the second decoder", opcodes.join(", "));
     match libav::version() {
         Ok(version) => println!("bench: libavcodec {version} draws the same of every kind"),
         Err(why) => println!("bench: not compared with libavcodec: {why}"),
@@ -151,7 +157,7 @@ fn quick(seed: u64, rounds: usize) -> Result<(), String> {
 
 /// Measures everything and prints it.
 fn tables(markdown: bool, seed: u64, rounds: usize) -> Result<(), String> {
-    let Run { benches, cuts, series, hearings } = Run::new(seed, rounds)?;
+    let Run { benches, cuts, series, hearings, colours } = Run::new(seed, rounds)?;
     let measured: Vec<_> = benches.iter().map(Bench::measured).collect();
     let pieces = cuts.into_iter().flat_map(|cuts| cuts.pieces).collect::<Vec<_>>();
     let points: Vec<_> = series.iter().map(Series::point).collect();
@@ -162,6 +168,7 @@ fn tables(markdown: bool, seed: u64, rounds: usize) -> Result<(), String> {
         ("Machine and run", report::run(seed, rounds)),
         ("Nanoseconds a pixel", report::kinds(&measured).text(markdown)),
         ("Nanoseconds a sample", report::sounds(&hearings).text(markdown)),
+        ("Nanoseconds a store of a palette", report::palettes(&colours).text(markdown)),
         ("Targets", format!("The project's targets:\n\n{targets}")),
         ("By the stores that a call is allowed", report::allowances(&pieces).text(markdown)),
         ("By the number of blocks", format!("{blocks}\n\n{}", report::line(&points, line))),

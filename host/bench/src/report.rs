@@ -2,6 +2,7 @@
 
 use crate::allowance::Pieces;
 use crate::blocks::{Line, Point};
+use crate::colours::Colours;
 use crate::hearing::Hearing;
 use crate::kind::MIX;
 use crate::libav;
@@ -47,6 +48,19 @@ pub fn sounds(hearings: &[Hearing]) -> Table {
         let mut row = vec![channels_text(hearing), hearing.samples_a_packet().to_string()];
         row.extend(hearing.measured().into_iter().map(|(_, time)| number(time, 3)));
         row.extend(step_ratio(hearing).map(|ratio| number(ratio, 2)));
+        table.row(row);
+    }
+    table
+}
+
+/// Nanoseconds a store of each opcode of the palette, by program.
+pub fn palettes(colours: &[Colours]) -> Table {
+    let programs = colours[0].measured().map(|(name, _)| name.to_owned());
+    let heading = ["opcode", "stores"].map(str::to_owned).into_iter();
+    let mut table = Table::new(heading.chain(programs).collect());
+    for colours in colours {
+        let mut row = vec![colours.name.to_owned(), colours.stores().to_string()];
+        row.extend(colours.measured().map(|(_, time)| number(time, 3)));
         table.row(row);
     }
     table

@@ -14,6 +14,8 @@ use std::fmt::Debug;
 
 /// Bytes of a room that is always enough.
 const ROOM: usize = 131_070;
+/// Stores that are always enough for a step.
+const STORES: usize = 312_000;
 
 impl<A: Decoder, B: Decoder> Comparison<A, B> {
     /// Compares the answer to an opening, with the state, and the palette and the place that it
@@ -81,7 +83,8 @@ impl Left {
 }
 
 /// A decoder whose opening is by separate calls: it opens, and steps until there is a size. Each step
-/// is lent other pictures and another room that is enough.
+/// is lent other pictures and another room that is enough, and is allowed another number of stores that
+/// is enough.
 #[derive(Clone, Copy, Debug)]
 pub struct Separate<D>(pub D);
 
@@ -126,7 +129,7 @@ impl<D: Decoder> Decoder for Separate<D> {
             walk.picture_a.resize(given.position % 5, 1);
             walk.picture_b.resize(given.position % 3, 2);
             walk.room.resize(ROOM + given.position % 7, 3);
-            walk.allowed = given.position;
+            walk.allowed = STORES + given.position % 11;
             let refusal = match self.0.step(CallForm::Default, film, &mut walk) {
                 Ok(Step::Ended) => Refusal::new(refusal::NO_SIZE),
                 Ok(_) => continue,

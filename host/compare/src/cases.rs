@@ -1,6 +1,7 @@
-//! The cases: packets, lists of calls, films and films with sound, each made from a seed and a number
-//! of its own, so that any one can be made again by itself.
+//! The cases: packets, lists of calls, films, films with sound and films that are cut, each made from a
+//! seed and a number of its own, so that any one can be made again by itself.
 
+use crate::cuts::CutFilm;
 use maker::calls::{self, Call, CallList};
 use maker::film::Film;
 use maker::packet::{self, Draft};
@@ -161,6 +162,24 @@ pub fn opening(seed: u64, number: u64) -> Opening {
     Opening { film, stream, palette, place }
 }
 
+/// The film of a case that is played through cuts, in either form: with pictures, with sound, or rich in
+/// palettes and maps; from its opening or, one in four, from a state in its middle.
+pub fn cut_film(seed: u64, number: u64) -> CutFilm {
+    let rng = &mut chance(seed, number);
+    let (stream, frames) = (rng.below(16), rng.below(4));
+    let made = match rng.below(3) {
+        0 => maker::film::with_frames(rng, frames),
+        1 => maker::sound::with_frames(rng, stream, frames),
+        _ => maker::colours::film(rng, frames),
+    };
+    let mut start = match rng.below(4) {
+        0 => states::middle(rng, &made),
+        _ => states::opening(rng, &made),
+    };
+    start.room = rng.bytes(if made.stream < NO_STREAM { states::ENOUGH_ROOM } else { 0 });
+    CutFilm { film: made.bytes(), form: rng.pick(&CallForm::ALL), start }
+}
+
 fn from_opening(rng: &mut Seeded, film: Vec<u8>) -> Walk {
     let size = size(&film);
     let pictures = [(); 2].map(|()| {
@@ -199,19 +218,21 @@ fn from_middle(rng: &mut Seeded, film: &Film) -> Walk {
 fn size(film: &[u8]) -> Size {
     let Ok(state) = reference::film::open(film, NO_STREAM) else { return Size::new(0, 0) };
     let (palette, picture_a, picture_b) = (vec![0; 768], Vec::new(), Vec::new());
-    let (place, room, allowed) = (0, Vec::new(), 0);
+    let (place, room, allowed) = (0, Vec::new(), 312_000);
     let mut walk = Start { state, palette, picture_a, picture_b, place, room, allowed };
-    while let Stepped::Taken(state, _) = walk.step(film) {
+    while let Stepped::Taken(state, ..) = walk.step(film) {
         walk.state = state;
     }
     Size::new(walk.state.columns, walk.state.rows)
 }
 
-/// Any allowances, all stores at each step, or few at each.
+/// Any allowances, all stores at each step, or few at most of them: with few at each a long palette
+/// would never be done (02, W11).
 fn allowances(rng: &mut Seeded, blocks: usize) -> Vec<usize> {
     let style = rng.below(4);
     let allowance = |_| match style {
         0 => 312_000,
+        1 if rng.one_in(8) => rng.between(1500, 1540),
         1 => rng.between(0, 400),
         _ => calls::allowance(rng, blocks),
     };
@@ -227,7 +248,7 @@ fn forms(rng: &mut Seeded) -> Vec<CallForm> {
 
 /// The source of chance of one case. Cases of one seed start side by side, those of two seeds far
 /// apart.
-fn chance(seed: u64, number: u64) -> Seeded {
+pub(crate) fn chance(seed: u64, number: u64) -> Seeded {
     Seeded::new(Seeded::new(seed).number().wrapping_add(number))
 }
 

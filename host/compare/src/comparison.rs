@@ -74,6 +74,7 @@ impl<A: Decoder, B: Decoder> Comparison<A, B> {
                 Kind::Films => self.walk(&cases::film(seed, number)),
                 Kind::Sounds => self.walk(&cases::sound(seed, number)),
                 Kind::Openings => self.begin(&cases::opening(seed, number)),
+                Kind::Cuts => self.cut_film(&cases::cut_film(seed, number), number),
             };
             compared.map_err(|difference| Found {
                 kind,
@@ -99,12 +100,14 @@ pub enum Kind {
     Sounds,
     /// Films to open up to their size.
     Openings,
+    /// Films to play through cuts.
+    Cuts,
 }
 
 impl Kind {
     /// Every kind.
-    pub const ALL: [Kind; 5] =
-        [Kind::Packets, Kind::Lists, Kind::Films, Kind::Sounds, Kind::Openings];
+    pub const ALL: [Kind; 6] =
+        [Kind::Packets, Kind::Lists, Kind::Films, Kind::Sounds, Kind::Openings, Kind::Cuts];
 }
 
 impl fmt::Display for Kind {
@@ -115,6 +118,7 @@ impl fmt::Display for Kind {
             Kind::Films => "films",
             Kind::Sounds => "sounds",
             Kind::Openings => "openings",
+            Kind::Cuts => "cuts",
         })
     }
 }

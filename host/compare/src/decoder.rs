@@ -25,12 +25,14 @@ pub type Walked = Result<Step, Refusal>;
 /// The kinds of a step that is not refused.
 #[derive(Clone, Copy, Debug, PartialEq, Eq)]
 pub enum Step {
-    /// A chunk head, or an opcode other than 11, is taken. With the bytes written to the room.
-    Taken(usize),
+    /// A chunk head, or an opcode other than 11, is taken. With the stores made and the bytes written to
+    /// the room.
+    Taken(usize, usize),
     /// Opcode 11 is taken and its frame drawn, with so many stores. With the rows that its packet
     /// touches.
     Whole(usize, Option<Rows>),
-    /// Opcode 11's frame is not drawn yet. With the stores made and the rows that its packet touches.
+    /// The stores allowed are too few. With the stores made and, of opcode 11, the rows that its packet
+    /// touches.
     Unfinished(usize, Option<Rows>),
     /// The film is at its end.
     Ended,
@@ -117,16 +119,13 @@ impl Decoder for Proved {
 
     fn step(&self, form: CallForm, film: &[u8], walk: &mut Start) -> Walked {
         let Start { state, palette, picture_a, picture_b, place, room, allowed } = walk;
-        let (found, allowed) = (own_state(state), *allowed);
-        let step = match form {
-            CallForm::Default => mve::step,
-            CallForm::Strict => mve::step_strict,
-        };
-        let stepped = step(film, found, palette, picture_a, picture_b, place, room, allowed)
+        let (found, allowed, form) = (own_state(state), *allowed, own_form(form));
+        let (a, b) = (picture_a, picture_b);
+        let stepped = mve::step(film, found, palette, a, b, place, room, allowed, form)
             .map_err(common_refusal)?;
         *state = common_state(stepped.state());
         Ok(match stepped {
-            mve::Step::Taken { bytes, .. } => Step::Taken(bytes),
+            mve::Step::Taken { stores, bytes, .. } => Step::Taken(stores, bytes),
             mve::Step::Whole { stores, rows, .. } => Step::Whole(stores, common_rows(rows)),
             mve::Step::Unfinished { stores, rows, .. } => {
                 Step::Unfinished(stores, common_rows(rows))
@@ -137,6 +136,13 @@ impl Decoder for Proved {
 
     fn shown<'a>(&self, state: &State, a: &'a [u8], b: &'a [u8]) -> &'a [u8] {
         mve::shown(&own_state(state), a, b)
+    }
+}
+
+fn own_form(form: CallForm) -> mve::Form {
+    match form {
+        CallForm::Default => mve::Form::Default,
+        CallForm::Strict => mve::Form::Strict,
     }
 }
 
@@ -214,7 +220,7 @@ impl Decoder for Second {
 
     fn step(&self, form: CallForm, film: &[u8], walk: &mut Start) -> Walked {
         let (step, state) = match walk.step_as(form, film) {
-            Stepped::Taken(state, bytes) => (Step::Taken(bytes), state),
+            Stepped::Taken(state, stores, bytes) => (Step::Taken(stores, bytes), state),
             Stepped::Whole(state, stores, rows) => (Step::Whole(stores, rows), state),
             Stepped::Unfinished(state, stores, rows) => (Step::Unfinished(stores, rows), state),
             Stepped::Ended(state) => (Step::Ended, state),

@@ -34,6 +34,12 @@ pub enum Part {
     Room(usize),
     /// The part of a lent picture that is shown.
     Shown,
+    /// The pictures that a film sends.
+    Sent,
+    /// The samples of a whole film.
+    Samples,
+    /// How a film ends.
+    End,
 }
 
 impl fmt::Display for Part {
@@ -56,6 +62,9 @@ impl fmt::Display for Part {
             }
             Part::Room(index) => write!(f, "byte {index} of the room"),
             Part::Shown => write!(f, "shown picture"),
+            Part::Sent => write!(f, "pictures that are sent"),
+            Part::Samples => write!(f, "samples of the film"),
+            Part::End => write!(f, "end of the film"),
         }
     }
 }

@@ -139,7 +139,7 @@ impl<'a> Seen<'a> {
     fn keeps(&self, found: &Start) -> Result<(), Difference> {
         let (written, rows) = match self.answer {
             Ok(Step::Ended) | Err(_) => return self.leaves("as found", found),
-            Ok(Step::Taken(bytes)) => (bytes.min(found.room.len()), None),
+            Ok(Step::Taken(_, bytes)) => (bytes.min(found.room.len()), None),
             Ok(Step::Whole(_, rows) | Step::Unfinished(_, rows)) => (0, rows),
         };
         self.keeps_pictures(found, rows)?;

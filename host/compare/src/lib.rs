@@ -9,9 +9,11 @@
 //! the case; a [`Tally`] counts what the cases reached.
 //!
 //! Openings up to the size are compared as one call, and [`Separate`] makes them by separate calls.
+//! [`cuts`] plays films whose steps are cut and called again.
 //!
 //! [`FromDefault`] is the strict form as it follows from the default one: with it the strict form of a
-//! decoder is compared. [`origins`] compares where pixels come from.
+//! decoder is compared. [`origins`] compares where pixels come from. [`numbers`] compares the film's calls with states and answers as numbers of any
+//! count, as they cross to C.
 //!
 //! In comments "01" is the scope document, "02" that of the requests; docs/RULES.md has
 //! their rules.
@@ -19,15 +21,18 @@
 pub mod begin;
 pub mod cases;
 pub mod comparison;
+pub mod cuts;
 pub mod decoder;
 pub mod difference;
 mod film;
 pub mod forms;
+pub mod numbers;
 pub mod origins;
 pub mod tally;
 
 pub use begin::Separate;
 pub use comparison::{Comparison, Found, Kind};
+pub use cuts::CutFilm;
 pub use decoder::{Answer, Begun, Checked, Decoder, Opened, Proved, Second, Step, Walked};
 pub use difference::{Difference, Part};
 pub use forms::FromDefault;

@@ -1,7 +1,9 @@
 //! A long comparison of the proved library with the second decoder, of its strict form with its default
 //! form, and of its opening call with separate calls, run by hand:
-//! `compare SEED COUNT [packets|lists|films|sounds|openings]`.
+//! `compare SEED COUNT [packets|lists|films|sounds|openings|cuts|numbers]`. The cases of `numbers` are states
+//! and answers as numbers of any count.
 
+use compare::numbers::{self, Reached};
 use compare::{Comparison, Found, FromDefault, Kind, Proved, Second, Separate};
 use std::env;
 use std::process::ExitCode;
@@ -12,8 +14,11 @@ const PROGRESS: Duration = Duration::from_secs(10);
 
 fn main() -> ExitCode {
     let arguments: Vec<String> = env::args().skip(1).collect();
+    if let Some((seed, count)) = parsed_numbers(&arguments) {
+        return by_numbers(seed, count);
+    }
     let Some((seed, count, kinds)) = parsed(&arguments) else {
-        eprintln!("usage: compare SEED COUNT [packets|lists|films|sounds|openings]");
+        eprintln!("usage: compare SEED COUNT [packets|lists|films|sounds|openings|cuts|numbers]");
         return ExitCode::from(2);
     };
     match compare(seed, count, &kinds) {
@@ -27,6 +32,28 @@ fn main() -> ExitCode {
             ExitCode::FAILURE
         }
     }
+}
+
+/// Seed and cases, where the kind is that of numbers.
+fn parsed_numbers(arguments: &[String]) -> Option<(u64, u64)> {
+    match arguments {
+        [seed, count, name] if name == "numbers" => Some((seed.parse().ok()?, count.parse().ok()?)),
+        _ => None,
+    }
+}
+
+fn by_numbers(seed: u64, count: u64) -> ExitCode {
+    let mut reached = Reached::default();
+    for number in 0..count {
+        let case = numbers::case(seed, number);
+        if let Err(difference) = numbers::compare(&Proved, &Second, &case, &mut reached) {
+            println!("difference in numbers, seed {seed}, case {number}, {difference}");
+            println!("again: compare {seed} {} numbers", number + 1);
+            return ExitCode::FAILURE;
+        }
+    }
+    println!("seed {seed}: {reached}: no difference");
+    ExitCode::SUCCESS
 }
 
 /// Seed, cases of each kind, and the kinds.

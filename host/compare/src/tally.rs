@@ -60,6 +60,10 @@ pub enum Event {
     Ended,
     /// A step takes an opcode of this type.
     Opcode(u8),
+    /// A step at an opcode of this type makes stores and runs short of them.
+    Short(u8),
+    /// A step at an opcode of this type is allowed no store, and needs some.
+    NoneAllowed(u8),
     /// In this form, a packet is accepted, or a drawing call or a step draws it, that leaves so many
     /// bytes over.
     TakenOver(CallForm, usize),
@@ -255,7 +259,8 @@ impl Tally {
         self.over(form, packet_at(film, &found.state).as_ref(), answer.err());
         match answer {
             Err(refusal) => self.refused(refusal),
-            Ok(Step::Taken(bytes)) => {
+            Ok(Step::Taken(stores, bytes)) => {
+                self.stores += stores;
                 self.note(Event::Taken);
                 self.opcode(film, &found.state);
                 self.heard(&found.state.sound, bytes);
@@ -269,6 +274,7 @@ impl Tally {
             Ok(Step::Unfinished(stores, rows)) => {
                 self.stores += stores;
                 self.note(Event::Unfinished);
+                self.short(film, &found.state, stores);
                 self.video(film, found, left.place, rows);
             }
             Ok(Step::Ended) => self.note(Event::Ended),
@@ -297,6 +303,14 @@ impl Tally {
     fn opcode(&mut self, film: &[u8], state: &State) {
         if let Ok(head) = opcode_head(film, state.position, state.chunk_end) {
             self.note(Event::Opcode(head.kind));
+        }
+    }
+
+    /// The opcode that a step with so many stores ran short at.
+    fn short(&mut self, film: &[u8], state: &State, stores: usize) {
+        if let Ok(head) = opcode_head(film, state.position, state.chunk_end) {
+            let event = if stores > 0 { Event::Short } else { Event::NoneAllowed };
+            self.note(event(head.kind));
         }
     }
 

@@ -324,7 +324,7 @@ fn every_format() {
                 refused += 1;
             } else {
                 let format = Sound { has_format: true, stereo, wide, compressed, ..Sound::new(0) };
-                assert_eq!((answer, left.state.sound), (Ok(Step::Taken(0)), format));
+                assert_eq!((answer, left.state.sound), (Ok(Step::Taken(0, 0)), format));
             }
         }
     }
@@ -366,10 +366,10 @@ fn every_count() {
                     let room = rng.bytes(room);
                     let (answer, _) = step(&film, &Start { state, room, ..opened.clone() });
                     match answer {
-                        Ok(Step::Taken(bytes)) => _ = written.insert((kind, bytes)),
+                        Ok(Step::Taken(0, bytes)) => _ = written.insert((kind, bytes)),
                         other => numbers.extend(other.err().map(|refusal| refusal.number)),
                     }
-                    assert!(mask & 1 == 1 || answer == Ok(Step::Taken(0)), "{answer:?}");
+                    assert!(mask & 1 == 1 || answer == Ok(Step::Taken(0, 0)), "{answer:?}");
                 }
             }
         }
@@ -392,7 +392,7 @@ fn every_step() {
         let format = Sound { has_format: true, wide: true, compressed: true, ..Sound::new(0) };
         let sound = Sound { stereo: true, begun: true, left, right, ..format };
         let start = Start { state: State { sound, ..opened.state }, room: rng.bytes(8), ..opened };
-        assert_eq!(step(&film, &start).0, Ok(Step::Taken(8)));
+        assert_eq!(step(&film, &start).0, Ok(Step::Taken(0, 8)));
     }
 }
 
@@ -413,7 +413,7 @@ fn every_start() {
                 expected.state.position = expected.state.chunk_end;
                 expected.palette[3 * start..][..3 * count].fill(7);
             }
-            let answer = if taken { Ok(Step::Taken(0)) } else { Err(Refusal::new(7)) };
+            let answer = if taken { Ok(Step::Taken(3 * count, 0)) } else { Err(Refusal::new(7)) };
             assert!(step(&film, &found) == (answer, expected), "{count} from {start}");
         }
     }

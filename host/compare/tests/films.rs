@@ -30,6 +30,10 @@ fn films() {
     let numbers: Vec<Event> = (1..=16).map(Event::Refused).collect();
     let opcodes: Vec<Event> = ACTED_ON.into_iter().chain(PASSED_OVER).map(Event::Opcode).collect();
     let rows = [&Touched::ALL.map(Event::Touched)[..], &[Event::TouchedBefore]].concat();
-    let wanted = [&answers[..], &numbers, &opcodes, &common::LEFT_OVER, &rows].concat();
+    // Palettes, maps and drawings that run short of stores (02, W11).
+    let short = [0x0B, 0x0C, 0x0D, 0x11].map(Event::Short);
+    let none = [0x0B, 0x0C, 0x0D, 0x0F, 0x11].map(Event::NoneAllowed);
+    let wanted =
+        [&answers[..], &numbers, &opcodes, &common::LEFT_OVER, &rows, &short, &none].concat();
     common::assert_reached(comparison.tally(), &wanted);
 }

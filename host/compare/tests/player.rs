@@ -51,13 +51,14 @@ fn opened<'a>(
 }
 
 /// Plays a film, by a new player after every so many steps: it has the state that the last one gave,
-/// and the same memory.
+/// and the same memory. One in four is allowed enough for every palette, which begins again where it
+/// was cut (02, W11).
 fn play(film: &[u8], stream: usize, allowed: usize, steps: usize) -> Given {
     let mut given = Given::default();
     let (mut palette, mut room, mut place) = (vec![0; PALETTE_BYTES], vec![0; ROOM_BYTES], 0);
     let (mut a, mut b) = (vec![0; PICTURE_BYTES], vec![0; PICTURE_BYTES]);
     let mut saved = None;
-    loop {
+    for number in 1.. {
         let memory = Memory {
             palette: &mut palette,
             a: &mut a,
@@ -70,6 +71,7 @@ fn play(film: &[u8], stream: usize, allowed: usize, steps: usize) -> Given {
             None => opened(film, stream, memory),
         };
         let mut player = match player {
+            Ok(player) if number % 4 == 0 => player.allowed(allowed.max(mve::PALETTE_STORES)),
             Ok(player) => player.allowed(allowed),
             Err(refusal) => return Given { refusal: Some(refusal), ..given },
         };
@@ -82,6 +84,7 @@ fn play(film: &[u8], stream: usize, allowed: usize, steps: usize) -> Given {
         }
         saved = Some(*player.state());
     }
+    unreachable!("no film has so many steps")
 }
 
 fn assert_given(film: &[u8], stream: usize, allowed: usize, steps: usize) -> Given {

@@ -36,6 +36,14 @@ fn runs_one_kind() {
     let text = String::from_utf8(output.stdout).expect("text");
     assert!(text.starts_with("seed 7: 0 packets, 0 calls, 60 films, "), "{text}");
     assert!(!text.contains(" 0 sounds"), "{text}");
+    let output = run(&["7", "20", "cuts"]);
+    let text = String::from_utf8(output.stdout).expect("text");
+    assert!(text.starts_with("seed 7: 0 packets, 0 calls, 60 films, "), "{text}");
+    assert!(!text.contains(" 0 stores"), "{text}");
+    let output = run(&["7", "60", "numbers"]);
+    let text = String::from_utf8(output.stdout).expect("text");
+    assert!(text.starts_with("seed 7: ") && text.ends_with(": no difference\n"), "{text}");
+    assert!(text.contains(" step with a short answer"), "{text}");
 }
 
 #[test]

@@ -17,7 +17,7 @@ pub const SOUND: [u8; 3] = [0x03, 0x08, 0x09];
 const FULL_CHUNK: usize = 32_000;
 
 /// The film header.
-const HEADER: &[u8; 26] = b"Interplay MVE File\x1A\0\x1A\0\0\x01\x33\x11";
+pub const HEADER: &[u8; 26] = b"Interplay MVE File\x1A\0\x1A\0\0\x01\x33\x11";
 
 /// An opcode.
 #[derive(Clone, Debug)]
@@ -77,7 +77,7 @@ impl Chunk {
         self.opcodes.iter().map(|opcode| 4 + opcode.body.len()).sum()
     }
 
-    fn bytes(&self) -> Vec<u8> {
+    pub(crate) fn bytes(&self) -> Vec<u8> {
         let mut body: Vec<u8> = self.opcodes.iter().flat_map(Opcode::bytes).collect();
         body.extend(&self.loose);
         let length = stated(self.stated_length, body.len());

@@ -12,6 +12,7 @@
 
 pub mod beginning;
 pub mod calls;
+pub mod colours;
 pub mod demo;
 pub mod encode;
 pub mod film;

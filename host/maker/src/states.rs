@@ -55,7 +55,7 @@ pub fn middle(rng: &mut Seeded, film: &Film) -> Start {
     for _ in 0..rng.below(heads + 4) {
         start.allowed = calls::allowance(rng, film.size.blocks());
         match start.step(&bytes) {
-            Stepped::Taken(state, _)
+            Stepped::Taken(state, ..)
             | Stepped::Whole(state, ..)
             | Stepped::Unfinished(state, ..) => start.state = state,
             Stepped::Ended(_) | Stepped::Refused(_) => break,
@@ -153,7 +153,7 @@ impl Start {
     pub fn due(&self, film: &[u8]) -> usize {
         let mut tried = Start { room: vec![0; ENOUGH_ROOM], ..self.clone() };
         match tried.step(film) {
-            Stepped::Taken(_, bytes) => bytes,
+            Stepped::Taken(_, _, bytes) => bytes,
             _ => 0,
         }
     }

@@ -27,7 +27,7 @@ fn pictures_and_samples() {
             room: &mut room,
         };
         match step(&film, state, lent, 312_000) {
-            Stepped::Taken(next, bytes) => {
+            Stepped::Taken(next, _, bytes) => {
                 heard.extend(&room[..bytes]);
                 if next.front != state.front {
                     assert!(shown(&next, &a, &b) == demo::picture(sent), "picture {sent}");

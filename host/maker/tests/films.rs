@@ -64,7 +64,7 @@ fn run(film: &[u8], mut each: impl FnMut(&State, &Stepped)) -> Result<State, Ref
         let stepped = start.step(film);
         each(&before, &stepped);
         match stepped {
-            Stepped::Taken(state, _) | Stepped::Whole(state, ..) => start.state = state,
+            Stepped::Taken(state, ..) | Stepped::Whole(state, ..) => start.state = state,
             Stepped::Ended(state) => return Ok(state),
             Stepped::Refused(refusal) => return Err(refusal),
             Stepped::Unfinished(..) => panic!("312,000 stores draw any frame"),
@@ -248,7 +248,8 @@ fn assert_only_due_changes(before: &Start, after: &Start, stepped: &Stepped) {
             assert_eq!(*stores, before.allowed);
         }
         Stepped::Whole(_, stores, _) => assert!(*stores <= before.allowed),
-        Stepped::Taken(..) => {
+        Stepped::Taken(_, stores, _) => {
+            assert!(*stores <= before.allowed);
             assert!(before.picture_a == after.picture_a && before.picture_b == after.picture_b);
         }
     }
@@ -273,7 +274,9 @@ fn films_in_pieces() {
         let mut at_once = start.clone();
         let mut in_pieces = start;
         let sent_at_once = shown_pictures(&mut at_once, &bytes, |_| 312_000);
-        let sent_in_pieces = shown_pictures(&mut in_pieces, &bytes, |rng| rng.between(65, 300));
+        // Now and then enough for any palette, which begins anew where it is cut (02, W11).
+        let few = |rng: &mut Seeded| if rng.one_in(4) { 1536 } else { rng.between(1, 300) };
+        let sent_in_pieces = shown_pictures(&mut in_pieces, &bytes, few);
         assert!(sent_at_once == sent_in_pieces, "seed {seed}");
         assert_eq!(at_once.palette, in_pieces.palette, "seed {seed}");
     }
@@ -290,7 +293,7 @@ fn shown_pictures(
     loop {
         start.allowed = allowed(&mut rng);
         match start.step(film) {
-            Stepped::Taken(state, _) | Stepped::Whole(state, ..) => start.state = state,
+            Stepped::Taken(state, ..) | Stepped::Whole(state, ..) => start.state = state,
             Stepped::Unfinished(..) => continue,
             Stepped::Ended(_) => return pictures,
             Stepped::Refused(refusal) => panic!("{refusal}"),

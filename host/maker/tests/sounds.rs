@@ -86,7 +86,7 @@ fn run(
             }
         }
         match stepped {
-            Stepped::Taken(state, _) | Stepped::Whole(state, ..) => start.state = state,
+            Stepped::Taken(state, ..) | Stepped::Whole(state, ..) => start.state = state,
             Stepped::Ended(state) => return Ok(state),
             Stepped::Refused(refusal) => return Err(refusal),
             Stepped::Unfinished(..) => panic!("312,000 stores draw any frame"),
@@ -114,7 +114,7 @@ fn valid_films() {
         let mut formats = 0;
         let ended = run(&film, stream, |head, state, stepped| {
             let format = words(&state.sound);
-            let Stepped::Taken(after, bytes) = stepped else { panic!("{stepped:?}") };
+            let Stepped::Taken(after, _, bytes) = stepped else { panic!("{stepped:?}") };
             if head.kind == 0x03 {
                 formats += 1;
                 counts.note(format!("03 version {}: {}", head.version, words(&after.sound)));
@@ -319,7 +319,7 @@ fn note_sound(counts: &mut Counts, start: &Start, stepped: &Stepped, film: &[u8]
         counts.note("no stream");
     }
     match stepped {
-        Stepped::Taken(_, bytes) if *bytes > 0 => {
+        Stepped::Taken(_, _, bytes) if *bytes > 0 => {
             counts.note(format!("written: {}", words(sound)));
             counts.note(if *bytes == room { "just enough room" } else { "room to spare" });
         }
@@ -343,11 +343,11 @@ fn assert_only_due_changes(before: &Start, after: &Start, stepped: &Stepped) {
             assert_eq!(*state, before.state);
             0
         }
-        Stepped::Taken(_, bytes) => *bytes,
+        Stepped::Taken(_, _, bytes) => *bytes,
         Stepped::Whole(..) => 0,
     };
     assert!(before.room[written..] == after.room[written..], "{stepped:?}: the room's rest");
-    if let Stepped::Taken(state, _) | Stepped::Whole(state, ..) = stepped {
+    if let Stepped::Taken(state, ..) | Stepped::Whole(state, ..) = stepped {
         let sound = state.sound;
         assert_eq!(sound.stream, before.state.sound.stream);
         assert!(sound.has_format || sound == Sound::new(sound.stream), "{sound:?}");

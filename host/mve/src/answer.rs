@@ -1,6 +1,7 @@
 //! The library's answers, which are numbers.
 
-use crate::{Error, Refusal, Rows, Sound, State};
+use crate::numbers::{kind, STATE, STATE_NUMBERS, STEPPED_NUMBERS};
+use crate::{Error, Refusal, Rows, State};
 
 /// The first numbers of every answer. The order of the fields is the library's, here and below.
 #[repr(C)]
@@ -43,54 +44,18 @@ pub(crate) struct Taken {
     pub rows: Option<Rows>,
 }
 
-/// The kinds of answer.
-pub(crate) mod kind {
-    /// Of a check, an opening, and a step that does not draw.
-    pub const ACCEPTED: usize = 0;
-    pub const WHOLE: usize = 1;
-    pub const UNFINISHED: usize = 2;
-    /// Of a step alone.
-    pub const ENDED: usize = 3;
-    pub const REFUSED: usize = 4;
-}
-
 /// What an opening or a step answers.
-#[repr(C)]
 #[derive(Clone, Copy, Debug)]
 pub(crate) struct Moved {
-    pub outcome: Outcome,
+    /// What the call returned: the kind.
+    returned: usize,
+    outcome: Outcome,
     /// Bytes of samples written to the room's front.
     pub bytes: usize,
-    pub rows: Touched,
+    rows: Touched,
     /// The state that comes back: of a refused step the one that went in, of a header that is
     /// refused zeros, of a film that is not begun the one that the refused step was given.
-    pub state: Numbers,
-}
-
-/// A state of a film.
-#[repr(C)]
-#[derive(Clone, Copy, Debug, Default, PartialEq, Eq)]
-pub(crate) struct Numbers {
-    pub position: usize,
-    pub chunk_end: usize,
-    pub columns: usize,
-    pub rows: usize,
-    pub front: usize,
-    /// 0 where no map is pending, and then start and length are not read.
-    pub has_map: usize,
-    pub map_start: usize,
-    pub map_length: usize,
-    /// 0 where no frame is finished and unsent.
-    pub unsent: usize,
-    pub stream: usize,
-    /// 0 where no format is known, and then nothing below is read.
-    pub has_format: usize,
-    pub stereo: usize,
-    pub wide: usize,
-    pub compressed: usize,
-    pub begun: usize,
-    pub left: u16,
-    pub right: u16,
+    state: [usize; STATE_NUMBERS],
 }
 
 impl Touched {
@@ -106,7 +71,7 @@ impl Touched {
 
 impl Outcome {
     /// What the numbers say; none where the library does not give such numbers. Only a check and a
-    /// drawing have rows.
+    /// drawing have rows; of what is accepted or taken, only what has none makes stores.
     fn read(self, rows: Touched) -> Option<Result<Taken, Refusal>> {
         let Outcome { kind, number, block, stores } = self;
         let rows = rows.read()?;
@@ -114,7 +79,8 @@ impl Outcome {
             (kind::REFUSED, _, _, 0, None) => {
                 Some(Err(Refusal { error: Error::from_number(number)?, block }))
             }
-            (kind::ACCEPTED, 0, 0, 0, _)
+            (kind::TAKEN, 0, 0, 0, Some(_))
+            | (kind::TAKEN, 0, 0, _, None)
             | (kind::WHOLE | kind::UNFINISHED, 0, 0, _, _)
             | (kind::ENDED, 0, 0, 0, None) => Some(Ok(Taken { kind, stores, rows })),
             _ => None,
@@ -135,12 +101,28 @@ impl Answer {
 }
 
 impl Moved {
+    /// What a call returned, and the numbers that it wrote.
+    pub(crate) fn new(returned: usize, out: &[usize; STEPPED_NUMBERS]) -> Moved {
+        let [kind, number, block, stores, bytes, touched, first_row, last_row, ..] = *out;
+        let outcome = Outcome { kind, number, block, stores };
+        let rows = Touched { touched, first_row, last_row };
+        let mut state = [0; STATE_NUMBERS];
+        state.copy_from_slice(&out[STATE]);
+        Moved { returned, outcome, bytes, rows, state }
+    }
+
+    /// What the numbers say; none where the library does not give such numbers.
+    fn read(&self) -> Option<Result<Taken, Refusal>> {
+        let read = self.outcome.read(self.rows)?;
+        (self.returned == self.outcome.kind).then_some(read)
+    }
+
     /// The state and the answer, if it is not a refusal; `found` is the state that a refused call
     /// gives back.
-    pub(crate) fn taken(self, found: Numbers) -> Result<(State, Taken), Refusal> {
-        match self.outcome.read(self.rows) {
-            Some(Err(refusal)) if self.state == found && self.bytes == 0 => Err(refusal),
-            Some(Ok(taken)) => Ok((self.state.state().unwrap_or_else(|| self.unknown()), taken)),
+    pub(crate) fn taken(self, found: State) -> Result<(State, Taken), Refusal> {
+        match self.read() {
+            Some(Err(refusal)) if self.state == found.numbers() && self.bytes == 0 => Err(refusal),
+            Some(Ok(taken)) => Ok((self.state(), taken)),
             _ => self.unknown(),
         }
     }
@@ -148,83 +130,29 @@ impl Moved {
     /// The state that comes back with the refusal, if it is one, of a film that is opened up to its
     /// size.
     pub(crate) fn begun(self) -> (State, Option<Refusal>) {
-        let state = self.state.state().unwrap_or_else(|| self.unknown());
-        match self.outcome.read(self.rows) {
+        let state = self.state();
+        match self.read() {
             _ if self.bytes != 0 => self.unknown(),
             Some(Err(refusal)) => (state, Some(refusal)),
-            Some(Ok(Taken { kind: kind::ACCEPTED, rows: None, .. })) => (state, None),
+            Some(Ok(Taken { kind: kind::TAKEN, stores: 0, rows: None })) => (state, None),
             _ => self.unknown(),
         }
     }
 
+    fn state(&self) -> State {
+        State::from_numbers(&self.state).unwrap_or_else(|| self.unknown())
+    }
+
     /// As [`Answer::unknown`].
-    pub(crate) fn unknown(self) -> ! {
+    pub(crate) fn unknown(&self) -> ! {
         panic!("libmve.a is not of the version that this crate is written for: {self:?}")
-    }
-}
-
-impl Numbers {
-    /// The state, where the numbers are such as the library gives back.
-    fn state(self) -> Option<State> {
-        let Numbers { position, chunk_end, columns, rows, front, .. } = self;
-        let map = match (self.has_map, self.map_start, self.map_length) {
-            (0, 0, 0) => None,
-            (1, start, length) => Some((start, length)),
-            _ => return None,
-        };
-        let unsent = flag(self.unsent)?;
-        let sound = Sound {
-            stream: self.stream,
-            has_format: flag(self.has_format)?,
-            stereo: flag(self.stereo)?,
-            wide: flag(self.wide)?,
-            compressed: flag(self.compressed)?,
-            begun: flag(self.begun)?,
-            left: self.left,
-            right: self.right,
-        };
-        Some(State { position, chunk_end, columns, rows, front, map, unsent, sound })
-    }
-}
-
-fn flag(number: usize) -> Option<bool> {
-    match number {
-        0 => Some(false),
-        1 => Some(true),
-        _ => None,
-    }
-}
-
-impl From<State> for Numbers {
-    fn from(state: State) -> Numbers {
-        let State { position, chunk_end, columns, rows, front, map, unsent, sound } = state;
-        let (map_start, map_length) = map.unwrap_or((0, 0));
-        let Sound { stream, has_format, stereo, wide, compressed, begun, left, right } = sound;
-        Numbers {
-            position,
-            chunk_end,
-            columns,
-            rows,
-            front,
-            has_map: map.is_some().into(),
-            map_start,
-            map_length,
-            unsent: unsent.into(),
-            stream,
-            has_format: has_format.into(),
-            stereo: stereo.into(),
-            wide: wide.into(),
-            compressed: compressed.into(),
-            begun: begun.into(),
-            left,
-            right,
-        }
     }
 }
 
 #[cfg(test)]
 mod tests {
     use super::*;
+    use crate::Sound;
 
     const NONE: Touched = Touched { touched: 0, first_row: 0, last_row: 0 };
 
@@ -252,7 +180,7 @@ mod tests {
     fn rows() {
         let of = |kind, number| Outcome { kind, number, block: 0, stores: 0 };
         let rows = |touched, first_row, last_row| Touched { touched, first_row, last_row };
-        for kind in [kind::ACCEPTED, kind::WHOLE, kind::UNFINISHED] {
+        for kind in [kind::TAKEN, kind::WHOLE, kind::UNFINISHED] {
             assert_eq!(read(of(kind, 0), NONE), Some(Ok(None)));
             assert_eq!(
                 read(of(kind, 0), rows(1, 0, 0)),
@@ -266,12 +194,17 @@ mod tests {
                 assert_eq!(read(of(kind, 0), wrong), None, "{wrong:?}");
             }
         }
+        // A palette or a map makes stores and has no rows; a check has rows and makes none.
+        let stored = |kind| Outcome { kind, number: 0, block: 0, stores: 9 };
+        assert_eq!(read(stored(kind::TAKEN), NONE), Some(Ok(None)));
+        assert_eq!(read(stored(kind::TAKEN), rows(1, 3, 5)), None);
+        assert_eq!(read(stored(kind::ENDED), NONE), None);
         assert_eq!(read(of(kind::ENDED, 0), NONE), Some(Ok(None)));
         assert_eq!(read(of(kind::ENDED, 0), rows(1, 3, 5)), None);
         assert_eq!(read(of(kind::REFUSED, 15), rows(1, 3, 5)), None);
     }
 
-    const STATE: State = State {
+    const FOUND: State = State {
         position: 1,
         chunk_end: 2,
         columns: 3,
@@ -293,40 +226,49 @@ mod tests {
         right: 10,
     };
 
-    /// A state goes to the library and comes back the same; flags that are neither 0 nor 1 do not
-    /// come back.
+    /// An answer of these eight numbers, and a state.
+    fn moved(returned: usize, first: [usize; 8], state: State) -> Moved {
+        let mut out = [0; STEPPED_NUMBERS];
+        out[..8].copy_from_slice(&first);
+        out[STATE].copy_from_slice(&state.numbers());
+        Moved::new(returned, &out)
+    }
+
+    /// Each number of an answer at its place.
     #[test]
-    fn states() {
-        let other = Sound { has_format: false, wide: true, begun: true, ..SOUND };
-        for state in [STATE, State { map: None, unsent: false, sound: other, ..STATE }] {
-            assert_eq!(Numbers::from(state).state(), Some(state));
+    fn places() {
+        let whole = moved(kind::WHOLE, [1, 0, 0, 12, 0, 1, 13, 14], FOUND);
+        let (state, Taken { kind, stores, rows }) = whole.taken(FOUND).expect("no refusal");
+        assert_eq!((state, kind, stores), (FOUND, kind::WHOLE, 12));
+        assert_eq!((rows, whole.bytes), (Some(Rows { first: 13, last: 14 }), 0));
+        let taken = moved(kind::TAKEN, [0, 0, 0, 0, 15, 0, 0, 0], FOUND);
+        assert_eq!(taken.bytes, 15);
+        let refused = moved(kind::REFUSED, [4, 13, 16, 0, 0, 0, 0, 0], FOUND);
+        let refusal = Refusal { error: Error::DataShort, block: 16 };
+        assert_eq!(refused.taken(FOUND).map(|_| ()), Err(refusal));
+    }
+
+    /// A call returns the first of the numbers that it writes.
+    #[test]
+    fn another_kind_returned() {
+        for (returned, passes) in [(3, true), (0, false), (4, false), (usize::MAX, false)] {
+            let ended = moved(returned, [3, 0, 0, 0, 0, 0, 0, 0], FOUND);
+            let read = std::panic::catch_unwind(move || ended.taken(FOUND).map(|_| ()));
+            assert_eq!(read.is_ok(), passes, "{returned}");
         }
-        let numbers = Numbers::from(STATE);
-        assert_eq!(Numbers { has_map: 2, ..numbers }.state(), None);
-        assert_eq!(Numbers { has_map: 0, ..numbers }.state(), None);
-        assert_eq!(Numbers { unsent: 2, ..numbers }.state(), None);
-        assert_eq!(Numbers { has_format: 2, ..numbers }.state(), None);
-        assert_eq!(Numbers { stereo: 2, ..numbers }.state(), None);
-        assert_eq!(Numbers { wide: 2, ..numbers }.state(), None);
-        assert_eq!(Numbers { compressed: 2, ..numbers }.state(), None);
-        assert_eq!(Numbers { begun: 2, ..numbers }.state(), None);
     }
 
     /// A refused step that gives another state back, or has written, must not pass.
     #[test]
     fn refused_states() {
-        let outcome = Outcome { kind: kind::REFUSED, number: 16, block: 0, stores: 0 };
         let refused = |found, bytes| {
-            let moved = Moved { outcome, bytes, rows: NONE, state: STATE.into() };
+            let moved = moved(kind::REFUSED, [4, 16, 0, 0, bytes, 0, 0, 0], FOUND);
             std::panic::catch_unwind(move || moved.taken(found).map(|_| ()))
         };
-        assert_eq!(
-            refused(STATE.into(), 0).ok(),
-            Some(Err(Refusal { error: Error::State, block: 0 }))
-        );
-        assert!(refused(STATE.into(), 2).is_err());
-        assert!(refused(State { position: 0, ..STATE }.into(), 0).is_err());
+        assert_eq!(refused(FOUND, 0).ok(), Some(Err(Refusal { error: Error::State, block: 0 })));
+        assert!(refused(FOUND, 2).is_err());
+        assert!(refused(State { position: 0, ..FOUND }, 0).is_err());
         let sound = Sound { right: 11, ..SOUND };
-        assert!(refused(State { sound, ..STATE }.into(), 0).is_err());
+        assert!(refused(State { sound, ..FOUND }, 0).is_err());
     }
 }

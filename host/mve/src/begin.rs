@@ -1,5 +1,7 @@
 //! One call that opens a film and steps until it has a size.
 
+use crate::answer::Moved;
+use crate::numbers::STEPPED_NUMBERS;
 use crate::{ffi, Refusal, State};
 use core::fmt;
 
@@ -48,7 +50,7 @@ impl core::error::Error for Unbegun {}
 /// A film with a palette entry, then the size, then a frame of one block.
 ///
 /// ```
-/// use mve::{begin, shown, step, Step, NO_STREAM};
+/// use mve::{begin, shown, step, Form, Step, NO_STREAM};
 ///
 /// let film = [
 ///     &b"Interplay MVE File\x1A\0\x1A\0\0\x01\x33\x11"[..],
@@ -67,7 +69,8 @@ impl core::error::Error for Unbegun {}
 /// let bytes = 64 * state.columns * state.rows;
 /// let (mut a, mut b) = (vec![0; bytes], vec![0; bytes]);
 /// loop {
-///     match step(&film, state, &mut palette, &mut a, &mut b, &mut place, &mut [], 312_000)? {
+///     let (a, b, place, form) = (&mut a, &mut b, &mut place, Form::Default);
+///     match step(&film, state, &mut palette, a, b, place, &mut [], 312_000, form)? {
 ///         Step::Ended { .. } => break,
 ///         next => state = next.state(),
 ///     }
@@ -89,7 +92,9 @@ pub fn begin(
     palette: &mut [u8],
     place: &mut usize,
 ) -> Result<State, Unbegun> {
-    match ffi::begin(film, stream, palette, place).begun() {
+    let mut out = [0; STEPPED_NUMBERS];
+    let returned = ffi::begin(film, stream, &mut out, palette, place);
+    match Moved::new(returned, &out).begun() {
         (state, None) => Ok(state),
         (state, Some(refusal)) => Err(Unbegun { refusal, state }),
     }

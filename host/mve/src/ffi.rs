@@ -2,12 +2,12 @@
 //!
 //! The library is proved to answer every call, to read no byte that is not lent to it, to write
 //! none that is not lent for writing, and to keep nothing after it returns. It asks nothing of the
-//! values. What is left to this module is the C ABI: a slice goes as the address of its first byte
-//! and its length; a state goes and the answer comes back by value.
+//! values. What is left to this module is the C ABI: a slice goes as the address of its first element
+//! and its length; answers about packets come back by value.
 
 #![allow(unsafe_code)]
 
-use crate::answer::{Answer, Moved, Numbers};
+use crate::answer::Answer;
 use crate::form::Form;
 use crate::origin::Numbers as Found;
 
@@ -60,22 +60,32 @@ unsafe extern "C" {
         allowed: usize,
     ) -> Answer;
 
-    fn mve_open(film: *const u8, film_length: usize, stream: usize) -> Moved;
+    fn mve_open(
+        film: *const u8,
+        film_length: usize,
+        stream: usize,
+        out: *mut usize,
+        out_numbers: usize,
+    ) -> usize;
 
     fn mve_begin(
         film: *const u8,
         film_length: usize,
         stream: usize,
+        out: *mut usize,
+        out_numbers: usize,
         palette: *mut u8,
         palette_length: usize,
         place: *mut usize,
-    ) -> Moved;
+    ) -> usize;
 
-    /// `strict` is 0 for the default form, any other number for the strict one.
-    fn mve_step_as(
+    fn mve_step(
         film: *const u8,
         film_length: usize,
-        state: Numbers,
+        from: *const usize,
+        from_numbers: usize,
+        out: *mut usize,
+        out_numbers: usize,
         palette: *mut u8,
         palette_length: usize,
         a: *mut u8,
@@ -86,11 +96,12 @@ unsafe extern "C" {
         room: *mut u8,
         room_length: usize,
         allowed: usize,
-        strict: usize,
-    ) -> Moved;
+        form: usize,
+    ) -> usize;
 
     fn mve_shown(
-        state: Numbers,
+        from: *const usize,
+        from_numbers: usize,
         a: *const u8,
         a_length: usize,
         b: *const u8,
@@ -160,45 +171,61 @@ pub(crate) fn draw(
     }
 }
 
-pub(crate) fn open(film: &[u8], stream: usize) -> Moved {
-    // SAFETY: address and length are those of a slice that lives through the call; that of an
-    // empty slice is not null. It is only read.
-    unsafe { mve_open(film.as_ptr(), film.len(), stream) }
+pub(crate) fn open(film: &[u8], stream: usize, out: &mut [usize]) -> usize {
+    // SAFETY: each address and length are those of a slice that lives through the call; that of an
+    // empty slice is not null. Only `out` is written; it is borrowed mutably, so it does not overlap
+    // the film.
+    unsafe { mve_open(film.as_ptr(), film.len(), stream, out.as_mut_ptr(), out.len()) }
 }
 
-pub(crate) fn begin(film: &[u8], stream: usize, palette: &mut [u8], place: &mut usize) -> Moved {
+pub(crate) fn begin(
+    film: &[u8],
+    stream: usize,
+    out: &mut [usize],
+    palette: &mut [u8],
+    place: &mut usize,
+) -> usize {
     // SAFETY: each address and length are those of a slice that lives through the call; that of an
-    // empty slice is not null. Only the palette and `place` are written; they are borrowed mutably,
-    // so they overlap neither each other nor the film.
+    // empty slice is not null. Only `out`, the palette and `place` are written; they are borrowed
+    // mutably, so they overlap neither each other nor the film.
     unsafe {
-        mve_begin(film.as_ptr(), film.len(), stream, palette.as_mut_ptr(), palette.len(), place)
+        mve_begin(
+            film.as_ptr(),
+            film.len(),
+            stream,
+            out.as_mut_ptr(),
+            out.len(),
+            palette.as_mut_ptr(),
+            palette.len(),
+            place,
+        )
     }
 }
 
-#[allow(clippy::too_many_arguments)] // those of the library's functions
+#[allow(clippy::too_many_arguments)] // those of the library's function
 pub(crate) fn step(
-    form: Form,
     film: &[u8],
-    state: Numbers,
+    from: &[usize],
+    out: &mut [usize],
     palette: &mut [u8],
     a: &mut [u8],
     b: &mut [u8],
     place: &mut usize,
     room: &mut [u8],
     allowed: usize,
-) -> Moved {
-    let strict = match form {
-        Form::Default => 0,
-        Form::Strict => 1,
-    };
+    form: usize,
+) -> usize {
     // SAFETY: each address and length are those of a slice that lives through the call; that of an
-    // empty slice is not null. Only the palette, the pictures, `place` and the room are written;
-    // they are borrowed mutably, so they overlap neither each other nor the film.
+    // empty slice is not null. Only `out`, the palette, the pictures, `place` and the room are
+    // written; they are borrowed mutably, so they overlap neither each other nor film and `from`.
     unsafe {
-        mve_step_as(
+        mve_step(
             film.as_ptr(),
             film.len(),
-            state,
+            from.as_ptr(),
+            from.len(),
+            out.as_mut_ptr(),
+            out.len(),
             palette.as_mut_ptr(),
             palette.len(),
             a.as_mut_ptr(),
@@ -209,16 +236,16 @@ pub(crate) fn step(
             room.as_mut_ptr(),
             room.len(),
             allowed,
-            strict,
+            form,
         )
     }
 }
 
 /// How many bytes of the front picture are shown.
-pub(crate) fn shown(state: Numbers, a: &[u8], b: &[u8]) -> usize {
+pub(crate) fn shown(from: &[usize], a: &[u8], b: &[u8]) -> usize {
     // SAFETY: each address and length are those of a slice that lives through the call; that of an
-    // empty slice is not null. Both are only read.
-    unsafe { mve_shown(state, a.as_ptr(), a.len(), b.as_ptr(), b.len()) }
+    // empty slice is not null. All are only read.
+    unsafe { mve_shown(from.as_ptr(), from.len(), a.as_ptr(), a.len(), b.as_ptr(), b.len()) }
 }
 
 #[allow(clippy::too_many_arguments)] // those of the library's function

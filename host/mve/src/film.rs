@@ -1,8 +1,8 @@
 //! A film: opening it, stepping over it, its sound, and the picture that it shows.
 
-use crate::answer::{kind, Numbers, Taken};
-use crate::form::Form;
-use crate::{ffi, Refusal, Rows};
+use crate::answer::{Moved, Taken};
+use crate::numbers::{kind, STEPPED_NUMBERS};
+use crate::{ffi, Form, Refusal, Rows};
 
 /// The bytes of the palette: 256 entries of red, green and blue.
 pub const PALETTE_BYTES: usize = 768;
@@ -74,6 +74,8 @@ pub enum Step {
     Taken {
         /// The state for the next step.
         state: State,
+        /// Stores that the step made: bytes of the palette, or the place, which opcode 0F sets to 0.
+        stores: usize,
         /// The bytes of samples that the step wrote to the room's front. Only opcodes 08 and 09 of the
         /// stream write any.
         bytes: usize,
@@ -87,13 +89,14 @@ pub enum Step {
         /// The rows of blocks that the whole packet touches.
         rows: Option<Rows>,
     },
-    /// The stores allowed were made before opcode 11's frame was drawn. The next step goes on with it.
+    /// The stores allowed were made, and more are due. The next step goes on with the frame of opcode 11;
+    /// a palette or opcode 0F it begins again.
     Unfinished {
         /// The state for the next step: the one that went in.
         state: State,
         /// Stores that the step made.
         stores: usize,
-        /// The rows of blocks that the whole packet touches.
+        /// The rows of blocks that the whole packet touches; none where no frame is drawn.
         rows: Option<Rows>,
     },
     /// The film is at its end. Nothing has changed.
@@ -109,8 +112,8 @@ impl Step {
     /// ```
     /// // A film of no chunk: it ends where it opens.
     /// let film = b"Interplay MVE File\x1A\0\x1A\0\0\x01\x33\x11";
-    /// let state = mve::open(film, mve::NO_STREAM)?;
-    /// let step = mve::step(film, state, &mut [0; 768], &mut [], &mut [], &mut 0, &mut [], 0)?;
+    /// let (state, form) = (mve::open(film, mve::NO_STREAM)?, mve::Form::Default);
+    /// let step = mve::step(film, state, &mut [0; 768], &mut [], &mut [], &mut 0, &mut [], 0, form)?;
     /// assert_eq!(step, mve::Step::Ended { state });
     /// assert_eq!(step.state(), state);
     /// # Ok::<(), mve::Refusal>(())
@@ -169,9 +172,12 @@ pub const fn is_sent(before: &State, after: &State) -> bool {
 /// assert_eq!(open(&film[..25], 3), Err(Refusal { error: Error::Header, block: 0 }));
 /// ```
 pub fn open(film: &[u8], stream: usize) -> Result<State, Refusal> {
-    let moved = ffi::open(film, stream);
-    match moved.taken(Numbers::default())? {
-        (state, Taken { kind: kind::ACCEPTED, rows: None, .. }) if moved.bytes == 0 => Ok(state),
+    let mut out = [0; STEPPED_NUMBERS];
+    let moved = Moved::new(ffi::open(film, stream, &mut out), &out);
+    match moved.taken(State::default())? {
+        (state, Taken { kind: kind::TAKEN, stores: 0, rows: None }) if moved.bytes == 0 => {
+            Ok(state)
+        }
         _ => moved.unknown(),
     }
 }
@@ -189,16 +195,22 @@ pub fn open(film: &[u8], stream: usize) -> Result<State, Refusal> {
 /// stays as it is. A room of [`ROOM_BYTES`] is always enough; after 19 the step can be taken again
 /// with more, since nothing has changed.
 ///
-/// `allowed` limits the stores of opcode 11; every other step ignores it. No frame has more than
-/// 312,000 stores. The step over opcode 11 tells the rows of blocks that its packet touches in the
-/// picture that is drawn on; both pictures stay as they are outside them.
+/// `allowed` limits the stores of a step: the pixels and places of opcode 11, the bytes of a palette, and
+/// the place of opcode 0F. Every other step makes none; the room is not counted. A step that runs short
+/// makes the first of its stores and keeps its state. Taken again, opcode 11 goes on from the place, and
+/// any other begins with its first store. No frame has more than 312,000 stores, and no palette more than
+/// [`PALETTE_STORES`](crate::PALETTE_STORES). The step over opcode 11 tells the rows of blocks that its
+/// packet touches in the picture that is drawn on; both pictures stay as they are outside them.
+///
+/// `form` says how many bytes a packet may leave over. The two forms give the same, except at an opcode
+/// 11 whose packet leaves exactly one byte over and has no other fault: [`Form::Strict`] refuses it.
 ///
 /// # Errors
 ///
 /// In this order: 16 for the state, 8 for a palette that has not 768 bytes or, once a size is known,
 /// for a picture shorter than the frame, then what is wrong with the film: 2 to 7, 9, and 10 to 15
-/// as in [`draw`](crate::draw): a packet may leave one byte over. Of sound 17 to 19. A refused step
-/// changes nothing, so the state that went in still holds.
+/// as in [`draw`](crate::draw), or in [`draw_strict`](crate::draw_strict). Of sound 17 to 19. A refused
+/// step changes nothing, so the state that went in still holds.
 ///
 /// # Examples
 ///
@@ -206,7 +218,7 @@ pub fn open(film: &[u8], stream: usize) -> Result<State, Refusal> {
 /// a map of code E; 11, that block's colour; 07, which sends the frame to the display; 01.
 ///
 /// ```
-/// use mve::{open, shown, step, Error, Refusal, Rows, State, Step, NO_STREAM};
+/// use mve::{open, shown, step, Error, Form, Refusal, Rows, State, Step, NO_STREAM};
 ///
 /// let film = [
 ///     &b"Interplay MVE File\x1A\0\x1A\0\0\x01\x33\x11"[..],
@@ -219,13 +231,13 @@ pub fn open(film: &[u8], stream: usize) -> Result<State, Refusal> {
 /// assert_eq!(film.len(), 82);
 ///
 /// let (mut palette, mut a, mut b, mut place) = ([0; 768], [0; 64], [0; 64], 0);
-/// let mut state = open(&film, NO_STREAM)?;
+/// let (mut state, form) = (open(&film, NO_STREAM)?, Form::Default);
 /// let mut opcodes = Vec::new();
 /// loop {
 ///     if state.position < state.chunk_end {
 ///         opcodes.push((state.position, film[state.position + 2]));
 ///     }
-///     match step(&film, state, &mut palette, &mut a, &mut b, &mut place, &mut [], 312_000)? {
+///     match step(&film, state, &mut palette, &mut a, &mut b, &mut place, &mut [], 312_000, form)? {
 ///         Step::Ended { .. } => break,
 ///         Step::Whole { state: next, stores, rows } => {
 ///             assert_eq!((stores, rows), (65, Some(Rows { first: 0, last: 0 })));
@@ -241,7 +253,8 @@ pub fn open(film: &[u8], stream: usize) -> Result<State, Refusal> {
 ///
 /// // No film gives this state.
 /// let wrong = State { position: 83, ..state };
-/// let refused = step(&film, wrong, &mut palette, &mut a, &mut b, &mut place, &mut [], 312_000);
+/// let refused =
+///     step(&film, wrong, &mut palette, &mut a, &mut b, &mut place, &mut [], 312_000, form);
 /// assert_eq!(refused, Err(Refusal { error: Error::State, block: 0 }));
 /// # Ok::<(), Refusal>(())
 /// ```
@@ -250,7 +263,7 @@ pub fn open(film: &[u8], stream: usize) -> Result<State, Refusal> {
 /// start word for each channel and a byte for the sample behind each of them.
 ///
 /// ```
-/// use mve::{open, step, Error, Refusal, Sound, Step, ROOM_BYTES};
+/// use mve::{open, step, Error, Form, Refusal, Sound, Step, ROOM_BYTES};
 ///
 /// let film = [
 ///     &b"Interplay MVE File\x1A\0\x1A\0\0\x01\x33\x11"[..],
@@ -260,11 +273,11 @@ pub fn open(film: &[u8], stream: usize) -> Result<State, Refusal> {
 /// .concat();
 ///
 /// let (mut palette, mut place, mut room) = ([0; 768], 0, vec![0; ROOM_BYTES]);
-/// let mut state = open(&film, 0)?;
+/// let (mut state, form) = (open(&film, 0)?, Form::Default);
 /// let mut samples: Vec<u8> = Vec::new();
 /// loop {
-///     match step(&film, state, &mut palette, &mut [], &mut [], &mut place, &mut room, 0)? {
-///         Step::Taken { state: next, bytes } => {
+///     match step(&film, state, &mut palette, &mut [], &mut [], &mut place, &mut room, 0, form)? {
+///         Step::Taken { state: next, bytes, .. } => {
 ///             samples.extend(&room[..bytes]);
 ///             state = next;
 ///         }
@@ -279,36 +292,12 @@ pub fn open(film: &[u8], stream: usize) -> Result<State, Refusal> {
 /// assert_eq!((stereo, wide, left, right), (true, true, 0x8000, 103));
 /// # Ok::<(), Refusal>(())
 /// ```
-#[allow(clippy::too_many_arguments)] // a film, its state, what is lent, and how far to go
-pub fn step(
-    film: &[u8],
-    state: State,
-    palette: &mut [u8],
-    a: &mut [u8],
-    b: &mut [u8],
-    place: &mut usize,
-    room: &mut [u8],
-    allowed: usize,
-) -> Result<Step, Refusal> {
-    stepped(Form::Default, film, state, palette, a, b, place, room, allowed)
-}
-
-/// Takes one step over a film as [`step`] does, in the strict form: no packet may leave a byte over.
 ///
-/// The two forms give the same, except at an opcode 11 whose packet leaves exactly one byte over and has
-/// no other fault.
-///
-/// # Errors
-///
-/// Those of [`step`], and 15 for one byte left over, too.
-///
-/// # Examples
-///
-/// A film of one frame of one block. Its opcode 11 has 14 bytes that are skipped, the block's colour
+/// A film of one frame of one block, whose opcode 11 has 14 bytes that are skipped, the block's colour
 /// and a byte that pads it to an even length.
 ///
 /// ```
-/// use mve::{open, step, step_strict, Error, Refusal, Step, NO_STREAM};
+/// use mve::{open, step, Error, Form, Refusal, Step, NO_STREAM};
 ///
 /// let film = [
 ///     &b"Interplay MVE File\x1A\0\x1A\0\0\x01\x33\x11"[..],
@@ -320,23 +309,23 @@ pub fn step(
 ///
 /// let (mut palette, mut a, mut b, mut place) = ([0; 768], [0; 64], [0; 64], 0);
 /// let mut state = open(&film, NO_STREAM)?;
+/// let mut take = |state, form| {
+///     step(&film, state, &mut palette, &mut a, &mut b, &mut place, &mut [], 65, form)
+/// };
 /// for _ in 0..3 {
 ///     // A chunk's head, 05 and 0F: the forms do not differ.
-///     let default = step(&film, state, &mut palette, &mut a, &mut b, &mut place, &mut [], 65)?;
-///     let strict =
-///         step_strict(&film, state, &mut palette, &mut a, &mut b, &mut place, &mut [], 65)?;
-///     assert_eq!(default, strict);
+///     let default = take(state, Form::Default)?;
+///     assert_eq!(take(state, Form::Strict)?, default);
 ///     state = default.state();
 /// }
-/// let refused = step_strict(&film, state, &mut palette, &mut a, &mut b, &mut place, &mut [], 65);
+/// let refused = take(state, Form::Strict);
 /// assert_eq!(refused, Err(Refusal { error: Error::DataLeft, block: 0 }));
-/// let taken = step(&film, state, &mut palette, &mut a, &mut b, &mut place, &mut [], 65)?;
-/// assert!(matches!(taken, Step::Whole { stores: 65, .. }));
+/// assert!(matches!(take(state, Form::Default)?, Step::Whole { stores: 65, .. }));
 /// assert_eq!(b, [0x2a; 64]);
 /// # Ok::<(), Refusal>(())
 /// ```
-#[allow(clippy::too_many_arguments)] // those of `step`
-pub fn step_strict(
+#[allow(clippy::too_many_arguments)] // a film, its state, what is lent, how far to go, and the form
+pub fn step(
     film: &[u8],
     state: State,
     palette: &mut [u8],
@@ -345,27 +334,17 @@ pub fn step_strict(
     place: &mut usize,
     room: &mut [u8],
     allowed: usize,
-) -> Result<Step, Refusal> {
-    stepped(Form::Strict, film, state, palette, a, b, place, room, allowed)
-}
-
-#[allow(clippy::too_many_arguments)] // those of `step`
-fn stepped(
     form: Form,
-    film: &[u8],
-    state: State,
-    palette: &mut [u8],
-    a: &mut [u8],
-    b: &mut [u8],
-    place: &mut usize,
-    room: &mut [u8],
-    allowed: usize,
 ) -> Result<Step, Refusal> {
-    let found = Numbers::from(state);
-    let moved = ffi::step(form, film, found, palette, a, b, place, room, allowed);
-    let (state, Taken { kind, stores, rows }) = moved.taken(found)?;
+    let (from, mut out) = (state.numbers(), [0; STEPPED_NUMBERS]);
+    let form = form.number();
+    let returned = ffi::step(film, &from, &mut out, palette, a, b, place, room, allowed, form);
+    let moved = Moved::new(returned, &out);
+    let (state, Taken { kind, stores, rows }) = moved.taken(state)?;
     match (kind, moved.bytes, rows) {
-        (kind::ACCEPTED, bytes, None) => Ok(Step::Taken { state, bytes }),
+        (kind::TAKEN, bytes, None) if stores == 0 || bytes == 0 => {
+            Ok(Step::Taken { state, stores, bytes })
+        }
         (kind::WHOLE, 0, rows) => Ok(Step::Whole { state, stores, rows }),
         (kind::UNFINISHED, 0, rows) => Ok(Step::Unfinished { state, stores, rows }),
         (kind::ENDED, 0, None) => Ok(Step::Ended { state }),
@@ -394,7 +373,7 @@ fn stepped(
 /// # Ok::<(), mve::Refusal>(())
 /// ```
 pub fn shown<'a>(state: &State, a: &'a [u8], b: &'a [u8]) -> &'a [u8] {
-    let count = ffi::shown((*state).into(), a, b);
+    let count = ffi::shown(&state.numbers(), a, b);
     let front = if state.front == 0 { a } else { b };
     &front[..count]
 }
@@ -409,33 +388,40 @@ mod tests {
     /// and zeros for what is not read; a step that leaves the state gives the very numbers back.
     #[test]
     fn flags() {
-        [Form::Default, Form::Strict].into_iter().for_each(flags_of);
+        [0, 1, usize::MAX].into_iter().for_each(flags_of);
     }
 
-    fn flags_of(form: Form) {
+    fn flags_of(form: usize) {
         let state = State {
             map: Some((3, 4)),
             unsent: true,
             sound: Sound { stream: 77, wide: true, left: 5, right: 6, ..Sound::default() },
             ..open(HEADER, 77).expect("a header")
         };
-        let format = Numbers { has_map: 7, unsent: usize::MAX, has_format: 8, ..state.into() };
-        let format = Numbers { stereo: 9, wide: 10, begun: 11, ..format };
-        let none = Numbers { has_format: 0, compressed: 12, ..format };
+        let with = |mut numbers: [usize; 17], changes: &[(usize, usize)]| {
+            changes.iter().for_each(|&(at, number)| numbers[at] = number);
+            numbers
+        };
+        // has_map, unsent, has_format, stereo, wide, begun
+        let odd = [(5, 7), (8, usize::MAX), (10, 8), (11, 9), (12, 10), (14, 11)];
+        let format = with(state.numbers(), &odd);
+        let none = with(format, &[(10, 0), (13, 12)]);
         let read = Sound { has_format: true, stereo: true, begun: true, ..state.sound };
         let unread = Sound { stream: 77, ..Sound::default() };
-        for (numbers, sound) in [(format, read), (none, unread)] {
+        for (from, sound) in [(format, read), (none, unread)] {
             let step = |film: &[u8], palette: &mut [u8]| {
-                let (room, allowed) = (&mut [], usize::MAX);
-                ffi::step(form, film, numbers, palette, &mut [], &mut [], &mut 0, room, allowed)
+                let (mut out, room, allowed) = ([7; 26], &mut [], usize::MAX);
+                let (a, b, place) = (&mut [], &mut [], &mut 0);
+                let kind =
+                    ffi::step(film, &from, &mut out, palette, a, b, place, room, allowed, form);
+                assert_eq!((out[0], out[25]), (kind, 7));
+                (kind, out[1], <[usize; 17]>::try_from(&out[8..25]).expect("a state's numbers"))
             };
-            let taken = step(&[HEADER, &[0; 4]].concat(), &mut [0; 768]);
             let moved = State { position: 30, chunk_end: 30, sound, ..state };
-            assert_eq!((taken.outcome.kind, taken.state), (kind::ACCEPTED, Numbers::from(moved)));
-            let ended = step(HEADER, &mut [0; 768]);
-            assert_eq!((ended.outcome.kind, ended.state), (kind::ENDED, numbers));
-            let refused = step(HEADER, &mut []);
-            assert_eq!((refused.outcome.number, refused.state), (8, numbers));
+            let taken = step(&[HEADER, &[0; 4]].concat(), &mut [0; 768]);
+            assert_eq!(taken, (kind::TAKEN, 0, moved.numbers()));
+            assert_eq!(step(HEADER, &mut [0; 768]), (kind::ENDED, 0, from));
+            assert_eq!(step(HEADER, &mut []), (kind::REFUSED, 8, from));
         }
     }
 }

@@ -2,8 +2,9 @@
 //!
 //! The core is a static library whose contracts are proved. This crate hands each call on to it and
 //! gives its answers names. It decides nothing, allocates nothing and needs no standard library. Every
-//! function takes any input and answers it; a refused call leaves everything lent to it as it was. None
-//! panics, unless another version of the library is linked than the one this crate is written for.
+//! function takes any input and answers it; a refused call leaves everything lent to it as it was, but
+//! for the answer of [`numbers`]. None panics, unless another version of the library is linked than the
+//! one this crate is written for.
 //!
 //! A film is played in memory that the host lends, step by step:
 //!
@@ -57,8 +58,10 @@
 //! the others. [`origin`] tells which byte or pixel gave a pixel its value.
 //!
 //! Many films pad a packet to an even length, so these calls accept one byte left over behind the
-//! blocks' data. [`check_strict`], [`draw_strict`] and [`step_strict`] accept none: they are for those
-//! who make films and want every byte accounted for. A player uses the others, the default forms.
+//! blocks' data. [`check_strict`], [`draw_strict`] and [`step`] in [`Form::Strict`] accept none: they are
+//! for those who make films and want every byte accounted for. A player uses the default forms.
+//!
+//! [`numbers`] has the film's calls with states and answers as numbers, as C has them.
 //!
 //! ```
 //! // One block of code 7: two colours, a bit for each 2x2 pixels.
@@ -88,6 +91,7 @@ mod begin;
 mod ffi;
 mod film;
 mod form;
+pub mod numbers;
 mod origin;
 mod packet;
 mod player;
@@ -95,13 +99,15 @@ mod refusal;
 mod rows;
 
 pub use begin::{begin, Unbegun};
-pub use film::{is_sent, open, shown, step, step_strict, Sound, State, Step};
+pub use film::{is_sent, open, shown, step, Sound, State, Step};
 pub use film::{NO_STREAM, PALETTE_BYTES, PICTURE_BYTES, ROOM_BYTES};
+pub use form::Form;
 pub use origin::{origin, Origin, Traced};
-pub use packet::{check, check_strict, draw, draw_strict, Drawn, ALL_STORES, BLOCK_STORES};
+pub use packet::{check, check_strict, draw, draw_strict, Drawn};
+pub use packet::{ALL_STORES, BLOCK_STORES, PALETTE_STORES};
 pub use player::{Event, Memory, Picture, Player, Samples};
 pub use refusal::{Error, Refusal};
 pub use rows::Rows;
 
 /// The version of the interface that this crate is written for: C's `MVE_VERSION`.
-pub const VERSION: usize = 9;
+pub const VERSION: usize = 11;

@@ -1,6 +1,6 @@
 //! Where the value of a pixel comes from.
 
-use crate::answer::kind;
+use crate::numbers::kind;
 use crate::{ffi, Error, Refusal};
 
 /// A pixel's block, the block's code, and where the pixel's value comes from.
@@ -112,7 +112,7 @@ impl Numbers {
     /// What the numbers say; none where the library does not give such numbers.
     fn read(self) -> Option<Result<Traced, Refusal>> {
         match (self.kind, self.number) {
-            (kind::ACCEPTED, 0) => Some(Ok(self.traced()?)),
+            (kind::TAKEN, 0) => Some(Ok(self.traced()?)),
             (kind::REFUSED, number) => {
                 Some(Err(Refusal { error: Error::from_number(number)?, block: self.block }))
             }

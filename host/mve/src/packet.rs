@@ -1,7 +1,8 @@
 //! A packet, the map and the data of one frame: checking and drawing it.
 
-use crate::answer::{kind, Taken};
+use crate::answer::Taken;
 use crate::form::Form;
+use crate::numbers::kind;
 use crate::{ffi, Refusal, Rows};
 
 /// Checks a packet for a frame of `columns` by `rows` blocks, each 8x8 pixels.
@@ -102,13 +103,18 @@ fn checked(
 ) -> Result<Option<Rows>, Refusal> {
     let answer = ffi::check(form, columns, rows, map, data);
     match answer.taken()? {
-        Taken { kind: kind::ACCEPTED, rows, .. } => Ok(rows),
+        Taken { kind: kind::TAKEN, stores: 0, rows } => Ok(rows),
         _ => answer.unknown(),
     }
 }
 
-/// The stores of the largest picture: a call that is allowed so many is never unfinished.
+/// The stores of the largest picture: a call or a step that is allowed so many is never unfinished.
 pub const ALL_STORES: usize = 312_000;
+
+/// The stores of the longest palette, opcode 0B with 256 entries in both of its gradients: a step over a
+/// palette that is allowed so many is never unfinished. One that is cut begins again with its first
+/// store, so it is never done by steps that are all allowed fewer than it has.
+pub const PALETTE_STORES: usize = 1_536;
 
 /// The stores of a block that has pixels to store, 64 pixels and the place: a call that is allowed fewer
 /// finishes none.

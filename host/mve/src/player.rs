@@ -1,8 +1,8 @@
 //! A loop over a film: one step at a time, told as an event.
 
 use crate::begin::{begin, Unbegun};
-use crate::film::{is_sent, open, shown, step, step_strict, State, Step};
-use crate::{Refusal, Rows, ALL_STORES};
+use crate::film::{is_sent, open, shown, step, State, Step};
+use crate::{Form, Refusal, Rows, ALL_STORES};
 
 /// The memory that a film is played in. The library allocates none, so the host lends it.
 ///
@@ -38,7 +38,7 @@ pub struct Player<'f, 'm> {
     state: State,
     memory: Memory<'m>,
     allowed: usize,
-    strict: bool,
+    form: Form,
 }
 
 /// What a step gave.
@@ -52,8 +52,8 @@ pub enum Event<'p> {
     Picture(Picture<'p>),
     /// Samples were written.
     Samples(Samples<'p>),
-    /// The stores allowed were made, and the picture is not drawn to its end. The next step goes on
-    /// with it.
+    /// The stores allowed were made, and more are due. The next step goes on with the picture; a palette
+    /// or a map it begins again, so allow [`PALETTE_STORES`](crate::PALETTE_STORES) or more.
     Unfinished,
 }
 
@@ -105,10 +105,12 @@ impl<'f, 'm> Player<'f, 'm> {
 
     /// Goes on with a film from a state that was saved.
     pub const fn resume(film: &'f [u8], state: State, memory: Memory<'m>) -> Self {
-        Player { film, state, memory, allowed: ALL_STORES, strict: false }
+        Player { film, state, memory, allowed: ALL_STORES, form: Form::Default }
     }
 
     /// Allows each step so many stores; else it is [`ALL_STORES`], and no step is unfinished.
+    /// With fewer than [`PALETTE_STORES`](crate::PALETTE_STORES) at every step, a palette that has more is
+    /// never done.
     #[must_use]
     pub const fn allowed(mut self, stores: usize) -> Self {
         self.allowed = stores;
@@ -118,7 +120,7 @@ impl<'f, 'm> Player<'f, 'm> {
     /// Takes steps of the strict form: no packet may leave a byte over.
     #[must_use]
     pub const fn strict(mut self) -> Self {
-        self.strict = true;
+        self.form = Form::Strict;
         self
     }
 
@@ -134,9 +136,8 @@ impl<'f, 'm> Player<'f, 'm> {
     /// Those of [`step`](crate::step). Nothing has changed, so the same step is refused again.
     pub fn step(&mut self) -> Result<Option<Event<'_>>, Refusal> {
         let Memory { palette, a, b, place, room } = &mut self.memory;
-        let call = if self.strict { step_strict } else { step };
-        let before = self.state;
-        let stepped = call(self.film, before, palette, a, b, place, room, self.allowed)?;
+        let (before, allowed, form) = (self.state, self.allowed, self.form);
+        let stepped = step(self.film, before, palette, a, b, place, room, allowed, form)?;
         self.state = stepped.state();
         Ok(match stepped {
             Step::Ended { .. } => None,

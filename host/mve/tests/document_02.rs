@@ -1,7 +1,7 @@
 //! The sentences of document 02's W5, in its order, run on the proved library. The expected values
 //! are worked out by hand from the documents.
 
-use mve::{open, step, Error, Refusal, Sound, State, Step, ROOM_BYTES};
+use mve::{open, step, Error, Form, Refusal, Sound, State, Step, ROOM_BYTES};
 
 const HEADER: &[u8; 26] = b"Interplay MVE File\x1A\0\x1A\0\0\x01\x33\x11";
 
@@ -45,7 +45,8 @@ fn film(opcodes: &[Vec<u8>]) -> Vec<u8> {
 /// A step in a room of this length, each byte of it 5A. With what the room holds then.
 fn step_in(film: &[u8], state: State, length: usize) -> (Result<Step, Refusal>, Vec<u8>) {
     let (mut palette, mut place, mut room) = ([0; 768], 0, vec![0x5A; length]);
-    let stepped = step(film, state, &mut palette, &mut [], &mut [], &mut place, &mut room, 0);
+    let (a, b, form) = (&mut [], &mut [], Form::Default);
+    let stepped = step(film, state, &mut palette, a, b, &mut place, &mut room, 0, form);
     assert_eq!((palette, place), ([0; 768], 0));
     (stepped, room)
 }
@@ -66,7 +67,7 @@ fn hear(film: &[u8], stream: usize) -> Heard {
     loop {
         let (stepped, room) = step_in(film, state, ROOM_BYTES);
         let (next, bytes) = match stepped {
-            Ok(Step::Taken { state: next, bytes }) => (next, bytes),
+            Ok(Step::Taken { state: next, stores: 0, bytes }) => (next, bytes),
             Ok(Step::Ended { .. }) => return Heard { samples, state, refused: None },
             Ok(other) => panic!("no picture is drawn: {other:?}"),
             Err(refusal) => {
@@ -237,7 +238,7 @@ fn rooms() {
     let film = film(&[format(MONO_16), data(2, &[1, 2, 3, 4])]);
     let mut state = open(&film, 0).expect("a header");
     while state.position < film.len() - 14 {
-        let Ok(Step::Taken { state: next, bytes: 0 }) = step_in(&film, state, 0).0 else {
+        let Ok(Step::Taken { state: next, bytes: 0, .. }) = step_in(&film, state, 0).0 else {
             panic!("not taken")
         };
         state = next;

@@ -1,7 +1,8 @@
 //! `include/mve.h`: C programs that use it are compiled, as C and as C++, with all warnings as errors,
 //! and run; and the wrapper's names, constants and texts are those of the header.
 
-use mve::{Error, Refusal};
+use mve::numbers::{kind, STATE_NUMBERS, STEPPED_NUMBERS};
+use mve::{Error, Form, Refusal};
 use std::env;
 use std::fs;
 use std::path::{Path, PathBuf};
@@ -65,6 +66,7 @@ fn constants() {
         ("MVE_ROOM_BYTES", mve::ROOM_BYTES),
         ("MVE_ALL_STORES", mve::ALL_STORES),
         ("MVE_BLOCK_STORES", mve::BLOCK_STORES),
+        ("MVE_PALETTE_STORES", mve::PALETTE_STORES),
         ("MVE_NO_STREAM", mve::NO_STREAM),
     ] {
         assert_eq!(constant(&header, name), value, "{name}");
@@ -72,7 +74,29 @@ fn constants() {
     let defined = header
         .lines()
         .filter(|line| line.starts_with("#define MVE_") && line.contains(char::is_numeric));
-    assert_eq!(defined.count(), 7, "a constant that the wrapper lacks");
+    assert_eq!(defined.count(), 8, "a constant that the wrapper lacks");
+}
+
+/// The numbers of the enums: of states and answers, of the forms and of the kinds.
+#[test]
+fn enums() {
+    let header = header();
+    for (name, value) in [
+        ("MVE_STATE_NUMBERS", STATE_NUMBERS),
+        ("MVE_STEPPED_NUMBERS", STEPPED_NUMBERS),
+        ("MVE_DEFAULT", Form::Default.number()),
+        ("MVE_STRICT", Form::Strict.number()),
+        ("MVE_TAKEN", kind::TAKEN),
+        ("MVE_WHOLE", kind::WHOLE),
+        ("MVE_UNFINISHED", kind::UNFINISHED),
+        ("MVE_ENDED", kind::ENDED),
+        ("MVE_REFUSED", kind::REFUSED),
+    ] {
+        let behind = header.split_once(&format!("{name} = ")).map(|(_, behind)| behind);
+        let behind = behind.unwrap_or_else(|| panic!("no {name} in the header"));
+        let digits: String = behind.chars().take_while(char::is_ascii_digit).collect();
+        assert_eq!(digits.parse(), Ok(value), "{name}");
+    }
 }
 
 /// `DataLeft` is `MVE_ERROR_DATA_LEFT`, `Code6` is `MVE_ERROR_CODE_6`.

@@ -2,8 +2,8 @@
 //! worked out by hand from the documents.
 
 use mve::{
-    begin, check, check_strict, draw, draw_strict, step, step_strict, Drawn, Error, Refusal, Rows,
-    State, Step, NO_STREAM,
+    begin, check, check_strict, draw, draw_strict, step, Drawn, Error, Form, Refusal, Rows, State,
+    Step, NO_STREAM,
 };
 
 fn refused<T>(number: usize, block: usize) -> Result<T, Refusal> {
@@ -21,26 +21,16 @@ struct Packet<'a> {
 type CheckCall = fn(usize, usize, &[u8], &[u8]) -> Result<Option<Rows>, Refusal>;
 type DrawCall =
     fn(usize, usize, &[u8], &[u8], &[u8], &mut [u8], &mut usize, usize) -> Result<Drawn, Refusal>;
-type StepCall = fn(
-    &[u8],
-    State,
-    &mut [u8],
-    &mut [u8],
-    &mut [u8],
-    &mut usize,
-    &mut [u8],
-    usize,
-) -> Result<Step, Refusal>;
 
 /// The calls of one form.
-struct Form {
+struct Calls {
     check: CheckCall,
     draw: DrawCall,
-    step: StepCall,
+    form: Form,
 }
 
-const DEFAULT: Form = Form { check, draw, step };
-const STRICT: Form = Form { check: check_strict, draw: draw_strict, step: step_strict };
+const DEFAULT: Calls = Calls { check, draw, form: Form::Default };
+const STRICT: Calls = Calls { check: check_strict, draw: draw_strict, form: Form::Strict };
 
 /// The rows of a packet for a row of blocks that touches any.
 const ROW: Option<Rows> = Some(Rows { first: 0, last: 0 });
@@ -48,7 +38,7 @@ const ROW: Option<Rows> = Some(Rows { first: 0, last: 0 });
 /// What a drawing answers, and the picture and the place that it leaves.
 type Left = (Result<Drawn, Refusal>, Vec<u8>, usize);
 
-impl Form {
+impl Calls {
     /// A drawing of all stores on a back of 5, with a front of 1.
     fn drawn(&self, packet: Packet<'_>) -> Left {
         let Packet { columns, map, data } = packet;
@@ -64,7 +54,7 @@ impl Form {
         let (mut a, mut b, mut place) = (vec![1; pixels], vec![5; pixels], 0);
         let mut take = |state| {
             let (palette, room) = (&mut [0; 768], &mut []);
-            (self.step)(&film, state, palette, &mut a, &mut b, &mut place, room, 312_000)
+            step(&film, state, palette, &mut a, &mut b, &mut place, room, 312_000, self.form)
         };
         let sized = begin(&film, NO_STREAM, &mut [0; 768], &mut 0).expect("a size");
         let state = take(sized).expect("0F").state();

@@ -15,7 +15,8 @@ fn read(path: &Path) -> String {
 
 /// All pages of the repository.
 fn pages() -> Vec<PathBuf> {
-    let folders = [".", "docs", "docs/landings", "command"].map(|folder| root().join(folder));
+    let folders = [".", "docs", "docs/landings", "command", "examples/boot"];
+    let folders = folders.map(|folder| root().join(folder));
     let mut pages = Vec::new();
     for folder in folders {
         let entries = fs::read_dir(folder).expect("a folder").map(|entry| entry.expect("an entry"));
@@ -167,11 +168,38 @@ fn figures_of_the_readme() {
         assert!(row(&readme, "Time for compressed sound")[2].contains(step), "{sound}");
     }
 
-    let stacks = header.lines().filter_map(|line| line.trim().strip_prefix("stack of "));
-    let bytes = stacks.filter_map(|line| line.split_whitespace().nth(1)?.parse::<usize>().ok());
-    let deepest = bytes.max().expect("the stack of a call");
-    let told = format!("at most {deepest} bytes a call");
+    let [library, stage] = ["stack of ", "whole stage of "].map(|start| {
+        let lines = header.lines().filter_map(|line| line.trim().strip_prefix(start));
+        let bytes = lines.filter_map(|line| {
+            line.split_whitespace().nth(1)?.replace(',', "").parse::<usize>().ok()
+        });
+        bytes.max().expect("the stack of a call")
+    });
+    let told = format!(
+        "at most {library} bytes a call; with the least player's loop and arguments {}",
+        grouped(stage)
+    );
     assert_eq!(row(&readme, "Stack")[2], told);
+
+    // What a player lends: palette, two pictures, room, place and two answers.
+    let answers = 2 * mve::numbers::STEPPED_NUMBERS * size_of::<usize>();
+    let lent = mve::PALETTE_BYTES
+        + 2 * mve::PICTURE_BYTES
+        + mve::ROOM_BYTES
+        + size_of::<usize>()
+        + answers;
+    let told = format!("the caller lends it, {} bytes at most beside the film", grouped(lent));
+    assert!(row(&readme, "Memory")[2].ends_with(&told), "{told}");
+    let in_all = header.lines().find_map(|line| line.trim().strip_prefix("in all "));
+    assert_eq!(in_all.map(str::trim), Some(&*format!("{} bytes", grouped(lent))));
+}
+
+/// A number with commas: 746,646.
+fn grouped(number: usize) -> String {
+    match number {
+        0..1000 => number.to_string(),
+        _ => format!("{},{:03}", grouped(number / 1000), number % 1000),
+    }
 }
 
 fn first_word_of(cell: &str) -> String {

@@ -2,8 +2,8 @@
 //! worked out by hand from the documents.
 
 use mve::{
-    begin, check, check_strict, draw, draw_strict, step, step_strict, Drawn, Error, Refusal, Rows,
-    State, Step, NO_STREAM,
+    begin, check, check_strict, draw, draw_strict, step, Drawn, Error, Form, Refusal, Rows, Step,
+    NO_STREAM,
 };
 
 const fn rows(first: usize, last: usize) -> Option<Rows> {
@@ -111,29 +111,19 @@ fn film() -> Vec<u8> {
     [&header[..], &chunk(2, &size), &chunk(3, &frames.concat())].concat()
 }
 
-type StepCall = fn(
-    &[u8],
-    State,
-    &mut [u8],
-    &mut [u8],
-    &mut [u8],
-    &mut usize,
-    &mut [u8],
-    usize,
-) -> Result<Step, Refusal>;
-
 /// "The film step" passes it on: opcode 11 tells the rows of its packet, whole and unfinished; no other
 /// step tells any.
 #[test]
 fn steps() {
-    for call in [step as StepCall, step_strict] {
+    for form in [Form::Default, Form::Strict] {
         let film = film();
         let (mut palette, mut a, mut b, mut place) = ([0; 768], [1; 192], [2; 192], 0);
         let mut state = begin(&film, NO_STREAM, &mut palette, &mut place).expect("a size");
         let mut told = Vec::new();
         loop {
             let found = (a, b);
-            let step = call(&film, state, &mut palette, &mut a, &mut b, &mut place, &mut [], 66);
+            let step =
+                step(&film, state, &mut palette, &mut a, &mut b, &mut place, &mut [], 66, form);
             let step = step.expect("a good film");
             match step {
                 Step::Whole { stores, rows, .. } => told.push((true, stores, rows)),

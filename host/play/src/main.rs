@@ -7,16 +7,18 @@
 //! blocks were touched since this one of the two pictures was last sent: all that a display with a
 //! copy of each needs to be sent.
 //! FOLDER must be there and hold no name that ends in .ppm or .wav. Every step is allowed ALLOWANCE
-//! stores; when they do not suffice, the player is stopped as a watchdog would stop it, and goes on.
-//! If EVERY is given, it is also stopped at every so many opcodes of sound, when what they give is
-//! written and the state is not saved yet. It exits with 0 where the film ended, 1 where it was
+//! stores; when they do not suffice, the player is stopped as a watchdog would stop it, and goes on. A
+//! drawing goes on from its place. A palette begins again with its first store; so a step that came no
+//! further is allowed twice as many stores when it is taken again.
+//! If EVERY is given, the player is also stopped at every so many opcodes of sound, when what they give
+//! is written and the state is not saved yet. It exits with 0 where the film ended, 1 where it was
 //! refused or a file or the folder failed, 2 on bad arguments. `examples/play.c` is the same player
 //! in C.
 
 mod sound;
 mod unsent;
 
-use mve::{Refusal, Rows, State, Step, BLOCK_STORES, PALETTE_BYTES, PICTURE_BYTES, ROOM_BYTES};
+use mve::{Form, Refusal, Rows, State, Step, PALETTE_BYTES, PICTURE_BYTES, ROOM_BYTES};
 use sound::{Failed, Format, Sound};
 use std::env;
 use std::ffi::{OsStr, OsString};
@@ -43,9 +45,9 @@ struct Saved {
 /// All that a stop leaves, beside the files. In a real player it lies in memory that outlives the
 /// stop.
 struct Kept {
-    slots: [Saved; 2],
+    records: [Saved; 2],
     /// Which of the two is the saved one.
-    saved: AtomicUsize,
+    holds: AtomicUsize,
     palette: [u8; PALETTE_BYTES],
     a: Vec<u8>,
     b: Vec<u8>,
@@ -63,14 +65,21 @@ struct Arguments {
 }
 
 /// What stops a run. It outlives the runs and knows nothing of the film.
-#[derive(Default)]
 struct Watchdog {
     stops: usize,
     /// Opcodes of sound; one that is taken again counts again.
     sounds: usize,
+    /// The stores of a step after which it stops a run.
+    allowed: usize,
 }
 
 impl Watchdog {
+    /// Stops a run in a step. One that came no further is given twice the stores next time.
+    fn stop_in_step(&mut self, is_further: bool, arguments: &Arguments) {
+        let twice = self.allowed.saturating_mul(2);
+        self.allowed = if is_further { arguments.allowance } else { twice };
+    }
+
     /// Whether it stops a run that has just written what an opcode of sound gave.
     fn stops_at_sound(&mut self, every: Option<usize>) -> bool {
         self.sounds += 1;
@@ -102,8 +111,8 @@ impl From<Failed> for Failure {
 impl Kept {
     fn new(first: State) -> Kept {
         Kept {
-            slots: [Saved { state: first, sound: Sound::NONE, unsent: Unsent::NONE }; 2],
-            saved: AtomicUsize::new(0),
+            records: [Saved { state: first, sound: Sound::NONE, unsent: Unsent::NONE }; 2],
+            holds: AtomicUsize::new(0),
             palette: [0; PALETTE_BYTES],
             a: vec![0; PICTURE_BYTES],
             b: vec![0; PICTURE_BYTES],
@@ -112,16 +121,16 @@ impl Kept {
     }
 
     fn load(&self) -> Saved {
-        self.slots[self.saved.load(Ordering::SeqCst)]
+        self.records[self.holds.load(Ordering::SeqCst)]
     }
 
-    /// The new state is written in full beside the old one, with the sound that belongs to it; then
-    /// one store makes it the saved one, an atomic one, which stays behind the others. A stop in
-    /// between leaves the old state, and the step that gave the new one is taken again.
+    /// The new state is written in full to the spare record, with the sound and the rows that belong
+    /// to it; then one store makes it the one that holds, an atomic one, which stays behind the others.
+    /// A stop before it leaves the old record, and the step that gave the new one is taken again.
     fn save(&mut self, next: Saved) {
-        let spare = 1 - self.saved.load(Ordering::SeqCst);
-        self.slots[spare] = next;
-        self.saved.store(spare, Ordering::SeqCst);
+        let spare = 1 - self.holds.load(Ordering::SeqCst);
+        self.records[spare] = next;
+        self.holds.store(spare, Ordering::SeqCst);
     }
 }
 
@@ -146,7 +155,7 @@ fn main() -> ExitCode {
 /// The watchdog: it starts a run after every stop.
 fn watch(arguments: &Arguments) -> Result<(), Failure> {
     let mut kept = begin(arguments)?;
-    let mut watchdog = Watchdog::default();
+    let mut watchdog = Watchdog { stops: 0, sounds: 0, allowed: arguments.allowance };
     while let Run::Stopped = run(&mut kept, arguments, &mut watchdog)? {
         watchdog.stops += 1;
     }
@@ -178,17 +187,19 @@ fn begin(arguments: &Arguments) -> Result<Kept, Failure> {
 /// film included.
 ///
 /// Steps are of the default form: many films pad their packets by a byte, and are to be played
-/// (`step_strict` is for those who make films). What a step gives is written before the state is saved: a
-/// stop in between writes a picture twice, but loses none; samples go to the same place of the file
-/// again.
+/// ([`Form::Strict`] is for those who make films). What a step gives is written before the state is
+/// saved: a stop in between writes a picture twice, but loses none; samples go to the same place of the
+/// file again.
 fn run(kept: &mut Kept, arguments: &Arguments, watchdog: &mut Watchdog) -> Result<Run, Failure> {
     kept.load().sound.cut(&arguments.folder)?;
     let film = fs::read(&arguments.film).map_err(Failure::Film)?;
     let mut room = vec![0; ROOM_BYTES]; // need not outlive a stop
+    let form = Form::Default;
     loop {
         let Saved { state, sound, mut unsent } = kept.load();
+        let found = kept.place;
         let Kept { palette, a, b, place, .. } = kept;
-        let step = mve::step(&film, state, palette, a, b, place, &mut room, arguments.allowance);
+        let step = mve::step(&film, state, palette, a, b, place, &mut room, watchdog.allowed, form);
         let step = match step {
             Ok(step) => step,
             Err(refusal) => {
@@ -197,13 +208,16 @@ fn run(kept: &mut Kept, arguments: &Arguments, watchdog: &mut Watchdog) -> Resul
             }
         };
         let (next, bytes) = match step {
-            // The next run goes on with the packet, and is told the same rows at its end.
-            Step::Unfinished { .. } => return Ok(Run::Stopped),
+            // The next run takes the step again; of a drawing it is told the same rows at its end.
+            Step::Unfinished { .. } => {
+                watchdog.stop_in_step(kept.place != found, arguments);
+                return Ok(Run::Stopped);
+            }
             Step::Ended { .. } => {
                 sound.finish(&arguments.folder)?;
                 return Ok(Run::Ended);
             }
-            Step::Taken { state: next, bytes } => (next, bytes),
+            Step::Taken { state: next, bytes, .. } => (next, bytes),
             Step::Whole { state: next, rows, .. } => {
                 unsent.touch(state.front, rows);
                 (next, 0)
@@ -219,6 +233,7 @@ fn run(kept: &mut Kept, arguments: &Arguments, watchdog: &mut Watchdog) -> Resul
             return Ok(Run::Stopped);
         }
         kept.save(Saved { state: next, sound, unsent });
+        watchdog.allowed = arguments.allowance;
     }
 }
 
@@ -358,12 +373,8 @@ fn read_arguments(words: &[OsString]) -> Result<Arguments, String> {
         }
         _ => return Err("usage: play FILM FOLDER ALLOWANCE [STREAM [EVERY]]".to_string()),
     };
-    let allowance = read_number(allowance, BLOCK_STORES).map_err(|text| {
-        format!(
-            "play: allowance {text}: give a number of stores, {BLOCK_STORES} or more, \
-             or no block with pixels is ever finished"
-        )
-    })?;
+    let allowance = read_number(allowance, 1)
+        .map_err(|text| format!("play: allowance {text}: give a number of stores, 1 or more"))?;
     let stream = options.first().map_or(Ok(0), |stream| read_number(stream, 0));
     let stream = stream.map_err(|text| {
         format!("play: stream {text}: give a number, 0 to 15, or more for no sound")

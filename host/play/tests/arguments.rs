@@ -67,21 +67,19 @@ fn streams_and_stops() {
     }
 }
 
-/// An allowance that never finishes a block with pixels is refused, as is one that is no number.
+/// An allowance of no store is refused, as is one that is no number.
 #[test]
 fn allowances() {
-    let wrong = ["0", "64", "-1", "-70", "+70", " 70", "70 ", "70x", "0x70", "", "many", "1e3"];
+    let wrong = ["0", "00", "-1", "-70", "+70", " 70", "70 ", "70x", "0x70", "", "many", "1e3"];
     for allowance in wrong.into_iter().chain(["99999999999999999999"]) {
         for left in both("allowances", &["film.mve", "pictures", allowance], with_film) {
             assert_eq!((left.code, left.files.len()), (Some(2), 0), "{allowance}");
-            let message = format!(
-                "play: allowance {allowance}: give a number of stores, 65 or more, \
-                 or no block with pixels is ever finished\n"
-            );
+            let message =
+                format!("play: allowance {allowance}: give a number of stores, 1 or more\n");
             assert_eq!(left.messages, message);
         }
     }
-    for allowance in ["65", "065", "18446744073709551615"] {
+    for allowance in ["1", "65", "065", "18446744073709551615"] {
         for left in both("allowances", &["film.mve", "pictures", allowance], with_film) {
             assert_eq!((left.code, left.files.len()), (Some(0), demo::FRAMES + 1), "{allowance}");
         }

@@ -6,7 +6,7 @@ mod common;
 use common::{assert_played, assert_refused, Options};
 use maker::film_damage::{self, Damage};
 use maker::packet::Draft;
-use maker::{demo, film, Profile, Seeded, Size};
+use maker::{colours, demo, film, Profile, Seeded, Size};
 use reference::pictures;
 use reference::sound::NO_STREAM;
 use std::collections::{BTreeMap, BTreeSet};
@@ -38,6 +38,24 @@ fn good_films() {
     }
     println!("{sent} pictures of {} sizes, {stopped} stops", sizes.len());
     assert!(sent >= 100 && stopped >= 5000 && sizes.len() >= 20);
+}
+
+/// Films rich in palettes and maps: players are stopped in them, too (02, W11), down to one store a step.
+#[test]
+fn palettes() {
+    let (mut sent, mut stopped, mut colours) = (0, 0, BTreeSet::new());
+    for seed in 0..12 {
+        let bytes = colours::film(&mut Seeded::new(seed), 3).bytes();
+        let played = pictures::play(&bytes, NO_STREAM);
+        assert_eq!((played.refusal, played.pictures.len()), (None, 3));
+        for allowance in [1, 65, 700, 1535, 1536] {
+            stopped += assert_played("palettes", &bytes, &played, &silent(allowance));
+        }
+        sent += played.pictures.len();
+        colours.extend(played.pictures);
+    }
+    println!("{sent} pictures, {} of them unlike, {stopped} stops", colours.len());
+    assert!(colours.len() >= 30 && stopped >= 1000);
 }
 
 #[test]

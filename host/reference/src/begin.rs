@@ -3,6 +3,8 @@
 use crate::film::{open, step, Lent, State, Stepped};
 use crate::refusal::{self, Refusal};
 
+/// Stores allowed to a step: more than any has (02, W11).
+const STORES_A_STEP: usize = 312_000;
 /// Bytes of a room that is always enough: a word counts the samples, of at most two bytes each.
 const ROOM: usize = 2 * 0xFFFF;
 
@@ -33,8 +35,8 @@ pub fn begin(
             place: &mut new_place,
             room: &mut room,
         };
-        let refusal = match step(film, state, lent, 0) {
-            Stepped::Taken(next, _) | Stepped::Whole(next, ..) | Stepped::Unfinished(next, ..) => {
+        let refusal = match step(film, state, lent, STORES_A_STEP) {
+            Stepped::Taken(next, ..) | Stepped::Whole(next, ..) | Stepped::Unfinished(next, ..) => {
                 state = next;
                 continue;
             }

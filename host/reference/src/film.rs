@@ -1,9 +1,9 @@
 //! The film: header, chunks, opcodes, one step, the shown picture
-//! (01, "Film, chunks, opcodes" and "Numbers of refusal"; 02, W1, W2, W5 and W6).
+//! (01, "Film, chunks, opcodes" and "Numbers of refusal"; 02, W1, W2, W5, W6 and W11).
 
 use crate::frame::FrameSize;
 use crate::packet::{self, CallForm, Rows};
-use crate::palette;
+use crate::palette::{self, Entry};
 use crate::refusal::{self, Refusal};
 use crate::sound::{self, Sound};
 
@@ -122,7 +122,7 @@ pub struct Lent<'a> {
     pub room: &'a mut [u8],
 }
 
-/// What a step's drawing is allowed.
+/// What a step is allowed.
 #[derive(Clone, Copy)]
 struct Allowance {
     /// How many stores.
@@ -131,18 +131,18 @@ struct Allowance {
     form: CallForm,
 }
 
-/// The answer to one step. Only drawing counts stores; every other step makes 0 (01). Only 08 and
-/// 09 write to the room; every other step writes 0 bytes.
+/// The answer to one step. Palettes, 0F and drawing make stores and count them; every other step makes
+/// 0 (02, W11). Only 08 and 09 write to the room, which is not counted; every other step writes 0 bytes.
 #[derive(Clone, Copy, Debug, PartialEq, Eq)]
 pub enum Stepped {
-    /// A chunk head or an opcode other than 11 was taken. With the bytes written to the room's
-    /// front, which only chosen sound has.
-    Taken(State, usize),
+    /// A chunk head or an opcode other than 11 was taken. With the stores made, which only palettes and
+    /// 0F have, and the bytes written to the room's front, which only chosen sound has.
+    Taken(State, usize, usize),
     /// Opcode 11 was taken: its frame is whole. With the stores made, and the rows that its packet
     /// touches.
     Whole(State, usize, Option<Rows>),
-    /// Opcode 11 drew as many stores as allowed and is to be stepped again. With the stores made, and
-    /// the rows that the whole packet touches.
+    /// The stores allowed were made, and they are too few: the step is to be taken again. With the
+    /// stores made and, of opcode 11, the rows that the whole packet touches.
     Unfinished(State, usize, Option<Rows>),
     /// The film is at its end; nothing changed.
     Ended(State),
@@ -224,7 +224,8 @@ pub fn opcode_head(film: &[u8], position: usize, chunk_end: usize) -> Result<Opc
 /// opcode.
 ///
 /// Refusals come in the order 16, 8, 2 for a chunk head, and 16, 8, 3, 4, 5, then the opcode's
-/// own. While drawing is unfinished the state stays, so that the next step draws on.
+/// own. A step that is allowed too few stores makes the first of them and leaves the state, so that the
+/// next step takes the opcode again: a palette or 0F from its first store on, a drawing from its place.
 pub fn step(film: &[u8], state: State, lent: Lent<'_>, allowed: usize) -> Stepped {
     step_as(CallForm::Default, film, state, lent, allowed)
 }
@@ -239,7 +240,7 @@ pub fn step_as(
 ) -> Stepped {
     let allowance = Allowance { stores: allowed, form };
     match take_step(film, state, &mut lent, allowance) {
-        Ok(Stepped::Taken(after, bytes)) => Stepped::Taken(after.settled(), bytes),
+        Ok(Stepped::Taken(after, stores, bytes)) => Stepped::Taken(after.settled(), stores, bytes),
         Ok(Stepped::Whole(after, stores, rows)) => Stepped::Whole(after.settled(), stores, rows),
         Ok(stays) => stays,
         Err(refusal) => Stepped::Refused(refusal),
@@ -313,28 +314,28 @@ fn take_opcode(
 ) -> Result<Stepped, Refusal> {
     let head = opcode_head(film, state.position, state.chunk_end)?;
     let moved = State { position: head.body.start + head.body.length, ..state };
+    test_shape(&head, &state.sound)?;
     if is_passed_over(head.kind, &state.sound) {
         return Ok(taken(moved));
-    }
-    if !takes_version(head.kind, head.version) {
-        return Err(Refusal::new(refusal::TYPE_OR_VERSION));
-    }
-    if !takes_length(head.kind, head.version, head.body.length) {
-        return Err(Refusal::new(refusal::BODY_LENGTH));
     }
     let body = &film[head.body.start..][..head.body.length];
     match head.kind {
         opcode::END_OF_STREAM => Ok(taken(at_end(film, state))),
         opcode::INIT_VIDEO => init_video(body, moved).map(taken),
         opcode::SEND => Ok(taken(send(moved))),
-        opcode::GRADIENT => palette::create_gradient(body, lent.palette).map(|()| taken(moved)),
-        opcode::PALETTE => palette::set_palette(body, lent.palette).map(|()| taken(moved)),
-        opcode::PALETTE_COMPRESSED => {
-            palette::set_palette_compressed(body, lent.palette).map(|()| taken(moved))
+        opcode::GRADIENT => {
+            Ok(set_colours(&palette::gradient_entries(body)?, state, moved, lent, allowance))
         }
+        opcode::PALETTE => {
+            Ok(set_colours(&palette::palette_entries(body)?, state, moved, lent, allowance))
+        }
+        opcode::PALETTE_COMPRESSED => {
+            Ok(set_colours(&palette::compressed_entries(body)?, state, moved, lent, allowance))
+        }
+        opcode::MAP if allowance.stores == 0 => Ok(Stepped::Unfinished(state, 0, None)),
         opcode::MAP => {
             *lent.place = 0;
-            Ok(taken(State { map: Some(head.body), ..moved }))
+            Ok(Stepped::Taken(State { map: Some(head.body), ..moved }, 1, 0))
         }
         opcode::VIDEO => draw_video(film, &body[VIDEO_FRONT..], state, moved, lent, allowance),
         opcode::INIT_AUDIO => {
@@ -343,19 +344,54 @@ fn take_opcode(
         }
         opcode::AUDIO_DATA => {
             let (sound, bytes) = sound::data(state.sound, body, lent.room)?;
-            Ok(Stepped::Taken(State { sound, ..moved }, bytes))
+            Ok(Stepped::Taken(State { sound, ..moved }, 0, bytes))
         }
         opcode::AUDIO_SILENCE => {
             let bytes = sound::silence(state.sound, body, lent.room)?;
-            Ok(Stepped::Taken(moved, bytes))
+            Ok(Stepped::Taken(moved, 0, bytes))
         }
         _ => Ok(taken(moved)),
     }
 }
 
-/// The answer to a step that writes nothing to the room.
+/// Refusals 4 and 5, as far as the head tells them.
+pub(crate) fn test_shape(head: &OpcodeHead, sound: &Sound) -> Result<(), Refusal> {
+    if is_passed_over(head.kind, sound) {
+        return Ok(());
+    }
+    if !takes_version(head.kind, head.version) {
+        return Err(Refusal::new(refusal::TYPE_OR_VERSION));
+    }
+    if !takes_length(head.kind, head.version, head.body.length) {
+        return Err(Refusal::new(refusal::BODY_LENGTH));
+    }
+    Ok(())
+}
+
+/// The answer to a step that makes no store and writes nothing to the room.
 fn taken(state: State) -> Stepped {
-    Stepped::Taken(state, 0)
+    Stepped::Taken(state, 0, 0)
+}
+
+/// Opcodes 0B, 0C and 0D: stores the bytes of these entries, one by one, as far as is allowed. `moved` is
+/// the state for when all of them are stored.
+fn set_colours(
+    entries: &[Entry],
+    state: State,
+    moved: State,
+    lent: &mut Lent<'_>,
+    allowance: Allowance,
+) -> Stepped {
+    let stores = palette::stores(entries);
+    let made = stores.len().min(allowance.stores);
+    for store in &stores[..made] {
+        lent.palette[store.index] = store.value;
+    }
+    if made < stores.len() {
+        Stepped::Unfinished(state, made, None)
+    } else {
+        Stepped::Taken(moved, made, 0)
+    }
 }
 
 /// Whether a type is passed over unread, in any version and length: sound where no stream is

@@ -20,15 +20,19 @@
 //! | [`steps`] | the table of compressed sound |
 //! | [`film`] | header, chunks, opcodes, one step, the shown picture |
 //! | [`begin`] | opening, and stepping until there is a size |
+//! | [`cuts`] | the stores of a step in one list, and films played through cuts |
+//! | [`numbers`] | the film's calls with states and answers as numbers of any count |
 //! | [`listing`] | the text that the listing program writes |
 //! | [`pictures`] | the pictures that a film sends, as the example players write them |
 
 pub mod begin;
 pub mod block;
 pub mod book;
+pub mod cuts;
 pub mod film;
 pub mod frame;
 pub mod listing;
+pub mod numbers;
 pub mod origin;
 pub mod packet;
 pub mod palette;

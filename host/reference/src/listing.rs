@@ -42,14 +42,14 @@ fn lines(film: &[u8], opened: State) -> String {
             room: &mut [],
         };
         match film::step(film, state, lent, STORES_A_STEP) {
-            Stepped::Taken(after, _) | Stepped::Whole(after, ..) => {
+            Stepped::Taken(after, ..) | Stepped::Whole(after, ..) => {
                 lines += &opcode_line(film, &state);
                 if after.pixels() > MAX_PIXELS {
                     return lines + TOO_LARGE;
                 }
                 state = after;
             }
-            // Not met: no frame has more stores than a step is allowed.
+            // Not met: no step has more stores than it is allowed.
             Stepped::Unfinished(same, ..) => state = same,
             Stepped::Ended(_) => return lines + &format!("ended {}\n", film.len()),
             Stepped::Refused(refusal) => {

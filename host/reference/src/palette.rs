@@ -17,6 +17,15 @@ const MAX_GRADIENT_COLUMN: usize = 39;
 /// Entries that one mask byte of opcode 0D stands for.
 const GROUP: usize = 8;
 
+/// One store to the palette.
+#[derive(Clone, Copy, Debug, PartialEq, Eq)]
+pub struct Store {
+    /// Which byte.
+    pub index: usize,
+    /// Its new value.
+    pub value: u8,
+}
+
 /// One palette entry with the colour to store.
 #[derive(Clone, Copy, Debug, PartialEq, Eq)]
 pub struct Entry {
@@ -158,8 +167,14 @@ fn check_components(entries: &[Entry]) -> Result<(), Refusal> {
     }
 }
 
+/// The stores of these entries, in their order: red, green and blue of each (02, W11).
+pub fn stores(entries: &[Entry]) -> Vec<Store> {
+    let bytes = |entry: &Entry| (entry.index * COMPONENTS..).zip(entry.colour);
+    entries.iter().flat_map(bytes).map(|(index, value)| Store { index, value }).collect()
+}
+
 fn store(entries: &[Entry], palette: &mut [u8]) {
-    for Entry { index, colour } in entries {
-        palette[index * COMPONENTS..][..COMPONENTS].copy_from_slice(colour);
+    for Store { index, value } in stores(entries) {
+        palette[index] = value;
     }
 }

@@ -7,7 +7,7 @@ use crate::packet::Rows;
 use crate::palette;
 use crate::refusal::Refusal;
 
-/// Stores of the largest frame: every packet is drawn by one step.
+/// Stores of the largest frame: every packet is drawn by one step, and no palette has more.
 const STORES_A_STEP: usize = 312_000;
 /// Bytes of the longest packet's samples: a word counts them, and each has two bytes at most.
 const ROOM: usize = 2 * 65_535;
@@ -64,7 +64,7 @@ pub fn play(film: &[u8], stream: usize) -> Played {
             room: &mut room,
         };
         match film::step(film, state, lent, STORES_A_STEP) {
-            Stepped::Taken(after, bytes) => {
+            Stepped::Taken(after, _, bytes) => {
                 // Only a frame that is sent changes the roles (01, opcode 07).
                 if after.front != state.front {
                     let rows = std::mem::take(&mut touched[after.front]);
@@ -77,7 +77,7 @@ pub fn play(film: &[u8], stream: usize) -> Played {
                 touched[1 - state.front].extend(rows);
                 state = after;
             }
-            // Not met: no frame has more stores than a step is allowed.
+            // Not met: no step has more stores than it is allowed.
             Stepped::Unfinished(same, ..) => state = same,
             Stepped::Ended(_) => break None,
             Stepped::Refused(refusal) => break Some(refusal),

@@ -218,7 +218,7 @@ fn passed_over() {
             let before = lent.clone();
             let entered = lent.steps(&film, open(&film).expect("a good header"), 1);
             let after = State { position: 34 + length, ..entered };
-            assert_eq!(lent.step(&film, entered, 0), Stepped::Taken(after, 0));
+            assert_eq!(lent.step(&film, entered, 0), Stepped::Taken(after, 0, 0));
             assert_eq!(lent, before);
         }
     }
@@ -236,7 +236,7 @@ fn end_of_stream() {
     let state = lent.steps(&film, open(&film).expect("a good header"), 2);
     let at_end = State { position: film.len(), chunk_end: film.len(), ..state };
     assert_eq!(state.map.map(|map| map.length), Some(1));
-    assert_eq!(lent.step(&film, state, 0), Stepped::Taken(at_end, 0));
+    assert_eq!(lent.step(&film, state, 0), Stepped::Taken(at_end, 0, 0));
     assert_eq!(lent.step(&film, at_end, 0), Stepped::Ended(at_end));
     assert_eq!(lent.step(&film, at_end, 0), Stepped::Ended(at_end));
 }
@@ -262,7 +262,7 @@ fn init_video() {
     for (version, body) in
         [(0, "50 00 3c 00"), (1, "50 00 3c 00 ff ff"), (2, "50 00 3c 00 ff ff 00 00")]
     {
-        let Stepped::Taken(state, 0) = first_opcode(&[opcode(0x05, version, &hex(body))]) else {
+        let Stepped::Taken(state, 0, 0) = first_opcode(&[opcode(0x05, version, &hex(body))]) else {
             panic!("version {version} not taken");
         };
         assert_eq!((state.columns, state.rows), (80, 60));
@@ -386,7 +386,7 @@ fn set_map() {
     let entered = lent.steps(&film, open(&film).expect("a good header"), 1);
     let map = Span { start: 34, length: 3 };
     let after = State { position: 37, map: Some(map), ..entered };
-    assert_eq!(lent.step(&film, entered, 0), Stepped::Taken(after, 0));
+    assert_eq!(lent.step(&film, entered, 1), Stepped::Taken(after, 1, 0));
     assert_eq!(map.of(&film), Some(&hex("aa bb cc")[..]));
     assert_eq!(lent.place, 0);
 }
@@ -509,21 +509,28 @@ fn send_buffer() {
     assert_eq!(roles, expected);
 }
 
-/// Only drawing counts stores and is limited; every other step ignores the number allowed.
+/// Steps without a store ignore the number allowed, also a palette that stores nothing (02, W11).
 #[test]
 fn other_steps_ignore_the_allowance() {
-    let opcodes =
-        [opcode(0x0C, 0, &[0, 0, 1, 0, 1, 2, 3]), opcode(0x0F, 0, &[0x0E]), opcode(0x01, 0, &[])];
+    let opcodes = [
+        size(1, 1),
+        send(),
+        opcode(0x03, 9, &[1, 2, 3]), // no stream is chosen: passed over
+        opcode(0x0C, 0, &[0, 0, 0, 0]),
+        opcode(0x0D, 0, &[0; 32]),
+        opcode(0x0B, 0, &[255, 0, 9, 255, 9, 0]),
+        opcode(0x00, 0, &[]),
+    ];
     let film = film(&[chunk(&opcodes)]);
-    let mut lent = Lent::zero(0);
+    let mut lent = Lent::zero(64);
     let mut state = open(&film).expect("a good header");
-    for _ in 0..4 {
+    for _ in 0..=opcodes.len() {
         match lent.step(&film, state, 0) {
-            Stepped::Taken(after, 0) => state = after,
+            Stepped::Taken(after, 0, 0) => state = after,
             other => panic!("{other:?}"),
         }
     }
-    assert_eq!(lent.palette[..3], [1, 2, 3]);
+    assert_eq!(lent, Lent::zero(64));
     assert_eq!(lent.step(&film, state, 0), Stepped::Ended(state));
 }
 

@@ -133,7 +133,7 @@ fn steps() {
     let mut told = Vec::new();
     loop {
         state = match lent.step(&film, state, 66) {
-            Stepped::Taken(after, 0) => after,
+            Stepped::Taken(after, 0 | 1, 0) => after,
             Stepped::Whole(after, stores, rows) => {
                 told.push((true, stores, rows));
                 after

@@ -64,7 +64,7 @@ fn at_last(stream: usize, opcodes: &[Vec<u8>]) -> (Vec<u8>, State) {
 fn step_with_room(film: &[u8], state: State, room: usize) -> (Stepped, Vec<u8>) {
     let mut lent = Lent { room: vec![ROOM; room], ..Lent::zero(64) };
     let stepped = lent.step(film, state, 312_000);
-    let written = if let Stepped::Taken(_, bytes) = stepped { bytes } else { 0 };
+    let written = if let Stepped::Taken(_, _, bytes) = stepped { bytes } else { 0 };
     let bytes = lent.room[..written].to_vec();
     assert_eq!(lent.room[written..], vec![ROOM; room - written]);
     lent.room[..written].fill(ROOM);
@@ -84,7 +84,7 @@ fn answer(opcodes: &[Vec<u8>], room: usize) -> Stepped {
 fn written(opcodes: &[Vec<u8>]) -> (Vec<u8>, Sound) {
     let (film, state) = at_last(0, opcodes);
     match step_with_room(&film, state, 1000) {
-        (Stepped::Taken(after, _), bytes) => {
+        (Stepped::Taken(after, ..), bytes) => {
             assert_eq!(after, State { position: film.len(), sound: after.sound, ..state });
             (bytes, after.sound)
         }
@@ -182,7 +182,7 @@ fn format_versions_and_lengths() {
         for length in 0..16 {
             let stepped = answer(&[opcode(0x03, version, &vec![2; length])], 0);
             match (version, length) {
-                (0, 8) | (1, 10) => assert!(matches!(stepped, Stepped::Taken(_, 0))),
+                (0, 8) | (1, 10) => assert!(matches!(stepped, Stepped::Taken(_, 0, 0))),
                 (0 | 1, _) => assert_eq!(stepped, refused(5), "{version}, {length}"),
                 _ => assert_eq!(stepped, refused(4), "{version}, {length}"),
             }
@@ -199,7 +199,7 @@ fn packet_versions_and_lengths() {
             for length in 0..12 {
                 let body = vec![mask; length];
                 let taken = |stepped| match mask {
-                    0x00 => assert!(matches!(stepped, Stepped::Taken(_, 0))),
+                    0x00 => assert!(matches!(stepped, Stepped::Taken(_, 0, 0))),
                     _ => assert_eq!(stepped, refused(17)),
                 };
                 let stepped = answer(&[opcode(0x08, version, &body)], 0);
@@ -230,7 +230,7 @@ fn passed_over() {
                 let (film, state) = at_last(stream, &[opcode(kind, version, &vec![0xFF; length])]);
                 let after = State { position: film.len(), ..state };
                 let (stepped, _) = step_with_room(&film, state, 1000);
-                assert_eq!(stepped, Stepped::Taken(after, 0), "{stream}, {kind}, {version}");
+                assert_eq!(stepped, Stepped::Taken(after, 0, 0), "{stream}, {kind}, {version}");
             }
         }
     }
@@ -252,7 +252,7 @@ fn masks() {
                     let expected = if heard { bytes } else { &[] };
                     assert_eq!(
                         stepped,
-                        Stepped::Taken(after, expected.len()),
+                        Stepped::Taken(after, 0, expected.len()),
                         "{stream}, {mask:x}"
                     );
                     assert_eq!(written, expected, "{stream}, {mask:x}");
@@ -268,10 +268,10 @@ fn masks() {
 fn other_streams() {
     let other = |kind, count, data: &[u8]| opcode(kind, 0, &body(0xFFFE, count, data));
     for packet in [other(0x08, 3, &[1, 2]), other(0x08, 0, &[]), other(0x09, 65_535, &[])] {
-        assert!(matches!(answer(slice::from_ref(&packet), 0), Stepped::Taken(_, 0)));
+        assert!(matches!(answer(slice::from_ref(&packet), 0), Stepped::Taken(_, 0, 0)));
         for flags in ALL {
             let mut opcodes = vec![format(flags), packet.clone()];
-            assert!(matches!(answer(&opcodes, 0), Stepped::Taken(_, 0)));
+            assert!(matches!(answer(&opcodes, 0), Stepped::Taken(_, 0, 0)));
             opcodes.push(send());
             assert_eq!(written(&opcodes).1, fresh(flags));
         }
@@ -452,7 +452,7 @@ fn longest() {
     let (silent, state) = at_last(0, &[format(MONO_16), silence(65_535)]);
     assert_eq!(step_with_room(&silent, state, 131_069).0, refused(19));
     let (stepped, bytes) = step_with_room(&silent, state, 131_070);
-    assert!(matches!(stepped, Stepped::Taken(_, 131_070)));
+    assert!(matches!(stepped, Stepped::Taken(_, 0, 131_070)));
     assert_eq!(bytes, vec![0; 131_070]);
 
     let packet = data(65_524, &[hex("00 10"), vec![0; 65_523]].concat());
@@ -461,7 +461,7 @@ fn longest() {
     let opened = open(&long, 0).expect("a good header");
     let state = Lent::zero(0).steps(&long, opened, 3);
     let (stepped, bytes) = step_with_room(&long, state, 131_048);
-    assert!(matches!(stepped, Stepped::Taken(_, 131_048)), "{stepped:?}");
+    assert!(matches!(stepped, Stepped::Taken(_, 0, 131_048)), "{stepped:?}");
     assert_eq!(bytes, hex("00 10").repeat(65_524));
 }
 
@@ -542,7 +542,7 @@ fn number_18_below_the_channels() {
     }
     for flags in [MONO_COMPRESSED, STEREO_COMPRESSED] {
         let opcodes = [begun(flags), vec![data(0, &[])]].concat();
-        assert!(matches!(answer(&opcodes, 0), Stepped::Taken(_, 0)));
+        assert!(matches!(answer(&opcodes, 0), Stepped::Taken(_, 0, 0)));
     }
 }
 
@@ -569,13 +569,13 @@ fn number_19_room() {
             assert_eq!(step_with_room(&film, state, room).0, refused(19), "{needed}, {room}");
         }
         let (exact, bytes) = step_with_room(&film, state, needed);
-        assert!(matches!(exact, Stepped::Taken(_, written) if written == needed), "{exact:?}");
+        assert!(matches!(exact, Stepped::Taken(_, 0, written) if written == needed), "{exact:?}");
         assert_eq!(step_with_room(&film, state, needed + 9), (exact, bytes));
     }
     // What writes nothing needs no room.
     for flags in UNCOMPRESSED {
-        assert!(matches!(answer(&[format(flags), data(0, &[])], 0), Stepped::Taken(_, 0)));
-        assert!(matches!(answer(&[format(flags), silence(0)], 0), Stepped::Taken(_, 0)));
+        assert!(matches!(answer(&[format(flags), data(0, &[])], 0), Stepped::Taken(_, 0, 0)));
+        assert!(matches!(answer(&[format(flags), silence(0)], 0), Stepped::Taken(_, 0, 0)));
     }
 }
 
@@ -638,7 +638,7 @@ fn unread_fields() {
     for number in 0..10 {
         state.sound = unread;
         state = match lent.step(&film, state, 65) {
-            Stepped::Taken(after, 0) | Stepped::Whole(after, 65, _) => after,
+            Stepped::Taken(after, 0 | 1, 0) | Stepped::Whole(after, 65, _) => after,
             other => panic!("step {number}: {other:?}"),
         };
         assert_eq!(state.sound, Sound::new(3), "step {number}");
@@ -677,7 +677,7 @@ fn kept_fields() {
         let (film, state) = at_last(0, &[format(flags), packet]);
         let sound = Sound { left: 0x1234, right: 0x5678, ..state.sound };
         let (stepped, _) = step_with_room(&film, State { sound, ..state }, 1000);
-        let Stepped::Taken(State { sound, .. }, _) = stepped else { panic!("{stepped:?}") };
+        let Stepped::Taken(State { sound, .. }, ..) = stepped else { panic!("{stepped:?}") };
         assert_eq!((sound.begun, sound.left, sound.right), after, "{flags}");
     }
 }

@@ -8,7 +8,7 @@ use std::collections::{BTreeMap, BTreeSet};
 use std::path::Path;
 use std::process::Command;
 
-/// Every call takes less than this (document 02, W4).
+/// Every call takes less than this (document 02, W4), and every whole stage no more.
 pub const LIMIT: u64 = 1024;
 
 /// What the archive may call outside itself: what a compiler makes of plain loops and copies.
@@ -52,12 +52,18 @@ impl Texts {
         if !archive.is_file() {
             return Err(format!("{} is missing: run rt staticlib mve", archive.display()));
         }
-        Ok(Texts {
-            disassembly: written(archive, "objdump", &["-dr", "--no-show-raw-insn"])?,
-            relocations: written(archive, "objdump", &["-r"])?,
-            sections: written(archive, "objdump", &["-hw"])?,
-            symbols: written(archive, "nm", &[])?,
-        })
+        let [disassembly, relocations] = Texts::code_of(archive)?;
+        let sections = written(archive, "objdump", &["-hw"])?;
+        let symbols = written(archive, "nm", &[])?;
+        Ok(Texts { disassembly, relocations, sections, symbols })
+    }
+
+    /// The disassembly and the relocations of an archive or an object.
+    pub fn code_of(object: &Path) -> Result<[String; 2], String> {
+        Ok([
+            written(object, "objdump", &["-dr", "--no-show-raw-insn"])?,
+            written(object, "objdump", &["-r"])?,
+        ])
     }
 }
 

@@ -2,7 +2,7 @@
 //! it may go, with the bytes that lie on the stack then: its return address, what it has pushed and
 //! what it has taken off the stack pointer. What cannot be followed is a fault: an indirect call,
 //! an indirect jump that is no jump table, a function that calls itself, a stack pointer that is
-//! moved by a register.
+//! moved by a register, unless it was copied there before and the register is one that calls keep.
 
 use crate::listing::{Function, Instruction, Listing};
 use std::collections::BTreeMap;
@@ -11,6 +11,15 @@ use std::collections::BTreeMap;
 const WORD: u64 = 8;
 /// What the ABI lets a function use below the stack pointer.
 const RED_ZONE: u64 = 128;
+/// The registers that calls keep, and their parts.
+const KEPT: [&[&str]; 6] = [
+    &["%rbx", "%ebx", "%bx", "%bl", "%bh"],
+    &["%rbp", "%ebp", "%bp", "%bpl"],
+    &["%r12", "%r12d", "%r12w", "%r12b"],
+    &["%r13", "%r13d", "%r13w", "%r13b"],
+    &["%r14", "%r14d", "%r14w", "%r14b"],
+    &["%r15", "%r15d", "%r15w", "%r15b"],
+];
 
 /// A call, or a jump to another function in place of one.
 #[derive(Clone, Debug, PartialEq, Eq)]
@@ -128,14 +137,23 @@ enum Target {
     Function(String),
 }
 
+/// What is known before an instruction, whichever way leads there.
+#[derive(Clone, Debug, Default, PartialEq, Eq)]
+struct Known {
+    /// The bytes on the stack.
+    depth: u64,
+    /// The registers that hold the stack pointer as it was with so many bytes on the stack.
+    copies: BTreeMap<&'static str, u64>,
+}
+
 /// The walk over one function.
 struct Walk<'l> {
     listing: &'l Listing,
     function: &'l Function,
     /// Where its jump tables lead.
     tables: Vec<u64>,
-    /// The depth before each instruction that was reached.
-    depths: BTreeMap<u64, u64>,
+    /// What is known before each instruction that was reached.
+    known: BTreeMap<u64, Known>,
     open: Vec<u64>,
     frame: Frame,
 }
@@ -143,12 +161,12 @@ struct Walk<'l> {
 impl<'l> Walk<'l> {
     fn new(listing: &'l Listing, function: &'l Function) -> Self {
         let (tables, open) = (Vec::new(), Vec::new());
-        Walk { listing, function, tables, depths: BTreeMap::new(), open, frame: Frame::default() }
+        Walk { listing, function, tables, known: BTreeMap::new(), open, frame: Frame::default() }
     }
 
     fn frame(mut self) -> Result<Frame, String> {
         self.tables = self.table_targets()?;
-        self.go_to(self.function.start, WORD)?;
+        self.go_to(self.function.start, &Known { depth: WORD, copies: BTreeMap::new() })?;
         while let Some(at) = self.open.pop() {
             let all = &self.function.instructions;
             let index = all.binary_search_by_key(&at, |instruction| instruction.at);
@@ -162,35 +180,43 @@ impl<'l> Walk<'l> {
         Ok(self.frame)
     }
 
-    /// Goes on at an address with so many bytes on the stack.
-    fn go_to(&mut self, at: u64, depth: u64) -> Result<(), String> {
-        match self.depths.insert(at, depth) {
-            None => self.open.push(at),
-            Some(before) if before == depth => (),
-            Some(before) => {
-                return Err(format!("{before} and {depth} bytes on the stack at {at:x}"))
-            }
+    /// Goes on at an address, with this known. Where two ways lead there, the bytes on the stack are the
+    /// same, and what else is known is what both know.
+    fn go_to(&mut self, at: u64, known: &Known) -> Result<(), String> {
+        let Some(before) = self.known.get_mut(&at) else {
+            self.known.insert(at, known.clone());
+            self.open.push(at);
+            return Ok(());
+        };
+        let (one, other) = (before.depth, known.depth);
+        if one != other {
+            return Err(format!("{one} and {other} bytes on the stack at {at:x}"));
+        }
+        let count = before.copies.len();
+        before.copies.retain(|register, depth| known.copies.get(register) == Some(depth));
+        if before.copies.len() < count {
+            self.open.push(at);
         }
         Ok(())
     }
 
     fn step(&mut self, instruction: &Instruction, next: Option<u64>) -> Result<(), String> {
-        let before = self.depths[&instruction.at];
-        let depth = depth_after(instruction, before)?;
-        let below = below(&instruction.operands)?;
+        let before = self.known[&instruction.at].clone();
+        let after = known_after(instruction, &before)?;
+        let (depth, below) = (after.depth, below(&instruction.operands)?);
         self.frame.below = self.frame.below.max(below);
-        self.frame.bytes = self.frame.bytes.max(depth).max(before + below);
+        self.frame.bytes = self.frame.bytes.max(depth).max(before.depth + below);
         let flow = self.flow(instruction)?;
         let falls = matches!(flow, Flow::Next | Flow::Branch(_) | Flow::Call(_));
         match flow {
-            Flow::Jump(target) | Flow::Branch(target) => self.jump(target, depth)?,
+            Flow::Jump(target) | Flow::Branch(target) => self.jump(target, &after)?,
             Flow::Call(Target::Function(to)) => self.call(to, depth),
             Flow::Call(Target::Inside(_)) => return Err("it calls itself".to_string()),
             Flow::Table if self.tables.is_empty() => {
                 return Err("an indirect jump without a jump table".to_string());
             }
             Flow::Table => {
-                self.tables.clone().iter().try_for_each(|target| self.go_to(*target, depth))?
+                self.tables.clone().iter().try_for_each(|target| self.go_to(*target, &after))?
             }
             Flow::End if instruction.name.starts_with("ret") && depth != WORD => {
                 return Err(format!("a return with {depth} bytes on the stack"));
@@ -198,21 +224,23 @@ impl<'l> Walk<'l> {
             Flow::Next | Flow::End => (),
         }
         match (falls, next) {
-            (true, Some(next)) => self.go_to(next, depth),
+            (true, Some(next)) => self.go_to(next, &after),
             (true, None) => Err("the function does not end".to_string()),
             (false, _) => Ok(()),
         }
     }
 
     /// A jump to another function leaves it the return address that is there.
-    fn jump(&mut self, target: Target, depth: u64) -> Result<(), String> {
-        match target {
-            Target::Inside(at) => self.go_to(at, depth),
-            Target::Function(to) if depth == WORD => {
+    fn jump(&mut self, target: Target, known: &Known) -> Result<(), String> {
+        match (target, known.depth) {
+            (Target::Inside(at), _) => self.go_to(at, known),
+            (Target::Function(to), WORD) => {
                 self.call(to, 0);
                 Ok(())
             }
-            Target::Function(to) => Err(format!("a jump to {to} with {depth} bytes on the stack")),
+            (Target::Function(to), depth) => {
+                Err(format!("a jump to {to} with {depth} bytes on the stack"))
+            }
         }
     }
 
@@ -294,7 +322,7 @@ impl<'l> Walk<'l> {
         let is_filling =
             |name: &str| name.starts_with("nop") || ["int3", "ud2", "xchg"].contains(&name);
         let mut missed =
-            self.function.instructions.iter().filter(|found| !self.depths.contains_key(&found.at));
+            self.function.instructions.iter().filter(|found| !self.known.contains_key(&found.at));
         match missed.find(|found| !is_filling(&found.name)) {
             Some(found) => {
                 Err(format!("at {:x}: {} is reached by nothing that is read", found.at, found.name))
@@ -315,11 +343,36 @@ impl<'l> Walk<'l> {
         let is_kept = self.function.instructions.iter().any(is_address);
         let calls = self.function.instructions.iter().any(|found| found.name.starts_with("call"));
         if !calls && is_kept {
-            let most = self.depths.values().max().map_or(0, |depth| depth + RED_ZONE);
+            let depths = self.known.values().map(|known| known.depth);
+            let most = depths.max().map_or(0, |depth| depth + RED_ZONE);
             self.frame.below = self.frame.below.max(RED_ZONE);
             self.frame.bytes = self.frame.bytes.max(most);
         }
     }
+}
+
+/// What is known behind an instruction.
+fn known_after(instruction: &Instruction, before: &Known) -> Result<Known, String> {
+    let Instruction { name, operands, .. } = instruction;
+    let is_move = ["mov", "movq"].contains(&&**name);
+    let (source, target) = operands.rsplit_once(',').unwrap_or(("", operands));
+    let mut after = before.clone();
+    if let (true, "%rsp", Some(depth)) = (is_move, target, before.copies.get(source)) {
+        after.depth = *depth;
+        return Ok(after);
+    }
+    after.depth = depth_after(instruction, before.depth)?;
+    let only_reads = ["push", "pushq", "cmp", "cmpq", "test", "testq"].contains(&&**name);
+    for parts in KEPT.iter().filter(|_| !only_reads) {
+        let is_written = parts.contains(&target) || name.contains("xchg");
+        if is_written && parts.iter().any(|part| operands.contains(part)) {
+            after.copies.remove(parts[0]);
+        }
+        if is_move && source == "%rsp" && target == parts[0] {
+            after.copies.insert(parts[0], before.depth);
+        }
+    }
+    Ok(after)
 }
 
 /// The bytes on the stack behind an instruction. Whatever else moves the stack pointer is a fault.

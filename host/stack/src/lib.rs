@@ -1,4 +1,4 @@
-//! The stack of the library (document 02, W4): a boot stage has 1 KiB.
+//! The stack of the library and of a whole caller of it (document 02, W4): a boot stage has 1 KiB.
 //!
 //! | Module | What it tells |
 //! |---|---|
@@ -6,6 +6,7 @@
 //! | [`tokens`], [`source`], [`tree`] | the sources, as far as that needs them |
 //! | [`archive`] | the figures of the compiled archive: the stack of each exported call, and more |
 //! | [`listing`], [`frames`] | the disassembled archive, and the bytes that each function takes |
+//! | [`stage`] | a least caller of each call, its arguments and the library together |
 //! | [`report`] | the figures as they stand in `include/mve.h` and `docs/PERFORMANCE.md` |
 //!
 //! `tests/` compares both documents with the figures. `stack` prints them.
@@ -16,6 +17,7 @@ pub mod frames;
 pub mod listing;
 pub mod report;
 pub mod source;
+pub mod stage;
 pub mod tokens;
 pub mod tree;
 

@@ -64,7 +64,20 @@ impl Listing {
         let functions = functions(disassembly)?;
         let mut data = data(relocations)?;
         data.retain(|section, _| functions.iter().all(|function| function.section != *section));
-        Ok(Listing { functions, data })
+        let mut listing = Listing { functions, data };
+        listing.drop_constants();
+        Ok(listing)
+    }
+
+    /// Leaves out what refers to a section that is not code, as the address of a text does.
+    fn drop_constants(&mut self) {
+        let mut data = std::mem::take(&mut self.data);
+        for table in data.values_mut() {
+            table
+                .retain(|(_, found)| !found.symbol.starts_with('.') || self.is_code(&found.symbol));
+        }
+        data.retain(|_, table| !table.is_empty());
+        self.data = data;
     }
 
     /// The function of this name.

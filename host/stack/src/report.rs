@@ -1,11 +1,16 @@
 //! The figures as they stand in `include/mve.h` and in `docs/PERFORMANCE.md`.
 
 use crate::archive::{Figures, LIMIT};
+use crate::stage::Stages;
 
 /// The heading of the header's section.
 const HEADER_SECTION: &str = "LINKING FOR A BOOT STAGE";
 /// The heading of the page's section.
 const PAGE_SECTION: &str = "## Stack";
+/// What stands in front of a call in the header's table of stages.
+const STAGE: &str = "whole stage of ";
+/// What stands in front of the compiler there.
+const COMPILER: &str = "compiler of the stages";
 
 /// The table in the header: a line for each figure.
 pub fn header_table(figures: &Figures) -> String {
@@ -35,16 +40,56 @@ pub fn page_table(figures: &Figures) -> String {
     head.to_string() + &rows.collect::<String>()
 }
 
+/// The table of the whole stages in the header.
+pub fn header_stages(stages: &Stages) -> String {
+    let stage = |(name, bytes): (&str, String)| format!("    {name:<31} {bytes}\n");
+    let rows = stages.calls.iter().map(|(name, whole)| {
+        let name = format!("{STAGE}{name}");
+        stage((&name, format!("{} bytes", grouped(whole.bytes()))))
+    });
+    stage((COMPILER, stages.compiler.clone())) + &rows.collect::<String>()
+}
+
+/// The table of the whole stages on the page.
+pub fn page_stages(stages: &Stages) -> String {
+    let head = "| whole stage of | bytes | painted | deepest chain |\n|---|---:|---:|---|\n";
+    let rows = stages.calls.iter().map(|(name, whole)| {
+        let frames = whole.chain.0.iter().map(|(name, bytes)| format!("`{name}` {bytes}"));
+        let frames = frames.collect::<Vec<_>>().join(", ");
+        let [bytes, painted] = [whole.chain.bytes(), whole.painted].map(grouped);
+        format!("| `{name}` | {bytes} | {painted} | {frames} |\n")
+    });
+    head.to_string() + &rows.collect::<String>()
+}
+
 /// The table that the header has: the indented lines of its section.
 pub fn table_in_header(header: &str) -> String {
+    let lines = header_lines(header);
+    lines.lines().filter(|line| !is_of_stages(line)).map(|line| format!("{line}\n")).collect()
+}
+
+/// The table of the whole stages that the header has.
+pub fn stages_in_header(header: &str) -> String {
+    let lines = header_lines(header);
+    lines.lines().filter(|line| is_of_stages(line)).map(|line| format!("{line}\n")).collect()
+}
+
+fn is_of_stages(line: &str) -> bool {
+    let text = line.trim_start();
+    text.starts_with(STAGE) || text.starts_with(COMPILER)
+}
+
+fn header_lines(header: &str) -> String {
     let is_heading =
         |line: &str| !line.is_empty() && line.chars().all(|c| c.is_ascii_uppercase() || c == ' ');
     section(header, HEADER_SECTION, |line| is_heading(line) || line == "*/", "    ")
 }
 
-/// The table that the page has.
-pub fn table_in_page(page: &str) -> String {
-    section(page, PAGE_SECTION, |line| line.starts_with("## "), "|")
+/// The tables that the page has, of the calls and of the whole stages.
+pub fn tables_in_page(page: &str) -> [String; 2] {
+    let lines = section(page, PAGE_SECTION, |line| line.starts_with("## "), "|");
+    let start = lines.find("| whole stage of |").unwrap_or(lines.len());
+    [lines[..start].to_string(), lines[start..].to_string()]
 }
 
 /// The lines of a section that begin so.
@@ -52,6 +97,35 @@ fn section(text: &str, heading: &str, is_end: impl Fn(&str) -> bool, start: &str
     let behind = text.lines().skip_while(|line| *line != heading).skip(1);
     let inside = behind.take_while(|line| !is_end(line)).filter(|line| line.starts_with(start));
     inside.map(|line| format!("{line}\n")).collect()
+}
+
+/// Whether the gate passes: every call and every whole stage keeps within the limit.
+pub fn verdict(figures: &Figures, stages: &Stages) -> Result<(), String> {
+    match (&figures.too_deep()[..], &stages.too_deep()[..]) {
+        ([], []) => Ok(()),
+        ([], calls) => {
+            let calls = calls.join(", ");
+            Err(format!("more than {LIMIT} bytes of stack with a least caller: {calls}"))
+        }
+        (calls, _) => Err(format!("{LIMIT} bytes of stack or more: {}", calls.join(", "))),
+    }
+}
+
+/// What the gate prints of the whole stages: the chains with the limit, and what was painted over.
+pub fn gate_stages(stages: &Stages) -> String {
+    let chains = stages.calls.iter().map(|(name, whole)| {
+        let frames = whole.chain.0.iter().map(|(name, bytes)| format!("{name} {bytes}"));
+        let frames = frames.collect::<Vec<_>>().join(" + ");
+        let verdict = if whole.bytes() <= LIMIT { "" } else { ": too deep" };
+        let (bytes, painted) = (grouped(whole.chain.bytes()), grouped(whole.painted));
+        format!("    {name}: {bytes} ({frames}), {painted} on a painted stack{verdict}\n")
+    });
+    format!(
+        "whole stages, each {} bytes at most, by {}:\n{}",
+        grouped(LIMIT),
+        stages.compiler,
+        chains.collect::<String>()
+    )
 }
 
 /// What the gate prints: every figure, and the chains with the limit.

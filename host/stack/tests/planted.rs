@@ -2,9 +2,11 @@
 //! must be told.
 
 use stack::archive::{Figures, Texts};
-use stack::frames::{deepest, frames};
+use stack::frames::{deepest, frames, Chain};
 use stack::listing::Listing;
-use stack::report::{gate_text, header_table, page_table, table_in_header, table_in_page};
+use stack::report::{gate_stages, gate_text, header_stages, header_table, page_stages, page_table};
+use stack::report::{stages_in_header, table_in_header, tables_in_page, verdict};
+use stack::stage::{Stages, Whole};
 
 const OBJECT: &str = "mve.o:     file format elf64-x86-64\n";
 
@@ -132,6 +134,54 @@ fn calls() {
     assert_eq!(chain_of(&[("a", outside)]), named(&[("a", 16), ("memset", 8)]));
 }
 
+/// A stack pointer that is copied to a register which calls keep, and comes back from there.
+#[test]
+fn copies_of_the_stack_pointer() {
+    let b: &[&str] = &["sub    $0x20,%rsp", "add    $0x20,%rsp", "ret"];
+    let round = |between: &'static str| {
+        [
+            "push   %rbx",
+            "sub    $0x10,%rsp",
+            "mov    %rsp,%rbx",
+            "push   %rax",
+            "push   %rbx",
+            "call   6 <x>",
+            "R_X86_64_PLT32\tb-0x4",
+            between,
+            "mov    %rbx,%rsp",
+            "jne    2 <a+0x2>",
+            "add    $0x10,%rsp",
+            "pop    %rbx",
+            "ret",
+        ]
+    };
+    for between in ["mov    %rbx,%rdi", "cmp    %rax,%rbx", "mov    %rax,(%rbx)", "inc    %rbp"] {
+        let found = chain_of(&[("a", &round(between)), ("b", b)]);
+        assert_eq!(found, named(&[("a", 48), ("b", 40)]), "{between}");
+    }
+    for between in ["inc    %rbx", "mov    $0x0,%ebx", "xchg   %rbx,%rax", "movzbl (%rdi),%ebx"] {
+        let fault = chain(&[("a", &round(between)), ("b", b)], "").expect_err("another %rbx");
+        let told = "a: at 7: it is not read how mov %rbx,%rsp moves the stack pointer";
+        assert_eq!(fault, told, "{between}");
+    }
+    // on one of two ways it is not copied
+    let either: &[&str] = &[
+        "push   %rbx",
+        "je     3 <a+0x3>",
+        "mov    %rsp,%rbx",
+        "push   %rax",
+        "mov    %rbx,%rsp",
+        "pop    %rbx",
+        "ret",
+    ];
+    let told = "a: at 4: it is not read how mov %rbx,%rsp moves the stack pointer";
+    assert_eq!(fault(either), told);
+    // a call may change it
+    let other: &[&str] = &["mov    %rsp,%rax", "push   %rbx", "mov    %rax,%rsp", "ret"];
+    let told = "a: at 2: it is not read how mov %rax,%rsp moves the stack pointer";
+    assert_eq!(fault(other), told);
+}
+
 /// Functions in one section call each other without the linker.
 #[test]
 fn one_section() {
@@ -180,6 +230,14 @@ fn jump_tables() {
         Err(".rodata.a has addresses and is not one function's jump table".to_string())
     );
     let fault = chain(&[("a", &["ret"])], &table(".data.rel.ro", &[(0, ".text.a")]));
+    assert_eq!(
+        fault,
+        Err(".data.rel.ro has addresses and is not one function's jump table".to_string())
+    );
+    // the addresses of texts are no jump table, those of a function outside may be called
+    let texts = table(".data.rel.ro", &[(0, ".rodata.str1.1"), (8, ".rodata.str1.1+0x4")]);
+    assert_eq!(chain(&[("a", &["ret"])], &texts), Ok(named(&[("a", 8)])));
+    let fault = chain(&[("a", &["ret"])], &table(".data.rel.ro", &[(0, "memset")]));
     assert_eq!(
         fault,
         Err(".data.rel.ro has addresses and is not one function's jump table".to_string())
@@ -316,7 +374,46 @@ fn limit() {
     for bytes in [1024, 2008] {
         assert_eq!(of(bytes).too_deep(), ["a"]);
         assert!(gate_text(&of(bytes)).contains(&format!("a: a {bytes}: too deep")));
+        let fault = verdict(&of(bytes), &Stages::default());
+        assert_eq!(fault, Err("1024 bytes of stack or more: a".to_string()));
     }
+}
+
+/// The whole stage of one call, by each measurement.
+fn stages(read: u64, painted: u64) -> Stages {
+    let chain = Chain(named(&[("stage", read - 24), ("a", 24)]));
+    let calls = [("a".to_string(), Whole { chain, painted })];
+    Stages { compiler: "cc 1.2".to_string(), calls: calls.into() }
+}
+
+#[test]
+fn limit_of_a_stage() {
+    for (read, painted) in [(1024, 1016), (1000, 1024)] {
+        assert!(stages(read, painted).too_deep().is_empty());
+    }
+    let figures = Figures::new(&texts(SMALL)).expect("figures");
+    assert_eq!(verdict(&figures, &stages(1024, 1024)), Ok(()));
+    for (read, painted) in [(1025, 1000), (1000, 1025), (4000, 3000)] {
+        let stages = stages(read, painted);
+        assert_eq!(stages.too_deep(), ["a"]);
+        assert!(gate_stages(&stages).contains(" on a painted stack: too deep\n"));
+        let fault = "more than 1024 bytes of stack with a least caller: a";
+        assert_eq!(verdict(&figures, &stages), Err(fault.to_string()));
+    }
+}
+
+#[test]
+fn tables_of_stages() {
+    let stages = stages(1024, 1016);
+    let header = "    compiler of the stages          cc 1.2
+    whole stage of a                1,024 bytes\n";
+    assert_eq!(header_stages(&stages), header);
+    let page = "| whole stage of | bytes | painted | deepest chain |\n|---|---:|---:|---|\n\
+        | `a` | 1,024 | 1,016 | `stage` 1000, `a` 24 |\n";
+    assert_eq!(page_stages(&stages), page);
+    let gate = "whole stages, each 1,024 bytes at most, by cc 1.2:\n    \
+        a: 1,024 (stage 1000 + a 24), 1,016 on a painted stack\n";
+    assert_eq!(gate_stages(&stages), gate);
 }
 
 #[test]
@@ -367,5 +464,12 @@ fn tables_in_documents() {
     assert_eq!(table_in_header(last), "    code  1\n");
     assert_eq!(table_in_header("THE FILM\n    code  1\n"), "");
     let page = "## Times\n| a | b |\n## Stack\n\nText.\n\n| c | d |\n|---|---|\n\n## More\n| e |\n";
-    assert_eq!(table_in_page(page), "| c | d |\n|---|---|\n");
+    assert_eq!(tables_in_page(page), ["| c | d |\n|---|---|\n", ""]);
+    let stages = "| whole stage of | bytes |\n|---|---|\n| e | 1 |\n";
+    let both = page.replace("\n\n## More", &format!("\n\nText.\n\n{stages}\n## More"));
+    assert_eq!(tables_in_page(&both), ["| c | d |\n|---|---|\n", stages]);
+    let lines = "    compiler of the stages   cc 1.2\n    whole stage of a         3 bytes\n";
+    let header = format!("LINKING FOR A BOOT STAGE\n    code  1\n\nText.\n{lines}*/\n");
+    assert_eq!(table_in_header(&header), "    code  1\n");
+    assert_eq!(stages_in_header(&header), lines);
 }

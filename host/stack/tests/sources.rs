@@ -59,7 +59,7 @@ fn no_array_is_reached() {
     let reached = follow(&tree, &offered(&tree).expect("the offered calls"));
     // the functions that store are the deepest ones
     let storing = ["paint::put", "paint::set_place", "palette::put", "room::put_byte", "dpcm::put"];
-    for deep in storing.into_iter().chain(["mve::mve_step_as"]) {
+    for deep in storing.into_iter().chain(["mve::mve_step"]) {
         assert!(reached.functions.iter().any(|name| name == deep), "{deep} is not reached");
     }
     let faults: Vec<String> = reached.faults.iter().map(ToString::to_string).collect();

@@ -3,9 +3,10 @@
 
 use crate::kept::{Memory, Numbers};
 use crate::list::{self, Packet, Store};
-use crate::state;
+use mve::numbers::STATE_NUMBERS;
 use mve::ROOM_BYTES;
 use reference::film::{Lent, State, Stepped};
+use reference::numbers::numbers_of;
 use reference::CallForm;
 
 /// A process to stop, and what is expected at a stop.
@@ -72,7 +73,7 @@ impl Drawing {
 }
 
 /// The rows that the second decoder tells.
-fn rows(touched: Option<reference::Rows>) -> Option<mve::Rows> {
+pub(crate) fn rows(touched: Option<reference::Rows>) -> Option<mve::Rows> {
     touched.map(|reference::Rows { first, last }| mve::Rows { first, last })
 }
 
@@ -133,7 +134,8 @@ impl Case for Drawing {
     }
 }
 
-/// A walk over a film to its end by `mve_step` or `mve_step_strict`, every step with the same allowance.
+/// A walk over a film to its end by `mve_step`, every step of the same form and with the same allowance,
+/// which is enough for its palettes.
 /// What is kept begins with the film's first state.
 #[derive(Clone, Debug)]
 pub struct Walk {
@@ -169,7 +171,7 @@ impl Walk {
         allowed: usize,
     ) -> Walk {
         let opened = reference::film::open(&film, stream).expect("a valid film");
-        let found = Memory { state: state::second_numbers(opened), ..first };
+        let found = Memory { state: numbers_of(opened), ..first };
         let (stores, calls) = listed_walk(form, &film, opened, found.clone(), allowed);
         let answer = format!("ended after {calls} steps\n");
         let steps = steps(form, &film, stream, found.clone());
@@ -197,14 +199,12 @@ fn listed_walk(
 ) -> (Vec<Store>, usize) {
     let (mut state, mut stores) = (opened, Vec::new());
     for calls in 1.. {
-        let mut listed = list::step(film, &state, &memory).expect("a valid film");
-        if list::packet_at(film, &state).is_some() {
-            listed.truncate(allowed);
-        }
+        let mut listed = list::step(film, &state, &memory);
+        listed.truncate(allowed);
         let mut model = memory.clone();
         listed.iter().for_each(|&store| model.make(store));
         let next = match second_step(form, film, state, &mut memory, allowed).0 {
-            Stepped::Taken(next, _) | Stepped::Whole(next, ..) => next,
+            Stepped::Taken(next, ..) | Stepped::Whole(next, ..) => next,
             Stepped::Unfinished(same, ..) => same,
             Stepped::Ended(_) => return (stores, calls),
             Stepped::Refused(refusal) => panic!("a valid film is refused: {refusal:?}"),
@@ -212,7 +212,7 @@ fn listed_walk(
         assert!(model == memory, "the list is not that of the second decoder's step");
         stores.extend(listed);
         if next != state {
-            let saved = Store::State(state::second_numbers(next));
+            let saved = Store::State(numbers_of(next));
             stores.push(saved);
             memory.make(saved);
         }
@@ -224,16 +224,16 @@ fn listed_walk(
 /// The steps of a film that nothing stops.
 pub fn steps(form: CallForm, film: &[u8], stream: usize, mut memory: Memory) -> Vec<Step> {
     let mut state = reference::film::open(film, stream).expect("a valid film");
-    memory.state = state::second_numbers(state);
+    memory.state = numbers_of(state);
     let mut steps = Vec::new();
     loop {
         let before = memory.clone();
         let (answer, samples) = second_step(form, film, state, &mut memory, usize::MAX);
         let next = match answer {
-            Stepped::Taken(next, _) | Stepped::Whole(next, ..) | Stepped::Ended(next) => next,
+            Stepped::Taken(next, ..) | Stepped::Whole(next, ..) | Stepped::Ended(next) => next,
             other => panic!("a valid film is answered {other:?}"),
         };
-        memory.state = state::second_numbers(next);
+        memory.state = numbers_of(next);
         steps.push(Step { state, before, answer, samples });
         if let Stepped::Ended(_) = answer {
             return steps;
@@ -244,12 +244,12 @@ pub fn steps(form: CallForm, film: &[u8], stream: usize, mut memory: Memory) -> 
 
 /// Which step has this state.
 pub fn at(steps: &[Step], state: Numbers) -> Result<usize, String> {
-    let step = steps.iter().position(|step| state::second_numbers(step.state) == state);
+    let step = steps.iter().position(|step| numbers_of(step.state) == state);
     step.ok_or_else(|| format!("the saved state is none of the film's: {state:?}"))
 }
 
 /// A step of the second decoder, and the samples that it writes.
-fn second_step(
+pub(crate) fn second_step(
     form: CallForm,
     film: &[u8],
     state: State,
@@ -260,7 +260,7 @@ fn second_step(
     let mut room = vec![0; ROOM_BYTES];
     let lent = Lent { palette, picture_a, picture_b, place, room: &mut room };
     let stepped = reference::film::step_as(form, film, state, lent, allowed);
-    room.truncate(if let Stepped::Taken(_, bytes) = stepped { bytes } else { 0 });
+    room.truncate(if let Stepped::Taken(_, _, bytes) = stepped { bytes } else { 0 });
     (stepped, room)
 }
 
@@ -289,19 +289,17 @@ impl Case for Walk {
         let after = self.steps.get(stopped + 1).unwrap_or(&self.steps[stopped]);
         let mut memory = left.clone();
         let Memory { palette, pictures: [a, b], place, .. } = &mut memory;
-        let (given, mut room) = (state::of_numbers(left.state), vec![0; samples.len()]);
-        let call = match self.form {
-            CallForm::Default => mve::step,
-            CallForm::Strict => mve::step_strict,
-        };
-        let step = call(&self.film, given, palette, a, b, place, &mut room, usize::MAX)
+        let given =
+            mve::State::from_numbers(&left.state).ok_or("the saved numbers are no state")?;
+        let (mut room, form) = (vec![0; samples.len()], own_form(self.form));
+        let step = mve::step(&self.film, given, palette, a, b, place, &mut room, usize::MAX, form)
             .map_err(|refusal| format!("the new step is refused: {refusal}"))?;
-        memory.state = state::numbers(step.state());
+        memory.state = step.state().numbers();
         let packet = list::packet_at(&self.film, state);
         let due = packet.map_or(0, |packet| list::due(&packet, left.place));
         match (undisturbed, step) {
-            (Stepped::Taken(_, bytes), mve::Step::Taken { bytes: again, .. })
-                if *bytes == again => {}
+            (Stepped::Taken(_, made, bytes), mve::Step::Taken { stores, bytes: again, .. })
+                if *made == stores && *bytes == again => {}
             (Stepped::Ended(_), mve::Step::Ended { .. }) => {}
             (Stepped::Whole(_, _, touched), mve::Step::Whole { stores, rows: again, .. })
                 if stores == due && again == rows(*touched) => {}
@@ -330,11 +328,19 @@ pub(crate) fn same(memory: &Memory, undisturbed: &Memory) -> Result<(), String> 
     }
 }
 
-/// No state: of a drawing call, which has none.
-pub const NO_STATE: Numbers = [0; 17];
+/// No state: of a drawing call, which has none, and of an opening.
+pub const NO_STATE: Numbers = [0; STATE_NUMBERS];
+
+/// The library's form.
+pub fn own_form(form: CallForm) -> mve::Form {
+    match form {
+        CallForm::Default => mve::Form::Default,
+        CallForm::Strict => mve::Form::Strict,
+    }
+}
 
 /// A form as an argument.
-fn form_name(form: CallForm) -> String {
+pub(crate) fn form_name(form: CallForm) -> String {
     format!("{form:?}")
 }
 

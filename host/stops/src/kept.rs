@@ -3,21 +3,24 @@
 //! looks on.
 
 use crate::ffi;
+use mve::numbers::{STATE, STATE_NUMBERS, STEPPED_NUMBERS};
 use std::fs::File;
+use std::hint;
 use std::io;
 use std::mem::{offset_of, size_of};
 use std::os::unix::fs::FileExt;
 use std::sync::atomic::{AtomicUsize, Ordering};
 
 /// A state of a film as numbers, in the order of include/mve.h.
-pub type Numbers = [usize; 17];
+pub type Numbers = [usize; STATE_NUMBERS];
 
 /// What is kept, each picture with so many bytes lent.
 #[repr(C)]
 pub struct Kept<const LENT: usize> {
-    states: [Numbers; 2],
-    /// Which of the two is the saved one.
-    saved: AtomicUsize,
+    /// Two answers, each with a state at its end, which calls use in turn.
+    answers: [[usize; STEPPED_NUMBERS]; 2],
+    /// Which of the two holds: its state is the saved one.
+    holds: AtomicUsize,
     /// A number that grows where a call of the library is entered, and where it is left; odd inside
     /// one. No process reads it that goes on.
     calls: AtomicUsize,
@@ -39,17 +42,35 @@ impl<const LENT: usize> Kept<LENT> {
         ffi::map(&file)
     }
 
-    /// The saved state.
-    pub fn saved_state(&self) -> Numbers {
-        self.states[self.saved.load(Ordering::SeqCst)]
+    /// What a call is lent: the saved state to read, and the other answer to write.
+    pub fn lent(&mut self) -> Lent<'_> {
+        let [one, other] = &mut self.answers;
+        let (saved, out) =
+            if self.holds.load(Ordering::SeqCst) == 0 { (one, other) } else { (other, one) };
+        let (palette, a, b) = (&mut self.palette, &mut self.a, &mut self.b);
+        Lent { from: &saved[STATE], out, palette, a, b, place: &mut self.place }
     }
 
-    /// Saves a state as the example players do: it is written in full beside the old one; then one
-    /// store makes it the saved one, an atomic one, which stays behind the others.
-    pub fn save(&mut self, state: Numbers) {
-        let spare = 1 - self.saved.load(Ordering::SeqCst);
-        self.states[spare] = state;
-        self.saved.store(spare, Ordering::SeqCst);
+    /// The saved state, and the one that the last call wrote.
+    pub fn states(&self) -> [&[usize]; 2] {
+        let holds = self.holds.load(Ordering::SeqCst);
+        [holds, 1 - holds].map(|at| &self.answers[at][STATE])
+    }
+
+    /// Saves the state that the last call wrote, as the example players do: it stands in full beside the
+    /// old one; one store makes it the saved one, an atomic one, which stays behind the others.
+    pub fn save(&mut self) {
+        self.holds.store(1 - self.holds.load(Ordering::SeqCst), Ordering::SeqCst);
+    }
+
+    /// Saves it as no player may: it is written over the old one, number by number.
+    pub fn save_in_place(&mut self) {
+        let holds = self.holds.load(Ordering::SeqCst);
+        for at in STATE {
+            let number = self.answers[1 - holds][at];
+            *hint::black_box(&mut self.answers[holds][at]) = number;
+            hint::black_box(&mut *self);
+        }
     }
 
     /// Says that a call of the library is entered, whether or not the last one was left.
@@ -63,8 +84,24 @@ impl<const LENT: usize> Kept<LENT> {
     }
 }
 
-/// What stands in kept memory, as a process sees it that goes on with it: of the states the saved
-/// one.
+/// What a call is lent of kept memory.
+pub struct Lent<'a> {
+    /// The numbers of the saved state.
+    pub from: &'a [usize],
+    /// Where the answer goes.
+    pub out: &'a mut [usize],
+    /// The palette.
+    pub palette: &'a mut [u8],
+    /// The first picture.
+    pub a: &'a mut [u8],
+    /// The second picture.
+    pub b: &'a mut [u8],
+    /// The place.
+    pub place: &'a mut usize,
+}
+
+/// What stands in kept memory, as a process sees it that goes on with it: of the answers the state that
+/// is saved.
 #[derive(Clone, Debug, PartialEq, Eq)]
 pub struct Memory {
     /// The palette.
@@ -89,7 +126,7 @@ impl<const LENT: usize> Shared<LENT> {
         let length = size_of::<Kept<LENT>>();
         let mut shared = Shared { file: ffi::memory(length as u64)?, bytes: vec![0; length] };
         let numbers = memory.state.iter().flat_map(|number| number.to_ne_bytes());
-        shared.put(offset_of!(Kept<LENT>, states), &numbers.collect::<Vec<u8>>());
+        shared.put(state_offset::<LENT>(0), &numbers.collect::<Vec<u8>>());
         shared.put(offset_of!(Kept<LENT>, place), &memory.place.to_ne_bytes());
         shared.put(offset_of!(Kept<LENT>, palette), &memory.palette);
         shared.put(offset_of!(Kept<LENT>, a), &memory.pictures[0]);
@@ -132,8 +169,7 @@ impl<const LENT: usize> Shared<LENT> {
 
     /// What stood in it at the last look.
     pub fn memory(&self) -> Memory {
-        let saved = self.number(offset_of!(Kept<LENT>, saved));
-        let numbers = offset_of!(Kept<LENT>, states) + saved * size_of::<Numbers>();
+        let numbers = state_offset::<LENT>(self.number(offset_of!(Kept<LENT>, holds)));
         let part = |at: usize, length| self.bytes[at..][..length].to_vec();
         Memory {
             palette: part(offset_of!(Kept<LENT>, palette), 768),
@@ -150,4 +186,10 @@ impl<const LENT: usize> Shared<LENT> {
         let bytes = self.bytes[at..].first_chunk().expect("a number of the type");
         usize::from_ne_bytes(*bytes)
     }
+}
+
+/// Where the state of one of the two answers stands.
+fn state_offset<const LENT: usize>(answer: usize) -> usize {
+    let numbers = answer * STEPPED_NUMBERS + STATE.start;
+    offset_of!(Kept<LENT>, answers) + numbers * size_of::<usize>()
 }

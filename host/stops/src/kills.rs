@@ -3,11 +3,12 @@
 use crate::cases::{self, Step};
 use crate::ffi;
 use crate::kept::{Kept, Shared};
-use crate::list::{self, Prefix};
+use crate::list::{self, Prefix, Store};
 use crate::made;
 use crate::stopped;
+use maker::colours::Change;
 use maker::film::{init_video, Film};
-use maker::{Profile, Seeded, Size};
+use maker::{Form, Profile, Seeded, Size};
 use mve::NO_STREAM;
 use reference::CallForm;
 use std::env;
@@ -29,10 +30,19 @@ const LENT: usize = 64 * SIZE.columns * SIZE.rows;
 const FRAMES: usize = 96;
 /// Of so many frames the last is sent; the others are drawn over.
 const SENT: usize = 12;
-/// Allowances of the players: of no limit, of some, and the least one that finishes a block.
+/// Allowances of the players: of no limit, of some, and the least one that finishes a block, or any
+/// palette.
 const ALLOWANCES: [usize; 6] = [usize::MAX, usize::MAX, 20_000, 5000, 1000, 65];
-/// A process plays for less than this before it is killed.
+const COLOUR_ALLOWANCES: [usize; 6] = [usize::MAX, usize::MAX, 312_000, 20_000, 1536, 1536];
+/// The frames of the film of palettes, all of them sent, and the palettes in front of each.
+const COLOUR_FRAMES: usize = 12;
+const PALETTES: usize = 60;
+/// Bytes that are sent at a time: a kill cuts a picture anywhere.
+const PIECE: usize = 512;
+/// A process plays for less than this before it is killed; one that plays palettes for less, since its
+/// film is shorter.
 const LONGEST: Duration = Duration::from_micros(1000);
+const COLOUR_LONGEST: Duration = Duration::from_micros(300);
 /// A process that has not begun its first step by then, or not ended when it is let, hangs.
 const LIMIT: Duration = Duration::from_secs(60);
 /// The signal that kills.
@@ -47,6 +57,8 @@ pub struct Killed {
     pub inside: usize,
     /// Of these, with some blocks of a frame finished and some not.
     pub drawing: usize,
+    /// Of these, with a palette changed in part: some of its stores made and some not.
+    pub colouring: usize,
     /// Films played to their end.
     pub films: usize,
     /// Pictures sent.
@@ -87,12 +99,62 @@ pub fn play(player: Player, film: &str, allowed: usize) -> io::Result<()> {
     if player == Player::BeginsAnew {
         kept.place = 0;
     }
-    stopped::walk(CallForm::Default, kept, &film, allowed, |kept, next| {
+    stopped::walk(CallForm::Default, kept, &film, allowed, Kept::save, |kept, next| {
         let position = (next.position as u64).to_le_bytes();
         let picture = mve::shown(next, &kept.a, &kept.b);
-        output.write_all(&[&position[..], &kept.palette, picture].concat())
+        let bytes = [&position[..], &kept.palette, picture].concat();
+        bytes.chunks(PIECE).try_for_each(|piece| output.write_all(piece))
     })?;
     Ok(())
+}
+
+/// What the film of a player is rich in.
+#[derive(Clone, Copy, Debug, PartialEq, Eq)]
+pub enum Rich {
+    /// Every kind of block.
+    Blocks,
+    /// Palettes of every kind, and sends.
+    Palettes,
+}
+
+impl Rich {
+    fn film(self, rng: &mut Seeded) -> Film {
+        match self {
+            Rich::Blocks => film(rng),
+            Rich::Palettes => film_of_palettes(rng),
+        }
+    }
+
+    fn longest(self) -> Duration {
+        match self {
+            Rich::Blocks => LONGEST,
+            Rich::Palettes => COLOUR_LONGEST,
+        }
+    }
+
+    fn allowances(self) -> [usize; 6] {
+        match self {
+            Rich::Blocks => ALLOWANCES,
+            Rich::Palettes => COLOUR_ALLOWANCES,
+        }
+    }
+}
+
+/// A film in which a player is mostly in a palette or sends.
+fn film_of_palettes(rng: &mut Seeded) -> Film {
+    let mut chunks = vec![made::chunk(vec![init_video(SIZE)])];
+    let long = [Change::Longest, Change::AllEntries, Change::AllMasks];
+    for _ in 0..COLOUR_FRAMES {
+        let [map, video, send] = made::frame(rng, SIZE, Profile::Only(Form::Solid), 0);
+        chunks.push(made::chunk(vec![map, video]));
+        for number in 0..PALETTES {
+            // A map may be any: the next frame brings its own.
+            let change = if number % 4 == 3 { rng.pick(&Change::ALL) } else { rng.pick(&long) };
+            chunks.push(made::chunk(vec![change.opcode(rng)]));
+        }
+        chunks.push(made::chunk(vec![send]));
+    }
+    Film { size: SIZE, stream: NO_STREAM, chunks, tail: Vec::new() }
 }
 
 /// A film of every kind of block, and of palettes that change.
@@ -115,14 +177,25 @@ fn film(rng: &mut Seeded) -> Film {
 /// Plays a film again and again, until players have been killed so often; the last one is let play to
 /// the end. Every picture that was sent is compared with the second decoder's.
 pub fn kill(program: &Path, player: Player, seed: u64, kills: usize) -> io::Result<Killed> {
+    kill_in(program, player, Rich::Blocks, seed, kills)
+}
+
+/// The same of a film that is rich in something.
+pub fn kill_in(
+    program: &Path,
+    player: Player,
+    rich: Rich,
+    seed: u64,
+    kills: usize,
+) -> io::Result<Killed> {
     let rng = &mut Seeded::new(seed);
-    let bytes = film(rng).bytes();
+    let bytes = rich.film(rng).bytes();
     let film = Stored::new(&bytes)?;
     let steps = cases::steps(CallForm::Default, &bytes, NO_STREAM, made::memory(rng, LENT));
     let sent = pictures(&steps);
     let mut killed = Killed::default();
     while killed.kills < kills {
-        if killed.films > kills {
+        if killed.films > 4 * kills + 20 {
             return Err(io::Error::other(format!(
                 "films end before players are killed: {killed:?}"
             )));
@@ -130,10 +203,10 @@ pub fn kill(program: &Path, player: Player, seed: u64, kills: usize) -> io::Resu
         let mut shared = Shared::new(&steps[0].before)?;
         let mut receiver = Receiver::new(&sent);
         loop {
-            let allowed = rng.pick(&ALLOWANCES).to_string();
+            let allowed = rng.pick(&rich.allowances()).to_string();
             let mut command = Command::new(program);
             command.args(["--play", &player.name()]).arg(&film.0).arg(allowed);
-            let nanos = rng.below(LONGEST.as_nanos() as usize) as u64;
+            let nanos = rng.below(rich.longest().as_nanos() as usize) as u64;
             let time = (killed.kills < kills).then_some(Duration::from_nanos(nanos));
             let run = run(command, &shared, time)?;
             receiver.take(&run.output, &mut killed).map_err(io::Error::other)?;
@@ -216,9 +289,15 @@ fn look(
     shared.look().map_err(|error| error.to_string())?;
     let left = shared.memory();
     let Step { state, before, .. } = &steps[cases::at(steps, left.state)?];
-    let stores = list::step(film, state, before).expect("a valid film");
+    let stores = list::step(film, state, before);
     Prefix::new(before.clone(), &stores).reach(&left)?;
     let in_step = shared.in_call();
+    let is_colour = |store: &Store| matches!(store, Store::Palette { .. } | Store::Black { .. });
+    let in_palette = stores.first().is_some_and(is_colour);
+    let mut after = before.clone();
+    stores.iter().for_each(|&store| after.make(store));
+    let in_part = left.palette != before.palette && left.palette != after.palette;
+    killed.colouring += usize::from(in_step && in_palette && in_part);
     let in_drawing =
         list::packet_at(film, state).is_some() && (1..SIZE.blocks()).contains(&left.place);
     killed.inside += usize::from(in_step);

@@ -2,11 +2,12 @@
 //! the list leaves it.
 
 use crate::kept::{Memory, Numbers};
+use reference::cuts;
 use reference::film::{opcode, opcode_head, State};
 use reference::frame::FrameSize;
 use reference::packet;
-use reference::palette::{self, Entry};
-use reference::Refusal;
+use reference::palette;
+use reference::{CallForm, Refusal};
 
 /// One store to what is kept.
 #[derive(Clone, Copy, Debug, PartialEq, Eq)]
@@ -27,12 +28,12 @@ pub enum Store {
         /// Its new value.
         value: u8,
     },
-    /// The three bytes of an entry of the palette, all 0, in any order. A gradient with one entry is
-    /// such a one, and the library has memset store it. No order of the palette's stores is promised;
-    /// all others come in the order of the list.
+    /// A byte of the palette that becomes 0, of a gradient with one entry. The library has memset store
+    /// the three bytes of such an entry, or the first of them that are allowed, and in which order is
+    /// memset's. All other stores come in the order of the list.
     Black {
-        /// Which entry.
-        entry: usize,
+        /// Which byte.
+        index: usize,
     },
     /// The place.
     Place(usize),
@@ -93,39 +94,43 @@ pub fn packet_at<'a>(film: &'a [u8], state: &State) -> Option<Packet<'a>> {
     Some(Packet { columns, rows, map, data: &head.body.of(film)?[14..], front })
 }
 
-/// The stores of a film's step at a state, if none is left out for want of an allowance.
-pub fn step(film: &[u8], state: &State, memory: &Memory) -> Result<Vec<Store>, Refusal> {
-    if state.position == state.chunk_end {
-        return Ok(Vec::new());
-    }
-    let head = opcode_head(film, state.position, state.chunk_end)?;
-    let body = head.body.of(film).expect("a body inside the film");
-    match head.kind {
-        opcode::GRADIENT => {
-            let (red_blue, red_green) = body.split_at(3);
-            let first = palette::gradient_entries(&[red_blue, &[0; 3]].concat())?;
-            let second = palette::gradient_entries(&[&[0; 3], red_green].concat())?;
-            Ok([gradient(&first), gradient(&second)].concat())
+/// The stores of a film's step at a state, if none is left out for want of an allowance: the second
+/// decoder's list of them (02, W11).
+pub fn step(film: &[u8], state: &State, memory: &Memory) -> Vec<Store> {
+    let Memory { palette, pictures, place, .. } = memory.clone();
+    let kept = cuts::Memory { palette, pictures, place };
+    let stores = cuts::listed(CallForm::Default, film, state, &kept);
+    let store = |store| match store {
+        cuts::Store::Colour(palette::Store { index, value }) => Store::Palette { index, value },
+        cuts::Store::Pixel { picture, index, value } => Store::Pixel { picture, index, value },
+        cuts::Store::Place(place) => Store::Place(place),
+    };
+    let mut stores: Vec<Store> = stores.into_iter().map(store).collect();
+    single_entries(film, state).into_iter().for_each(|at| {
+        for store in stores.iter_mut().skip(at).take(3) {
+            if let Store::Palette { index, value: 0 } = *store {
+                *store = Store::Black { index };
+            }
         }
-        opcode::PALETTE => Ok(in_order(&palette::palette_entries(body)?)),
-        opcode::PALETTE_COMPRESSED => Ok(in_order(&palette::compressed_entries(body)?)),
-        opcode::MAP => Ok(vec![Store::Place(0)]),
-        opcode::VIDEO => drawing(&packet_at(film, state).expect("a map and a size"), memory),
-        _ => Ok(Vec::new()),
-    }
+    });
+    stores
 }
 
-fn gradient(entries: &[Entry]) -> Vec<Store> {
-    match entries {
-        [Entry { index, .. }] => vec![Store::Black { entry: *index }],
-        _ => in_order(entries),
-    }
+/// Where the stores of gradients with one entry begin in the list of the 0B that a state stands at.
+fn single_entries(film: &[u8], state: &State) -> Vec<usize> {
+    let head = opcode_head(film, state.position, state.chunk_end);
+    let body = head.ok().filter(|head| head.kind == opcode::GRADIENT);
+    let body = body.and_then(|head| head.body.of(film)).unwrap_or_default();
+    let &[_, rows, columns, _, more_rows, more_columns] = body else { return Vec::new() };
+    let first = usize::from(rows) * usize::from(columns);
+    let second = usize::from(more_rows) * usize::from(more_columns);
+    let starts = [(first, 0), (second, 3 * first)];
+    starts.into_iter().filter(|&(entries, _)| entries == 1).map(|(_, at)| at).collect()
 }
 
-/// Red, green and blue of each entry.
-fn in_order(entries: &[Entry]) -> Vec<Store> {
-    let bytes = entries.iter().flat_map(|entry| (3 * entry.index..).zip(entry.colour));
-    bytes.map(|(index, value)| Store::Palette { index, value }).collect()
+/// The opcode that a state stands at; none at a chunk's head.
+pub fn opcode_at(film: &[u8], state: &State) -> Option<u8> {
+    opcode_head(film, state.position, state.chunk_end).ok().map(|head| head.kind)
 }
 
 impl Memory {
@@ -133,8 +138,8 @@ impl Memory {
     pub fn make(&mut self, store: Store) {
         match store {
             Store::Palette { index, value } => self.palette[index] = value,
+            Store::Black { index } => self.palette[index] = 0,
             Store::Pixel { picture, index, value } => self.pictures[picture][index] = value,
-            Store::Black { entry } => self.palette[3 * entry..][..3].fill(0),
             Store::Place(place) => self.place = place,
             Store::State(state) => self.state = state,
         }
@@ -152,14 +157,11 @@ impl Memory {
     /// In how many of those that a store changes they differ.
     fn differences_at(&self, other: &Memory, store: Store) -> usize {
         match store {
-            Store::Palette { index, .. } => {
+            Store::Palette { index, .. } | Store::Black { index } => {
                 usize::from(self.palette[index] != other.palette[index])
             }
             Store::Pixel { picture, index, .. } => {
                 usize::from(self.pictures[picture][index] != other.pictures[picture][index])
-            }
-            Store::Black { entry } => {
-                differing(&self.palette[3 * entry..][..3], &other.palette[3 * entry..][..3])
             }
             Store::Place(_) => usize::from(self.place != other.place),
             Store::State(_) => usize::from(self.state != other.state),
@@ -193,7 +195,7 @@ impl Prefix<'_> {
             let Some(&store) = self.stores.get(self.made) else {
                 return Err(format!("memory is as no prefix of {start} to {all} stores leaves it"));
             };
-            if differences == self.made_in_part(store, seen) {
+            if differences == self.made_by_memset(seen) {
                 break;
             }
             differences -= self.memory.differences_at(seen, store);
@@ -204,10 +206,14 @@ impl Prefix<'_> {
         Ok(())
     }
 
-    /// How many bytes of the next store are seen, if it is of several.
-    fn made_in_part(&self, store: Store, seen: &Memory) -> usize {
-        let Store::Black { entry } = store else { return 0 };
-        let bytes = 3 * entry..3 * entry + 3;
+    /// How many bytes of an entry that memset is to store next are seen, whichever they are.
+    fn made_by_memset(&self, seen: &Memory) -> usize {
+        let next = &self.stores[self.made..];
+        let Some(&Store::Black { index: first }) = next.first() else { return 0 };
+        let bytes = next.iter().take(3).map_while(|store| match *store {
+            Store::Black { index } if index / 3 == first / 3 => Some(index),
+            _ => None,
+        });
         bytes.filter(|&i| seen.palette[i] == 0 && self.memory.palette[i] != 0).count()
     }
 

@@ -2,9 +2,11 @@
 
 use crate::cases::{Drawing, Walk, NO_STATE};
 use crate::kept::Memory;
+use crate::once::Once;
 use crate::opening::Opening;
 use crate::stopped::LENT;
 use maker::calls::allowance;
+use maker::colours::Change;
 use maker::film::{init_video, packet_opcodes, Chunk, Film, Opcode};
 use maker::packet::Draft;
 use maker::sound::{Format, Track};
@@ -66,7 +68,15 @@ pub fn walk(rng: &mut Seeded, form: CallForm, profile: Profile, allowed: usize) 
 pub fn palette_walk(rng: &mut Seeded) -> Walk {
     let opcodes = vec![gradients(rng), set_palette(rng), set_palette_compressed(rng)];
     let film = film_of(NO_STREAM, opcodes);
-    Walk::new(CallForm::Default, film, NO_STREAM, memory(rng, LENT), 0)
+    Walk::new(CallForm::Default, film, NO_STREAM, memory(rng, LENT), usize::MAX)
+}
+
+/// A step at an opcode of this kind, in each form in turn, that is allowed so many of its stores in ten; more than ten
+/// are more than all.
+pub fn change(rng: &mut Seeded, change: Change, tenths: usize) -> Once {
+    let film = film_of(NO_STREAM, vec![change.opcode(rng)]);
+    let memory = Memory { place: rng.pick(&[0, 7]), ..memory(rng, LENT) };
+    Once::new(rng.pick(&CallForm::ALL), film, memory, tenths)
 }
 
 /// A walk over a film with sound of a format: two packets, silence and another packet, for a stream.

@@ -3,6 +3,7 @@
 //! process that is stopped.
 
 use maker::calls::allowance;
+use maker::colours::Change;
 use maker::sound::Format;
 use maker::{Profile, Seeded};
 use reference::CallForm;
@@ -11,7 +12,7 @@ use std::io;
 use std::path::Path;
 use std::process::ExitCode;
 use stops::cases::Case;
-use stops::kills::{self, Player};
+use stops::kills::{self, Player, Rich};
 use stops::watch::{watch, Counts};
 use stops::{made, stopped};
 
@@ -62,13 +63,19 @@ fn long(seed: u64, count: usize) -> io::Result<String> {
         let form = rng.pick(&CallForm::ALL);
         walks += stepped(&program, &made::walk(rng, form, profile, allowed), number)?;
         walks += stepped(&program, &made::palette_walk(rng), number)?;
+        let (change, tenths) = (rng.pick(&Change::ALL), rng.below(12));
+        walks += stepped(&program, &made::change(rng, change, tenths), number)?;
         openings += stepped(&program, &made::opening(rng, number % 4 == 0), number)?;
         let format = rng.pick(&Format::ALL);
         walks += stepped(&program, &made::sound_walk(rng, format), number)?;
     }
-    let killed = kills::kill(&program, Player::Right, seed, count)?;
+    let killed = [Rich::Blocks, Rich::Palettes]
+        .map(|rich| kills::kill_in(&program, Player::Right, rich, seed, count));
+    let [blocks, palettes] = killed;
     Ok(format!(
-        "drawings: {drawings:?}\nwalks: {walks:?}\nopenings: {openings:?}\nkills: {killed:?}\n"
+        "drawings: {drawings:?}\nwalks: {walks:?}\nopenings: {openings:?}\nkills: {:?}\n\
+         kills in palettes: {:?}\n",
+        blocks?, palettes?
     ))
 }
 

@@ -1,13 +1,15 @@
-//! The opening call, stopped: a film is opened up to its size, with stores to the palette and the place
-//! alone. To go on is to open again.
+//! The opening call, stopped: a film is opened up to its size, with stores to the palette, the place and
+//! the answer alone. To go on is to open again.
 
 use crate::cases::{hex, same, Case};
 use crate::kept::Memory;
 use crate::list::{self, Store};
+use mve::numbers::{self, kind, STATE, STEPPED_NUMBERS};
 use mve::ROOM_BYTES;
 use reference::film::{Lent, State, Stepped};
+use reference::numbers::numbers_of;
 
-/// A call of `mve_begin`.
+/// A call of `mve_begin`, after which the state that it gives is saved.
 #[derive(Clone, Debug)]
 pub struct Opening {
     film: Vec<u8>,
@@ -20,13 +22,16 @@ pub struct Opening {
 
 impl Opening {
     /// The opening of a film, for a stream of its sound. Its stores are those of the second decoder's
-    /// steps up to the size; a film whose opening is refused has none.
+    /// steps up to the size, and then the state; a film whose opening is refused has none.
     pub fn new(film: Vec<u8>, stream: usize, found: Memory) -> Opening {
         let mut end = found.clone();
         let begun = reference::begin::begin(&film, stream, &mut end.palette, &mut end.place);
         let (answer, stores) = match begun {
             Ok(state) => {
-                let stores = stores(&film, stream, state, found.clone());
+                let mut stores = stores(&film, stream, state, found.clone());
+                let saved = Store::State(numbers_of(state));
+                stores.push(saved);
+                end.make(saved);
                 (format!("begun at byte {}\n", state.position), stores)
             }
             Err(unbegun) => {
@@ -43,11 +48,11 @@ fn stores(film: &[u8], stream: usize, end: State, mut memory: Memory) -> Vec<Sto
     let mut state = reference::film::open(film, stream).expect("a film that is opened");
     let (mut stores, mut room) = (Vec::new(), vec![0; ROOM_BYTES]);
     while state != end {
-        let listed = list::step(film, &state, &memory).expect("a step that is taken");
+        let listed = list::step(film, &state, &memory);
         let Memory { palette, pictures: [picture_a, picture_b], place, .. } = &mut memory;
         let lent = Lent { palette, picture_a, picture_b, place, room: &mut room };
-        state = match reference::film::step(film, state, lent, 0) {
-            Stepped::Taken(next, _) => next,
+        state = match reference::film::step(film, state, lent, usize::MAX) {
+            Stepped::Taken(next, ..) => next,
             other => panic!("a step up to the size is answered {other:?}"),
         };
         stores.extend(listed);
@@ -56,12 +61,13 @@ fn stores(film: &[u8], stream: usize, end: State, mut memory: Memory) -> Vec<Sto
 }
 
 /// What the library answers, as the process writes it.
-pub fn answer(begun: Result<mve::State, mve::Unbegun>) -> String {
-    match begun {
-        Ok(state) => format!("begun at byte {}\n", state.position),
-        Err(mve::Unbegun { refusal, state }) => {
-            format!("refused {} at byte {}\n", refusal.number(), state.position)
+pub fn answer(out: &[usize]) -> String {
+    match *out {
+        [kind::TAKEN, 0, 0, 0, 0, 0, 0, 0, position, ..] => format!("begun at byte {position}\n"),
+        [kind::REFUSED, number, 0, 0, 0, 0, 0, 0, position, ..] => {
+            format!("refused {number} at byte {position}\n")
         }
+        _ => format!("{out:?}\n"),
     }
 }
 
@@ -83,11 +89,15 @@ impl Case for Opening {
     }
 
     fn go_on(&self, left: &Memory) -> Result<(), String> {
-        let mut memory = left.clone();
-        let Memory { palette, place, .. } = &mut memory;
-        let again = answer(mve::begin(&self.film, self.stream, palette, place));
-        if again != self.answer {
+        let (mut memory, mut out) = (left.clone(), [0; STEPPED_NUMBERS]);
+        let Memory { palette, place, state, .. } = &mut memory;
+        let kind = numbers::begin(&self.film, self.stream, &mut out, palette, place);
+        let again = answer(&out);
+        if again != self.answer || kind != out[0] {
             return Err(format!("the new call answers {again:?}, not {:?}", self.answer));
+        }
+        if kind == kind::TAKEN {
+            state.copy_from_slice(&out[STATE]);
         }
         same(&memory, &self.end)
     }

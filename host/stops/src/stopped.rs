@@ -1,12 +1,13 @@
 //! The process that is stopped: what it does with the memory that it is given.
 
-use crate::cases::{form_named, hex_bytes};
+use crate::cases::{form_named, hex_bytes, own_form};
 use crate::ffi;
-use crate::kept::Kept;
+use crate::kept::{Kept, Lent};
+use crate::once;
 use crate::opening;
-use crate::state;
 use crate::wrong::{self, Wrong};
-use mve::{Drawn, State, Step, ROOM_BYTES};
+use mve::numbers::{self, kind};
+use mve::{Drawn, State, ROOM_BYTES};
 use reference::CallForm;
 use std::io;
 
@@ -39,22 +40,31 @@ pub fn run(arguments: &[String]) -> io::Result<String> {
                 Drawn::Unfinished { stores, .. } => format!("unfinished {stores}\n"),
             })
         }
-        ["--film", form, allowed, film] => {
+        [saving @ ("--film" | "--in-place"), form, allowed, film] => {
             let (form, allowed, film) = (form_named(form), number(allowed), hex_bytes(film));
+            let save = if saving == "--film" { Kept::save } else { Kept::save_in_place };
             ffi::stop();
-            let steps = walk(form, kept, &film, allowed, |_, _| Ok(()))?;
+            let steps = walk(form, kept, &film, allowed, save, |_, _| Ok(()))?;
             ffi::stop();
             Ok(format!("ended after {steps} steps\n"))
         }
+        ["--once", form, allowed, film] => {
+            once::run(form_named(form), number(allowed), &hex_bytes(film), kept)
+        }
         ["--begin", stream, film] => {
             let (stream, film) = (number(stream), hex_bytes(film));
+            let mut written = [0; numbers::STEPPED_NUMBERS];
             ffi::stop();
             kept.enter();
-            let Kept { palette, place, .. } = &mut *kept;
-            let begun = mve::begin(&film, stream, palette, place);
+            let Lent { out, palette, place, .. } = kept.lent();
+            let kind = numbers::begin(&film, stream, out, palette, place);
+            written.copy_from_slice(out);
             kept.leave();
+            if kind == kind::TAKEN {
+                kept.save();
+            }
             ffi::stop();
-            Ok(opening::answer(begun))
+            Ok(opening::answer(&written))
         }
         ["--wrong", name, columns, rows, map, data] => {
             let wrong = Wrong::named(name).expect("a wrong program");
@@ -77,36 +87,37 @@ fn number(word: &str) -> usize {
 }
 
 /// Walks over a film from the saved state to its end, by steps of this form, as the example players do
-/// in the default form: a picture that the film sends is sent before the state is saved. How many steps
-/// it took.
+/// in the default form: from the state of the one answer to the other, and a picture that the film sends
+/// is sent before the new state is saved. How many steps it took.
 pub fn walk<const LENT: usize>(
     form: CallForm,
     kept: &mut Kept<LENT>,
     film: &[u8],
     allowed: usize,
+    save: impl Fn(&mut Kept<LENT>),
     mut send: impl FnMut(&Kept<LENT>, &State) -> io::Result<()>,
 ) -> io::Result<usize> {
     // It need not outlive a stop: a step that is taken again writes the same samples.
     let mut room = vec![0; ROOM_BYTES];
-    let call = match form {
-        CallForm::Default => mve::step,
-        CallForm::Strict => mve::step_strict,
-    };
+    let form = own_form(form).number();
     for steps in 1.. {
-        let state = state::of_numbers(kept.saved_state());
         kept.enter();
-        let Kept { palette, a, b, place, .. } = &mut *kept;
-        let step = call(film, state, palette, a, b, place, &mut room, allowed);
+        let Lent { from, out, palette, a, b, place } = kept.lent();
+        let kind = numbers::step(film, from, out, palette, a, b, place, &mut room, allowed, form);
         kept.leave();
-        match step.map_err(io::Error::other)? {
-            Step::Unfinished { .. } => {}
-            Step::Ended { .. } => return Ok(steps),
-            Step::Taken { state: next, .. } | Step::Whole { state: next, .. } => {
-                if mve::is_sent(&state, &next) {
+        match kind {
+            kind::UNFINISHED => {}
+            kind::ENDED => return Ok(steps),
+            kind::TAKEN | kind::WHOLE => {
+                let [Some(before), Some(next)] = kept.states().map(State::from_numbers) else {
+                    return Err(io::Error::other("numbers that are no state"));
+                };
+                if mve::is_sent(&before, &next) {
                     send(kept, &next)?;
                 }
-                kept.save(state::numbers(next));
+                save(kept);
             }
+            refused => return Err(io::Error::other(format!("the step is answered {refused}"))),
         }
     }
     unreachable!("no film has so many steps")

@@ -1,6 +1,7 @@
-//! Drawing calls that are wrong on purpose: the tests must notice each of them.
+//! Drawing calls that are wrong on purpose, and a player that saves a state in place: the tests must
+//! notice each of them.
 
-use crate::cases::{Case, Drawing, NO_STATE};
+use crate::cases::{Case, Drawing, Walk, NO_STATE};
 use crate::kept::{Kept, Memory};
 use crate::list::{self, Packet, Store};
 use std::hint;
@@ -125,5 +126,32 @@ impl Case for WrongDrawing {
 
     fn go_on(&self, left: &Memory) -> Result<(), String> {
         self.right.go_on(left)
+    }
+}
+
+/// A walk whose states are saved over the old ones, as a case in which the right one is expected.
+pub struct SavedInPlace(pub Walk);
+
+impl Case for SavedInPlace {
+    fn arguments(&self) -> Vec<String> {
+        let mut words = self.0.arguments();
+        words[0] = "--in-place".to_string();
+        words
+    }
+
+    fn found(&self) -> &Memory {
+        self.0.found()
+    }
+
+    fn stores(&self) -> &[Store] {
+        self.0.stores()
+    }
+
+    fn answer(&self) -> &str {
+        self.0.answer()
+    }
+
+    fn go_on(&self, left: &Memory) -> Result<(), String> {
+        self.0.go_on(left)
     }
 }

@@ -2,7 +2,7 @@
 //! and all pictures are sent, each as the second decoder has it.
 
 use std::path::Path;
-use stops::kills::{kill, Player};
+use stops::kills::{kill, kill_in, Player, Rich};
 
 #[test]
 fn killed_players_go_on() {
@@ -11,4 +11,15 @@ fn killed_players_go_on() {
     println!("{killed:?}");
     assert!(killed.kills >= 300 && killed.films >= 2 && killed.sent >= 16);
     assert!(killed.inside * 2 > killed.kills && killed.drawing >= 100, "{killed:?}");
+}
+
+/// In palettes and in sends: what is sent has the palette of the second decoder, too.
+#[test]
+fn killed_in_palettes_and_sends() {
+    let program = Path::new(env!("CARGO_BIN_EXE_stops"));
+    let killed = kill_in(program, Player::Right, Rich::Palettes, 1, 300);
+    let killed = killed.unwrap_or_else(|error| panic!("{error}"));
+    println!("{killed:?}");
+    assert!(killed.kills >= 300 && killed.films >= 2 && killed.sent >= 20);
+    assert!(killed.colouring >= 20 && killed.cut_off >= 10, "{killed:?}");
 }

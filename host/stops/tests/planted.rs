@@ -1,17 +1,18 @@
 //! Programs that are wrong on purpose are noticed: without this, a test that looks at nothing would
 //! pass, too.
 
+use maker::colours::Change;
 use maker::sound::Format;
 use maker::{Packet, Seeded};
 use reference::CallForm;
 use std::path::Path;
 use stops::cases::{Case, Drawing, Walk};
 use stops::kills::{kill, Player};
-use stops::list::Store;
+use stops::list::{Prefix, Store};
 use stops::made;
 use stops::stopped::LENT;
 use stops::watch::{watch, Watched};
-use stops::wrong::{Wrong, WrongDrawing};
+use stops::wrong::{SavedInPlace, Wrong, WrongDrawing};
 
 /// Two blocks: the left one is copied from where the right one is drawn later.
 fn drawn(wrong: Wrong) -> Watched {
@@ -54,6 +55,18 @@ fn a_killed_player_that_forgets_the_place_is_noticed() {
     assert!(faults.iter().any(|fault| noticed.starts_with(fault)), "{noticed}");
 }
 
+/// A state that is written over the one that went in: a stop in between leaves one that is neither.
+#[test]
+fn a_state_saved_in_place_is_noticed() {
+    let watched = watch(Path::new(env!("CARGO_BIN_EXE_stops")), &SavedInPlace(heard()));
+    let watched = watched.unwrap_or_else(|error| panic!("{error}"));
+    let disorder = watched.disorder.expect("states that no store leaves");
+    assert!(disorder.starts_with("memory is as no prefix"), "{disorder}");
+    let wrong_end = watched.wrong_end.expect("a state that no step gives");
+    assert!(wrong_end.starts_with("the saved state is none of the film's"), "{wrong_end}");
+    assert_eq!(watched.wrong_answer, None); // it is right where nothing stops it
+}
+
 /// A walk with sound, compressed: every step goes on from the last samples of the one before.
 fn heard() -> Walk {
     made::sound_walk(&mut Seeded::new(1), Format { stereo: true, wide: true, compressed: true })
@@ -93,6 +106,72 @@ fn a_foreign_state_is_noticed() {
     }
 }
 
+/// Stores of a palette in another order than the list's, one of them left out, or one of another value.
+#[test]
+fn wrong_palettes_are_noticed() {
+    let once = made::change(&mut Seeded::new(3), Change::Run, 20);
+    let (found, stores) = (once.found(), once.stores());
+    let is_prefix = |made: &[Store]| {
+        let mut seen = found.clone();
+        made.iter().for_each(|&store| seen.make(store));
+        Prefix::new(found.clone(), stores).reach(&seen).is_ok()
+    };
+    let changes = |store: &Store| match *store {
+        Store::Palette { index, value } => found.palette[index] != value,
+        _ => false,
+    };
+    let mut noticed = 0;
+    for at in 0..stores.len() {
+        assert!(is_prefix(&stores[..at]), "{at}");
+        let Store::Palette { index, value } = stores[at] else { panic!("a palette") };
+        let other = Store::Palette { index, value: value ^ 0x40 };
+        assert!(!is_prefix(&[&stores[..at], &[other]].concat()), "another value, {at}");
+        if changes(&stores[at]) && stores.get(at + 1).is_some_and(changes) {
+            assert!(!is_prefix(&[&stores[..at], &stores[at + 1..at + 2]].concat()), "{at}");
+            noticed += 1;
+        }
+    }
+    assert!(noticed >= 5, "{noticed} of {}", stores.len());
+    // Taken again, a step does not set back what it does not store.
+    assert_eq!(once.go_on(found), Ok(()));
+    let kept = (0..768).find(|&byte| !stores.iter().any(|store| stores_byte(store, byte)));
+    let mut left = found.clone();
+    left.palette[kept.expect("a byte that is kept")] ^= 1;
+    let fault = once.go_on(&left).expect_err("another palette");
+    assert!(fault.starts_with("the palette is not"), "{fault}");
+}
+
+/// The three bytes of a gradient with one entry may be stored in any order, and no others before them.
+#[test]
+fn gradients_of_one_entry() {
+    let once = made::change(&mut Seeded::new(4), Change::Single, 20);
+    let (mut found, stores) = (once.found().clone(), once.stores());
+    assert!(stores.len() == 6 && stores.iter().all(|store| matches!(store, Store::Black { .. })));
+    let bytes: Vec<usize> = stores.iter().map(|store| black_byte(*store)).collect();
+    assert!(bytes[0] != bytes[3], "two entries");
+    bytes.iter().for_each(|&byte| found.palette[byte] = 9);
+    let is_prefix = |made: &[usize]| {
+        let mut seen = found.clone();
+        made.iter().for_each(|&at| seen.palette[bytes[at]] = 0);
+        Prefix::new(found.clone(), stores).reach(&seen).is_ok()
+    };
+    for made in [&[][..], &[0], &[1], &[2], &[0, 2], &[1, 2], &[0, 1, 2], &[0, 1, 2, 5]] {
+        assert!(is_prefix(made), "{made:?}");
+    }
+    for made in [&[3][..], &[0, 3], &[1, 2, 3], &[3, 4, 5]] {
+        assert!(!is_prefix(made), "{made:?}");
+    }
+}
+
+fn black_byte(store: Store) -> usize {
+    let Store::Black { index } = store else { panic!("{store:?}") };
+    index
+}
+
+fn stores_byte(store: &Store, byte: usize) -> bool {
+    matches!(store, Store::Palette { index, .. } if *index == byte)
+}
+
 /// An opening that is made again where a byte that the film never stores, or the place, is another one.
 #[test]
 fn wrong_openings_are_noticed() {
@@ -100,8 +179,7 @@ fn wrong_openings_are_noticed() {
     assert_eq!(opening.go_on(opening.found()), Ok(()));
     let is_stored = |byte: usize| {
         opening.stores().iter().any(|store| match *store {
-            Store::Palette { index, .. } => index == byte,
-            Store::Black { entry } => entry == byte / 3,
+            Store::Palette { index, .. } | Store::Black { index } => index == byte,
             _ => false,
         })
     };

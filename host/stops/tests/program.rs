@@ -14,9 +14,10 @@ fn ends_with_the_counts() {
     assert!(output.status.success(), "{text}");
     let starts = [
         "drawings: Counts { cases: 3, ",
-        "walks: Counts { cases: 9, ",
+        "walks: Counts { cases: 12, ",
         "openings: Counts { cases: 3, ",
         "kills: Killed { ",
+        "kills in palettes: Killed { ",
     ];
     assert!(text.lines().zip(starts).all(|(line, start)| line.starts_with(start)), "{text}");
     assert_eq!(text.lines().count(), starts.len(), "{text}");

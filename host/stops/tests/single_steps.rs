@@ -1,10 +1,12 @@
 //! The exported calls, stopped after every machine instruction: memory is always as a prefix of the
 //! listed stores leaves it, and a new call ends as if nothing had been stopped.
 
+use maker::colours::Change;
 use maker::sound::Format;
 use maker::{Form, Profile, Seeded};
 use reference::packet::{blocks, left_over};
 use reference::CallForm;
+use std::collections::BTreeSet;
 use std::path::Path;
 use stops::cases::{Case, Drawing, Walk};
 use stops::list::Store;
@@ -112,20 +114,42 @@ fn films_of_any_blocks() {
 #[test]
 fn palettes() {
     let mut all = Counts::default();
-    let (mut black, mut twice) = (0, 0);
+    let mut twice = 0;
     for seed in 0..10 {
         let walk: Walk = made::palette_walk(&mut Seeded::new(seed));
         let stores = walk.stores();
-        black += stores.iter().filter(|store| matches!(store, Store::Black { .. })).count();
         twice += stores.iter().filter(|&store| overlaps(store, stores)).count();
         all += stepped(&format!("seed {seed}"), &walk);
     }
-    println!("{all:?}, {black} gradients of one entry, {twice} bytes stored twice");
-    assert!(all.instructions >= 10_000 && all.changes >= 200 && black >= 2 && twice >= 5);
+    println!("{all:?}, {twice} bytes stored twice");
+    assert!(all.instructions >= 10_000 && all.changes >= 200 && twice >= 5);
 }
 
-/// All is judged before the first store, so an opening that is refused stores nothing; one that is
-/// stopped while it stores is made again.
+/// One step at an opcode of every kind that changes the palette or the place, allowed none of its stores,
+/// some, all but few, all, and more; of the longest ones some, and more than all.
+#[test]
+fn changes_of_every_kind() {
+    let mut all = Counts::default();
+    let mut answers = BTreeSet::new();
+    for (seed, change) in (0..).zip(Change::ALL) {
+        let long = [Change::Longest, Change::AllEntries, Change::AllMasks].contains(&change);
+        for &tenths in if long { &[4, 20][..] } else { &[0, 4, 9, 10, 20] } {
+            let once = made::change(&mut Seeded::new(seed), change, tenths);
+            let kind = once.opcode().expect("an opcode");
+            let word = once.answer().split(' ').next().expect("a word");
+            answers.insert((kind, word.to_string()));
+            all += stepped(&format!("{change:?}, {tenths} tenths"), &once);
+        }
+    }
+    println!("{all:?}, {answers:?}");
+    let both = |kind| ["taken", "unfinished"].map(|word| (kind, word.to_string()));
+    let expected: BTreeSet<_> = [0x0B, 0x0C, 0x0D, 0x0F].into_iter().flat_map(both).collect();
+    assert_eq!(answers, expected);
+    assert!(all.cases == 61 && all.instructions >= 20_000 && all.changes >= 3000, "{all:?}");
+}
+
+/// All is judged before the first store, so an opening that is refused stores nothing but the answer; one
+/// that is stopped while it stores is made again.
 #[test]
 fn openings() {
     let (mut all, mut refused) = (Counts::default(), Counts::default());

@@ -1,12 +1,13 @@
 use native.Mathlib.Omega.{arith}
 use Rattle.opcodes.proofs.Steps.{ends-film, gives-size, sends, passes}
-use Rattle.begin.proofs.Before.{judges-gradient, judges-entries, judges-groups, judges-map, judges-draw, judges-quiet, judges-low}
+use Rattle.begin.specs.Begin.{allowance}
+use Rattle.begin.proofs.Before.{ample, judges-gradient, judges-entries, judges-groups, judges-map, judges-draw, judges-quiet, judges-low}
 use borrow.Author.Needs.{needs}
 use Rattle.begin.proofs.act.Statement.{statement}
 use Rattle.begin.proofs.act.Tie as tie
 use Rattle.begin.proofs.act.Reads as reads
 use Rattle.begin.proofs.act.Lts as lts
-use Rattle.film.proofs.palette_step.Reads as palette-step-reads
+use Rattle.begin.proofs.judged_step.Reads as judged-step-reads
 use Rattle.opcodes.proofs.colour_of.Reads as colour-of-reads
 use Rattle.opcodes.proofs.size_step.Reads as size-step-reads
 use Rattle.palette.proofs.judge_entries.Reads as judge-entries-reads
@@ -51,20 +52,20 @@ sent-requires c κs = search needs
 judge-gradient-requires : tie.Need-judge-gradient-requires
 judge-gradient-requires c κs = search needs
 
-palette-step-requires : tie.Need-palette-step-requires
-palette-step-requires c κs = search needs
+judged-step-requires : tie.Need-judged-step-requires
+judged-step-requires c κs = search needs
 
 judge-entries-requires : tie.Need-judge-entries-requires
 judge-entries-requires c κs = search needs
 
-palette-step-requires-2 : tie.Need-palette-step-requires-2
-palette-step-requires-2 c κs = search needs
+judged-step-requires-2 : tie.Need-judged-step-requires-2
+judged-step-requires-2 c κs = search needs
 
 judge-groups-requires : tie.Need-judge-groups-requires
 judge-groups-requires c κs = search needs
 
-palette-step-requires-3 : tie.Need-palette-step-requires-3
-palette-step-requires-3 c κs = search needs
+judged-step-requires-3 : tie.Need-judged-step-requires-3
+judged-step-requires-3 c κs = search needs
 
 sub-t22 : tie.Need-sub-t22
 sub-t22 c = search needs
@@ -76,31 +77,31 @@ behind-requires : tie.Need-behind-requires
 behind-requires c κs = search needs
 
 returns : tie.Need-returns
-returns c = λ l allowed g. judges-low _ _ _ _ _ _ _ allowed l (omega (arith, c .before .match .keys1)) _ (ends-film _ _ _ _ _ _ _ (c .before .match .keys1) (c .at-end .ensures))
+returns c = λ l g. judges-low _ _ _ _ _ _ _ allowance ample l (omega (arith, c .before .match .keys1)) _ (ends-film _ _ _ _ _ _ _ (c .before .match .keys1) (c .at-end .ensures))
 
 returns-2 : tie.Need-returns-2
-returns-2 c = λ l allowed g. judges-low _ _ _ _ _ _ _ allowed l (omega (arith, c .before .before .before .before .match .keys2)) _ (gives-size _ _ _ _ _ _ _ _ _ _ (c .before .before .before .before .match .keys2) (c .before .before .word-at .ensures .0) (c .before .word-at2 .ensures .0) (c .before .before .before .colour-of .ensures) (c .size-step .ensures))
+returns-2 c = λ l g. judges-low _ _ _ _ _ _ _ allowance ample l (omega (arith, c .before .before .before .before .match .keys2)) _ (gives-size _ _ _ _ _ _ _ _ _ _ (c .before .before .before .before .match .keys2) (c .before .before .word-at .ensures .0) (c .before .word-at2 .ensures .0) (c .before .before .before .colour-of .ensures) (c .size-step .ensures))
 
 returns-3 : tie.Need-returns-3
-returns-3 c = λ l allowed g. judges-low _ _ _ _ _ _ _ allowed l (omega (arith, c .before .match .keys3)) _ (sends _ _ _ _ _ _ _ (c .before .match .keys3) (c .sent .ensures))
+returns-3 c = λ l g. judges-low _ _ _ _ _ _ _ allowance ample l (omega (arith, c .before .match .keys3)) _ (sends _ _ _ _ _ _ _ (c .before .match .keys3) (c .sent .ensures))
 
 returns-4 : tie.Need-returns-4
-returns-4 c = λ l allowed g. judges-gradient _ _ _ _ _ _ _ allowed l _ g (c .before .judge-gradient .result) _ (c .palette-step .ensures) (c .before .before .match .keys4) (c .before .judge-gradient .ensures)
+returns-4 c = λ l g. judges-gradient _ _ _ _ _ _ _ allowance ample l _ g (c .before .judge-gradient .result) _ (c .judged-step .ensures) (c .before .before .match .keys4) (c .before .judge-gradient .ensures)
 
 returns-5 : tie.Need-returns-5
-returns-5 c = λ l allowed g. judges-entries _ _ _ _ _ _ _ allowed l _ g (c .before .judge-entries .result) _ (c .palette-step2 .ensures) (c .before .before .match .keys5) (c .before .judge-entries .ensures)
+returns-5 c = λ l g. judges-entries _ _ _ _ _ _ _ allowance ample l _ g (c .before .judge-entries .result) _ (c .judged-step2 .ensures) (c .before .before .match .keys5) (c .before .judge-entries .ensures)
 
 returns-6 : tie.Need-returns-6
-returns-6 c = λ l allowed g. judges-groups _ _ _ _ _ _ _ allowed l _ g (c .before .judge-groups .result) _ (c .palette-step3 .ensures) (c .before .before .match .keys6) (c .before .judge-groups .ensures)
+returns-6 c = λ l g. judges-groups _ _ _ _ _ _ _ allowance ample l _ g (c .before .judge-groups .result) _ (c .judged-step3 .ensures) (c .before .before .match .keys6) (c .before .judge-groups .ensures)
 
 returns-7 : tie.Need-returns-7
-returns-7 c = λ l allowed g. judges-map _ _ _ _ _ _ _ allowed l _ (c .before .match .keys7) (c .mapped .ensures)
+returns-7 c = λ l g. judges-map _ _ _ _ _ _ _ allowance ample l _ (c .before .match .keys7) (c .mapped .ensures)
 
 returns-8 : tie.Need-returns-8
-returns-8 c = λ l allowed g. judges-draw _ _ _ _ _ _ _ allowed l (c .match .keys8) (c .before .before .before .before .pre .1)
+returns-8 c = λ l g. judges-draw _ _ _ _ _ _ _ allowance ample l (c .match .keys8) (c .before .before .before .before .pre .1)
 
 returns-9 : tie.Need-returns-9
-returns-9 c = λ l allowed g. judges-quiet _ _ _ _ _ _ _ allowed l _ (c .before .match .rest .0 .0 .0 .0 .1) (c .before .match .rest .0 .0 .0 .1) (c .before .match .rest .0 .0 .1) (c .before .match .rest .0 .1) (c .before .match .rest .1) (passes _ _ _ _ _ _ _ (c .before .match .rest .0 .0 .0 .0 .0 .0 .0 .1) (c .before .match .rest .0 .0 .0 .0 .0 .0 .1) (c .before .match .rest .0 .0 .0 .0 .0 .1) (c .behind .ensures))
+returns-9 c = λ l g. judges-quiet _ _ _ _ _ _ _ allowance ample l _ (c .before .match .rest .0 .0 .0 .0 .1) (c .before .match .rest .0 .0 .0 .1) (c .before .match .rest .0 .0 .1) (c .before .match .rest .0 .1) (c .before .match .rest .1) (passes _ _ _ _ _ _ _ (c .before .match .rest .0 .0 .0 .0 .0 .0 .0 .1) (c .before .match .rest .0 .0 .0 .0 .0 .0 .1) (c .before .match .rest .0 .0 .0 .0 .0 .1) (c .behind .ensures))
 
 pub act-spec : {M : Type 1} → statement M
 act-spec =
@@ -117,11 +118,11 @@ act-spec =
     size-step-requires
     sent-requires
     judge-gradient-requires
-    palette-step-requires
+    judged-step-requires
     judge-entries-requires
-    palette-step-requires-2
+    judged-step-requires-2
     judge-groups-requires
-    palette-step-requires-3
+    judged-step-requires-3
     sub-t22
     mapped-requires
     behind-requires

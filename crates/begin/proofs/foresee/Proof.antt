@@ -1,5 +1,6 @@
 use mathlib.Core.Path.{refl}
 use Rattle.next.proofs.Standing.{possible}
+use Rattle.begin.specs.Begin.{allowance}
 use Rattle.begin.proofs.Before.{early-ready, sees-refusal, sees-end, sees-chunk, sees-opcode, nothing-lent}
 use borrow.Author.Needs.{needs}
 use Rattle.begin.proofs.foresee.Statement.{statement}
@@ -46,19 +47,19 @@ turn-of-requires : tie.Need-turn-of-requires
 turn-of-requires c κs = search needs
 
 returns : tie.Need-returns
-returns c = (λ l allowed g big. sees-refusal _ _ (c .before .before .before .before .before .before .before .before .before .pre) _ (c .before .before .before .before .is-chosen .ensures) _ (c .before .before .before .standing-at .ensures) l allowed g _ (c .before .r .given .1), refl)
+returns c = (λ l g big. sees-refusal _ _ (c .before .before .before .before .before .before .before .before .before .pre) _ (c .before .before .before .before .is-chosen .ensures) _ (c .before .before .before .standing-at .ensures) l allowance g _ (c .before .r .given .1), refl)
 
 returns-2 : tie.Need-returns-2
-returns-2 c = (λ l allowed g big. sees-end _ _ (c .before .before .before .before .before .before .before .before .pre) _ (c .before .before .before .is-chosen .ensures) _ (c .before .before .standing-at .ensures) l allowed g (c .enum-told .given .1), refl)
+returns-2 c = (λ l g big. sees-end _ _ (c .before .before .before .before .before .before .before .before .pre) _ (c .before .before .before .is-chosen .ensures) _ (c .before .before .standing-at .ensures) l allowance g (c .enum-told .given .1), refl)
 
 returns-3 : tie.Need-returns-3
-returns-3 c = (λ l allowed g big. sees-chunk _ _ (c .before .before .before .before .before .before .before .before .before .before .pre) _ (c .before .before .before .before .before .is-chosen .ensures) _ (c .before .before .before .before .standing-at .ensures) l allowed g _ _ (c .before .before .chunk .given .1) (c .into-chunk .ensures), refl)
+returns-3 c = (λ l g big. sees-chunk _ _ (c .before .before .before .before .before .before .before .before .before .before .pre) _ (c .before .before .before .before .before .is-chosen .ensures) _ (c .before .before .before .before .standing-at .ensures) l allowance g _ _ (c .before .before .chunk .given .1) (c .into-chunk .ensures), refl)
 
 same-length : tie.Need-same-length
 same-length c = search needs
 
 returns-4 : tie.Need-returns-4
-returns-4 c = (λ l allowed g big. sees-opcode _ _ (c .before .before .before .before .before .before .before .before .before .before .before .before .before .before .pre) _ (c .before .before .before .before .before .before .before .before .before .is-chosen .ensures) _ (c .before .before .before .before .before .before .before .before .standing-at .ensures) l allowed g _ _ _ (c .before .before .before .before .before .before .o .given .1) (c .turn-of .ensures) (c .before .before .before .take .ensures l allowed g big), nothing-lent (c .before .before .before .take .last .1 .1 .1 .0) _ (c .before .before .before .take .kept .1 .1 .1 .0))
+returns-4 c = (λ l g big. sees-opcode _ _ (c .before .before .before .before .before .before .before .before .before .before .before .before .before .before .pre) _ (c .before .before .before .before .before .before .before .before .before .is-chosen .ensures) _ (c .before .before .before .before .before .before .before .before .standing-at .ensures) l allowance g _ _ _ (c .before .before .before .before .before .before .o .given .1) (c .turn-of .ensures) (c .before .before .before .take .ensures l g big), nothing-lent (c .before .before .before .take .last .1 .1 .1 .0) _ (c .before .before .before .take .kept .1 .1 .1 .0))
 
 pub foresee-spec : {M : Type 1} → statement M
 foresee-spec =

@@ -1,3 +1,4 @@
+use Rattle.begin.specs.Begin.{allowance}
 use Rattle.begin.proofs.Before.{takes-dropped, takes-acted}
 use borrow.Author.Needs.{needs}
 use Rattle.begin.proofs.take.Statement.{statement}
@@ -34,13 +35,13 @@ same-length : tie.Need-same-length
 same-length c = search needs
 
 returns : tie.Need-returns
-returns c = λ l allowed g big. takes-dropped _ _ _ _ _ (c .before .before .before .before .before .before .before .before .is-chosen .ensures) (c .before .before .before .before .before .before .before .is-heard .ensures) l allowed (c .before .before .before .before .before .before .if1 .taken) _ (c .before .before .drop-sound .ensures l big)
+returns c = λ l g big. takes-dropped _ _ _ _ _ (c .before .before .before .before .before .before .before .before .is-chosen .ensures) (c .before .before .before .before .before .before .before .is-heard .ensures) l allowance (c .before .before .before .before .before .before .if1 .taken) _ (c .before .before .drop-sound .ensures l big)
 
 act-requires : tie.Need-act-requires
 act-requires c κs = search needs
 
 returns-2 : tie.Need-returns-2
-returns-2 c = λ l allowed g big. takes-acted _ _ _ _ _ (c .before .before .before .is-chosen .ensures) (c .before .before .is-heard .ensures) l allowed (c .before .if1 .left) _ (c .act .ensures l allowed g)
+returns-2 c = λ l g big. takes-acted _ _ _ _ _ (c .before .before .before .is-chosen .ensures) (c .before .before .is-heard .ensures) l allowance (c .before .if1 .left) _ (c .act .ensures l g)
 
 pub take-spec : {M : Type 1} → statement M
 take-spec =

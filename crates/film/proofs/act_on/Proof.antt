@@ -1,5 +1,5 @@
 use native.Mathlib.Omega.{arith}
-use Rattle.film.proofs.Steps.{act-gradient, act-entries, act-masks, act-map, act-draw, act-quiet}
+use Rattle.film.proofs.Steps.{act-gradient, act-entries, act-masks, act-map, act-map-short, act-draw, act-quiet}
 use borrow.Author.Needs.{needs}
 use Rattle.film.proofs.act_on.Statement.{statement}
 use Rattle.film.proofs.act_on.Tie as tie
@@ -44,11 +44,14 @@ set-palette-compressed-requires c κs = search needs
 palette-step-requires-3 : tie.Need-palette-step-requires-3
 palette-step-requires-3 c κs = search needs
 
+returns : tie.Need-returns
+returns c = λ room. act-map-short _ _ _ _ _ _ _ _ _ (c .before .match .keys4) (c .if1 .taken)
+
 set-place-requires : tie.Need-set-place-requires
 set-place-requires c κs = search needs
 
-sub-t29 : tie.Need-sub-t29
-sub-t29 c = search needs
+sub-t32 : tie.Need-sub-t32
+sub-t32 c = search needs
 
 mapped-requires : tie.Need-mapped-requires
 mapped-requires c κs = search needs
@@ -62,23 +65,23 @@ quiet-step-requires c κs = search needs
 same-length : tie.Need-same-length
 same-length c = search needs
 
-returns : tie.Need-returns
-returns c = λ room. act-gradient _ _ _ _ _ _ _ _ _ _ _ _ (c .palette-step .ensures) (c .before .before .before .before .before .match .keys1) (c .before .before .before .create-gradient .ensures .0) (c .before .before .before .create-gradient .ensures .1)
+returns-2 : tie.Need-returns-2
+returns-2 c = λ room. act-gradient _ _ _ _ _ _ _ _ _ _ _ _ (c .palette-step .ensures) (c .before .before .before .before .before .match .keys1) (c .before .before .before .create-gradient .ensures .0) (c .before .before .before .create-gradient .ensures .1)
 
 same-length-2 : tie.Need-same-length-2
 same-length-2 c = search needs
 
-returns-2 : tie.Need-returns-2
-returns-2 c = λ room. act-entries _ _ _ _ _ _ _ _ _ _ _ _ (c .palette-step2 .ensures) (c .before .before .before .before .before .match .keys2) (c .before .before .before .set-palette .ensures .0) (c .before .before .before .set-palette .ensures .1)
+returns-3 : tie.Need-returns-3
+returns-3 c = λ room. act-entries _ _ _ _ _ _ _ _ _ _ _ _ (c .palette-step2 .ensures) (c .before .before .before .before .before .match .keys2) (c .before .before .before .set-palette .ensures .0) (c .before .before .before .set-palette .ensures .1)
 
 same-length-3 : tie.Need-same-length-3
 same-length-3 c = search needs
 
-returns-3 : tie.Need-returns-3
-returns-3 c = λ room. act-masks _ _ _ _ _ _ _ _ _ _ _ _ (c .palette-step3 .ensures) (c .before .before .before .before .before .match .keys3) (c .before .before .before .set-palette-compressed .ensures .0) (c .before .before .before .set-palette-compressed .ensures .1)
-
 returns-4 : tie.Need-returns-4
-returns-4 c = λ room. act-map _ _ _ _ _ _ _ _ _ _ _ (c .before .before .before .match .keys4) (c .mapped .ensures) (c .before .set-place .ensures)
+returns-4 c = λ room. act-masks _ _ _ _ _ _ _ _ _ _ _ _ (c .palette-step3 .ensures) (c .before .before .before .before .before .match .keys3) (c .before .before .before .set-palette-compressed .ensures .0) (c .before .before .before .set-palette-compressed .ensures .1)
+
+returns-5 : tie.Need-returns-5
+returns-5 c = λ room. act-map _ _ _ _ _ _ _ _ _ _ _ (c .before .before .before .before .match .keys4) (c .before .before .before .if1 .left) (c .mapped .ensures) (c .before .set-place .ensures)
 
 same-length-4 : tie.Need-same-length-4
 same-length-4 c = search needs
@@ -86,11 +89,11 @@ same-length-4 c = search needs
 same-length-5 : tie.Need-same-length-5
 same-length-5 c = search needs
 
-returns-5 : tie.Need-returns-5
-returns-5 c = λ room. act-draw _ _ _ _ _ _ _ _ _ _ _ _ _ (c .before .before .before .before .before .before .before .before .match .keys5) (c .before .before .before .before .draw-by .ensures)
-
 returns-6 : tie.Need-returns-6
-returns-6 c = λ room. act-quiet _ _ _ _ _ _ _ _ _ _ (c .before .match .rest .0 .0 .0 .0 .1) (c .before .match .rest .0 .0 .0 .1) (c .before .match .rest .0 .0 .1) (c .before .match .rest .0 .1) (c .before .match .rest .1) (c .quiet-step .ensures)
+returns-6 c = λ room. act-draw _ _ _ _ _ _ _ _ _ _ _ _ _ (c .before .before .before .before .before .before .before .before .match .keys5) (c .before .before .before .before .draw-by .ensures)
+
+returns-7 : tie.Need-returns-7
+returns-7 c = λ room. act-quiet _ _ _ _ _ _ _ _ _ _ (c .before .match .rest .0 .0 .0 .0 .1) (c .before .match .rest .0 .0 .0 .1) (c .before .match .rest .0 .0 .1) (c .before .match .rest .0 .1) (c .before .match .rest .1) (c .quiet-step .ensures)
 
 pub act-on-spec : {M : Type 1} → statement M
 act-on-spec =
@@ -106,19 +109,20 @@ act-on-spec =
     palette-step-requires-2
     set-palette-compressed-requires
     palette-step-requires-3
+    returns
     set-place-requires
-    sub-t29
+    sub-t32
     mapped-requires
     draw-by-requires
     quiet-step-requires
     same-length
-    returns
-    same-length-2
     returns-2
-    same-length-3
+    same-length-2
     returns-3
+    same-length-3
     returns-4
+    returns-5
     same-length-4
     same-length-5
-    returns-5
-    returns-6)
+    returns-6
+    returns-7)

@@ -4,9 +4,24 @@ use Rattle.mve_states.proofs.state_of.Statement.{statement}
 use Rattle.mve_states.proofs.state_of.Tie as tie
 use Rattle.mve_states.proofs.state_of.Reads as reads
 use Rattle.mve_states.proofs.state_of.Lts as lts
+use Rattle.mve_states.proofs.flag.Reads as flag-reads
+use Rattle.mve_states.proofs.map_of.Reads as map-of-reads
+use Rattle.mve_states.proofs.sound_of.Reads as sound-of-reads
+
+shared-slice-read-map-of : tie.Need-shared-slice-read-map-of
+shared-slice-read-map-of c = search needs
+
+shared-slice-read-map-of-2 : tie.Need-shared-slice-read-map-of-2
+shared-slice-read-map-of-2 c = search needs
+
+shared-slice-read-map-of-3 : tie.Need-shared-slice-read-map-of-3
+shared-slice-read-map-of-3 c = search needs
 
 map-of-requires : tie.Need-map-of-requires
 map-of-requires c κs = search needs
+
+shared-slice-read-flag : tie.Need-shared-slice-read-flag
+shared-slice-read-flag c = search needs
 
 flag-requires : tie.Need-flag-requires
 flag-requires c κs = search needs
@@ -14,14 +29,38 @@ flag-requires c κs = search needs
 sound-of-requires : tie.Need-sound-of-requires
 sound-of-requires c κs = search needs
 
+shared-slice-read-t10 : tie.Need-shared-slice-read-t10
+shared-slice-read-t10 c = search needs
+
+shared-slice-read-t6 : tie.Need-shared-slice-read-t6
+shared-slice-read-t6 c = search needs
+
+shared-slice-read-t8 : tie.Need-shared-slice-read-t8
+shared-slice-read-t8 c = search needs
+
+shared-slice-read-t17 : tie.Need-shared-slice-read-t17
+shared-slice-read-t17 c = search needs
+
+shared-slice-read-t19 : tie.Need-shared-slice-read-t19
+shared-slice-read-t19 c = search needs
+
 returns : tie.Need-returns
-returns c = state-is _ _ _ _ (c .before .before .before .map-of .ensures) (c .before .before .flag .ensures) (c .sound-of .ensures)
+returns c = state-is _ _ _ _ (c .before .before .before .before .before .before .before .before .map-of .ensures) (c .before .before .before .before .before .before .flag .ensures) (c .before .before .before .before .before .sound-of .ensures)
 
 pub state-of-spec : {M : Type 1} → statement M
 state-of-spec =
     tie.close
     (tie.spec
+    shared-slice-read-map-of
+    shared-slice-read-map-of-2
+    shared-slice-read-map-of-3
     map-of-requires
+    shared-slice-read-flag
     flag-requires
     sound-of-requires
+    shared-slice-read-t10
+    shared-slice-read-t6
+    shared-slice-read-t8
+    shared-slice-read-t17
+    shared-slice-read-t19
     returns)

@@ -1,12 +1,12 @@
 use borrow.Author.Needs.{needs}
-use Rattle.palette.proofs.Order.{next-inside}
+use Rattle.listed.proofs.Order.{due-inside}
 use Rattle.palette.proofs.put.Statement.{statement}
 use Rattle.palette.proofs.put.Tie as tie
 use Rattle.palette.proofs.put.Reads as reads
 use Rattle.palette.proofs.put.Lts as lts
 
 slice-write-palette : tie.Need-slice-write-palette
-slice-write-palette c = next-inside _ _ _ _ _ _ (c .pre)
+slice-write-palette c = due-inside _ _ _ _ _ (c .pre)
 
 same-length : tie.Need-same-length
 same-length c = search needs

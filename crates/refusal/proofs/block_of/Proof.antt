@@ -70,6 +70,18 @@ enum-told-17 c = search needs
 enum-told-18 : tie.Need-enum-told-18
 enum-told-18 c = search needs
 
+enum-told-19 : tie.Need-enum-told-19
+enum-told-19 c = search needs
+
+enum-told-20 : tie.Need-enum-told-20
+enum-told-20 c = search needs
+
+enum-told-21 : tie.Need-enum-told-21
+enum-told-21 c = search needs
+
+enum-told-22 : tie.Need-enum-told-22
+enum-told-22 c = search needs
+
 returns : tie.Need-returns
 returns c = sym (ap block (c .before .r .given .1))
 
@@ -133,6 +145,18 @@ returns-20 c = sym (ap block (c .enum-told17 .given .1))
 returns-21 : tie.Need-returns-21
 returns-21 c = sym (ap block (c .enum-told18 .given .1))
 
+returns-22 : tie.Need-returns-22
+returns-22 c = sym (ap block (c .enum-told19 .given .1))
+
+returns-23 : tie.Need-returns-23
+returns-23 c = sym (ap block (c .enum-told20 .given .1))
+
+returns-24 : tie.Need-returns-24
+returns-24 c = sym (ap block (c .enum-told21 .given .1))
+
+returns-25 : tie.Need-returns-25
+returns-25 c = sym (ap block (c .enum-told22 .given .1))
+
 pub block-of-spec : {M : Type 1} → statement M
 block-of-spec =
     tie.close
@@ -158,6 +182,10 @@ block-of-spec =
     enum-told-16
     enum-told-17
     enum-told-18
+    enum-told-19
+    enum-told-20
+    enum-told-21
+    enum-told-22
     returns
     returns-2
     returns-3
@@ -178,4 +206,8 @@ block-of-spec =
     returns-18
     returns-19
     returns-20
-    returns-21)
+    returns-21
+    returns-22
+    returns-23
+    returns-24
+    returns-25)

@@ -1,10 +1,12 @@
 /* The film of document 01's listing, opened and stepped over through the C header, with a call that leaves a block begun;
-   states of any numbers; a film with sound, in rooms that are too small at first; packets with bytes left over, by the
-   default and the strict forms; the rows that packets touch; and where pixels come from. Exits with 0 where every answer is
-   the one that the documents give. */
+   states of any numbers; numbers of any count; a film with sound, in rooms that are too small at first; packets with bytes
+   left over, by the default and the strict forms; the rows that packets touch; and where pixels come from. Exits with 0
+   where every answer is the one that the documents give. */
 #include "mve.h"
 
+#include <stddef.h>
 #include <stdio.h>
+#include <stdlib.h>
 #include <string.h>
 
 static const uint8_t film[] = {
@@ -41,26 +43,79 @@ static const uint8_t samples[] = {
     0xff, 0x7f, 0x64, 0x00, 0x14, 0xf5, 0x67, 0x00, 0x13, 0xf5, 0x68, 0x00, 0x00, 0x00, 0x00, 0x00,
 };
 
-/* Field by field: the padding behind the last one may differ. */
+/* What is lent to a film's steps. */
+struct lent {
+    uint8_t palette[768], a[64], b[64], room[16];
+    size_t palette_length, room_length, place;
+};
+
+static struct lent all_lent(void) {
+    struct lent lent;
+    memset(&lent, 0, sizeof lent);
+    lent.palette_length = sizeof lent.palette;
+    return lent;
+}
+
 static int is_same(struct mve_state s, struct mve_state t) {
-    return s.position == t.position && s.chunk_end == t.chunk_end && s.columns == t.columns && s.rows == t.rows &&
-           s.front == t.front && s.has_map == t.has_map && s.map_start == t.map_start &&
-           s.map_length == t.map_length && s.unsent == t.unsent && s.stream == t.stream &&
-           s.has_format == t.has_format && s.stereo == t.stereo && s.wide == t.wide &&
-           s.compressed == t.compressed && s.begun == t.begun && s.left == t.left && s.right == t.right;
+    return memcmp(&s, &t, sizeof s) == 0;
+}
+
+/* A call returns the kind that it writes. */
+static void same_kind(size_t returned, const struct mve_stepped *out) {
+    if (returned != out->kind) {
+        fprintf(stderr, "returned %zu, written %zu\n", returned, out->kind);
+        exit(1);
+    }
+}
+
+/* In each of these all numbers of the answer are other ones before the call. */
+static struct mve_stepped opened(const uint8_t *bytes, size_t length, size_t stream) {
+    struct mve_stepped out;
+    memset(&out, 0x77, sizeof out);
+    same_kind(mve_open(bytes, length, stream, &out, MVE_STEPPED_NUMBERS), &out);
+    return out;
+}
+
+static struct mve_stepped begun(const uint8_t *bytes, size_t length, size_t stream, struct lent *lent) {
+    struct mve_stepped out;
+    memset(&out, 0x77, sizeof out);
+    same_kind(mve_begin(bytes, length, stream, &out, MVE_STEPPED_NUMBERS, lent->palette, lent->palette_length,
+                        &lent->place), &out);
+    return out;
+}
+
+static struct mve_stepped stepped(const uint8_t *bytes, size_t length, struct mve_state state, struct lent *lent,
+                                  size_t allowed, size_t form) {
+    struct mve_state from = state;
+    struct mve_stepped out;
+    memset(&out, 0x77, sizeof out);
+    same_kind(mve_step(bytes, length, &from, MVE_STATE_NUMBERS, &out, MVE_STEPPED_NUMBERS, lent->palette,
+                       lent->palette_length, lent->a, sizeof lent->a, lent->b, sizeof lent->b, &lent->place, lent->room,
+                       lent->room_length, allowed, form), &out);
+    if (!is_same(from, state)) {
+        fprintf(stderr, "the state that went in was written\n");
+        exit(1);
+    }
+    return out;
+}
+
+static size_t shown(const struct mve_state *state, const struct lent *lent) {
+    return mve_shown(state, MVE_STATE_NUMBERS, lent->a, sizeof lent->a, lent->b, sizeof lent->b);
 }
 
 static int sound(void) {
-    uint8_t palette[768] = {0}, none[1] = {0}, room[16], heard[sizeof samples];
-    size_t place = 0, length = 0, refused = 0;
+    struct lent lent = all_lent();
+    uint8_t heard[sizeof samples];
+    size_t length = 0, refused = 0;
 
     /* By the separate calls: the film has no size, and the samples before one are wanted. */
-    struct mve_stepped s = mve_open(sound_film, sizeof sound_film, 5);
+    struct mve_stepped s = opened(sound_film, sizeof sound_film, 5);
     EXPECT(s.kind == MVE_TAKEN && s.bytes == 0 && s.state.stream == 5 && s.state.has_format == 0);
     for (;;) {
         struct mve_state found = s.state;
-        memset(room, 0x5a, sizeof room);
-        s = mve_step(sound_film, sizeof sound_film, found, palette, sizeof palette, none, 0, none, 0, &place, room, 0, 0);
+        memset(lent.room, 0x5a, sizeof lent.room);
+        lent.room_length = 0;
+        s = stepped(sound_film, sizeof sound_film, found, &lent, 0, MVE_DEFAULT);
         EXPECT(s.bytes == 0);
         if (s.kind == MVE_ENDED) {
             break;
@@ -69,11 +124,11 @@ static int sound(void) {
             continue;
         }
         /* Nothing has changed, so the step is called again with more room. */
-        EXPECT(s.kind == MVE_REFUSED && s.number == MVE_ERROR_ROOM && is_same(s.state, found) && room[0] == 0x5a);
-        s = mve_step(sound_film, sizeof sound_film, found, palette, sizeof palette, none, 0, none, 0, &place, room,
-                     sizeof room, 0);
-        EXPECT(s.kind == MVE_TAKEN && s.bytes > 0 && length + s.bytes <= sizeof heard && room[s.bytes] == 0x5a);
-        memcpy(heard + length, room, s.bytes);
+        EXPECT(s.kind == MVE_REFUSED && s.number == MVE_ERROR_ROOM && is_same(s.state, found) && lent.room[0] == 0x5a);
+        lent.room_length = sizeof lent.room;
+        s = stepped(sound_film, sizeof sound_film, found, &lent, 0, MVE_DEFAULT);
+        EXPECT(s.kind == MVE_TAKEN && s.bytes > 0 && length + s.bytes <= sizeof heard && lent.room[s.bytes] == 0x5a);
+        memcpy(heard + length, lent.room, s.bytes);
         length += s.bytes;
         refused += 1;
     }
@@ -82,39 +137,39 @@ static int sound(void) {
     EXPECT(s.state.begun == 1 && s.state.left == 0xf513 && s.state.right == 104);
 
     /* Without a stream all of it is passed over. */
-    s = mve_open(sound_film, sizeof sound_film, 16);
+    s = opened(sound_film, sizeof sound_film, 16);
     for (length = 0; s.kind == MVE_TAKEN; length += 1) {
-        s = mve_step(sound_film, sizeof sound_film, s.state, palette, sizeof palette, none, 0, none, 0, &place, room, 0, 0);
+        s = stepped(sound_film, sizeof sound_film, s.state, &lent, 0, MVE_DEFAULT);
     }
     EXPECT(s.kind == MVE_ENDED && length == 6 && s.state.has_format == 0);
     return 0;
 }
 
 static int pictures(void) {
-    uint8_t palette[768] = {0}, a[64] = {0}, b[64] = {0}, drawn[64], room[1];
-    size_t place = 0, whole = 0, unfinished = 0, sent = 0;
+    struct lent lent = all_lent();
+    uint8_t drawn[64];
+    size_t whole = 0, unfinished = 0, sent = 0;
     memset(drawn, 0x2a, sizeof drawn);
     EXPECT(sizeof film == 82);
 
-    struct mve_stepped s = mve_begin(film, sizeof film, 0, palette, sizeof palette, &place);
+    struct mve_stepped s = begun(film, sizeof film, 0, &lent);
     EXPECT(s.kind == MVE_TAKEN && s.state.position == 38 && s.state.chunk_end == 42 && s.stores == 0 && s.bytes == 0);
-    EXPECT(s.state.columns == 1 && s.state.rows == 1 && mve_shown(s.state, a, sizeof a, b, sizeof b) == 64);
+    EXPECT(s.state.columns == 1 && s.state.rows == 1 && shown(&s.state, &lent) == 64);
     while (s.kind != MVE_ENDED) {
         /* 40 is too few for the block: as a stop, it leaves a block begun. */
         size_t allowed = unfinished == 0 ? 40 : 70;
         struct mve_state before = s.state;
-        s = mve_step(film, sizeof film, s.state, palette, sizeof palette, a, sizeof a, b, sizeof b, &place, room, 0,
-                     allowed);
+        s = stepped(film, sizeof film, before, &lent, allowed, MVE_DEFAULT);
         EXPECT(s.kind != MVE_REFUSED && s.bytes == 0);
         if (s.kind == MVE_UNFINISHED) {
-            EXPECT(s.stores == 40 && place == 0 && s.state.position == 51);
+            EXPECT(s.stores == 40 && lent.place == 0 && is_same(s.state, before) && s.state.position == 51);
             unfinished += 1;
         }
         if (s.kind == MVE_WHOLE) {
-            EXPECT(s.stores == 65 && place == 1 && s.state.position == 70 && s.state.unsent != 0);
+            EXPECT(s.stores == 65 && lent.place == 1 && s.state.position == 70 && s.state.unsent != 0);
             whole += 1;
         }
-        if (mve_is_sent(before, s.state)) {
+        if (mve_is_sent(&before, &s.state)) {
             EXPECT(before.position == 70 && before.front == 0 && s.state.front == 1);
             sent += 1;
         }
@@ -122,7 +177,7 @@ static int pictures(void) {
     EXPECT(sent == 1);
     EXPECT(unfinished == 1 && whole == 1 && s.state.position == 82 && s.state.front == 1);
     EXPECT(s.state.columns == 1 && s.state.rows == 1 && s.state.unsent == 0 && s.state.has_map == 0);
-    EXPECT(mve_shown(s.state, a, sizeof a, b, sizeof b) == 64 && memcmp(b, drawn, 64) == 0);
+    EXPECT(shown(&s.state, &lent) == 64 && memcmp(lent.b, drawn, 64) == 0);
 
     /* Where the state stays, its numbers come back as they came. */
     struct mve_state odd = s.state;
@@ -130,38 +185,41 @@ static int pictures(void) {
     odd.unsent = 2;
     odd.begun = 3;
     odd.right = 4;
-    s = mve_step(film, sizeof film, odd, palette, sizeof palette, a, sizeof a, b, sizeof b, &place, room, 0, 70);
+    s = stepped(film, sizeof film, odd, &lent, 70, MVE_DEFAULT);
     EXPECT(s.kind == MVE_ENDED && is_same(s.state, odd));
 
-    struct mve_stepped short_palette =
-        mve_step(film, sizeof film, s.state, palette, 767, a, sizeof a, b, sizeof b, &place, room, 0, 70);
+    lent.palette_length = 767;
+    struct mve_stepped short_palette = stepped(film, sizeof film, s.state, &lent, 70, MVE_DEFAULT);
     EXPECT(short_palette.kind == MVE_REFUSED && short_palette.number == MVE_ERROR_LENT_LENGTH);
-    EXPECT(short_palette.state.position == 82);
-    EXPECT(mve_open(film, 25, 0).number == MVE_ERROR_HEADER);
-
-    /* A film that is not opened up to its size: where it was refused. Nothing is changed. */
+    EXPECT(is_same(short_palette.state, odd));
     struct mve_state zeros;
     memset(&zeros, 0, sizeof zeros);
-    struct mve_stepped unbegun = mve_begin(film, 25, 0, palette, sizeof palette, &place);
-    EXPECT(unbegun.kind == MVE_REFUSED && unbegun.number == MVE_ERROR_HEADER && is_same(unbegun.state, zeros));
-    unbegun = mve_begin(film, 26, 0, palette, 767, &place);
+    s = opened(film, 25, 0);
+    EXPECT(s.kind == MVE_REFUSED && s.number == MVE_ERROR_HEADER && is_same(s.state, zeros));
+
+    /* A film that is not opened up to its size: where it was refused. Nothing is changed. */
+    struct mve_stepped unbegun = begun(film, 26, 0, &lent);
     EXPECT(unbegun.kind == MVE_REFUSED && unbegun.number == MVE_ERROR_LENT_LENGTH && unbegun.state.position == 26);
-    unbegun = mve_begin(film, 26, 0, palette, sizeof palette, &place);
+    lent.palette_length = 768;
+    unbegun = begun(film, 25, 0, &lent);
+    EXPECT(unbegun.kind == MVE_REFUSED && unbegun.number == MVE_ERROR_HEADER && is_same(unbegun.state, zeros));
+    unbegun = begun(film, 26, 0, &lent);
     EXPECT(unbegun.kind == MVE_REFUSED && unbegun.number == MVE_ERROR_NO_SIZE && unbegun.state.position == 26);
-    unbegun = mve_begin(film, 34, 0, palette, sizeof palette, &place);
-    EXPECT(unbegun.kind == MVE_REFUSED && unbegun.number == MVE_ERROR_CHUNK && unbegun.state.position == 26 && place == 1);
+    unbegun = begun(film, 34, 0, &lent);
+    EXPECT(unbegun.kind == MVE_REFUSED && unbegun.number == MVE_ERROR_CHUNK && unbegun.state.position == 26);
+    EXPECT(lent.place == 1);
 
     /* Two blocks in a row, code 1 and then code 6, which is refused in block 1. */
     const uint8_t map[] = {0x61}, none[] = {0};
+    size_t place = 0;
     struct mve_answer answer = mve_check(2, 1, map, 1, none, 0);
     EXPECT(answer.kind == MVE_REFUSED && answer.number == MVE_ERROR_CODE_6 && answer.block == 1);
     answer = mve_check(1, 1, map, 1, none, 0);
     EXPECT(answer.kind == MVE_ACCEPTED);
-    place = 0;
-    answer = mve_draw(1, 1, map, 1, none, 0, a, sizeof a, b, sizeof b, &place, 70);
-    EXPECT(answer.kind == MVE_WHOLE && answer.stores == 1 && place == 1 && memcmp(b, drawn, 64) == 0);
+    answer = mve_draw(1, 1, map, 1, none, 0, lent.a, sizeof lent.a, lent.b, sizeof lent.b, &place, 70);
+    EXPECT(answer.kind == MVE_WHOLE && answer.stores == 1 && place == 1 && memcmp(lent.b, drawn, 64) == 0);
     place = 2;
-    answer = mve_draw(1, 1, map, 1, none, 0, a, sizeof a, b, sizeof b, &place, 70);
+    answer = mve_draw(1, 1, map, 1, none, 0, lent.a, sizeof lent.a, lent.b, sizeof lent.b, &place, 70);
     EXPECT(answer.kind == MVE_REFUSED && answer.number == MVE_ERROR_PLACE && place == 2);
 
     /* Columns come before rows: 80 of them are taken, 80 rows are not. */
@@ -174,9 +232,8 @@ static int pictures(void) {
 
 /* A step makes of any numbers in a state what the header says: here at the head of the second chunk. */
 static int states(void) {
-    uint8_t palette[768] = {0}, a[64] = {0}, b[64] = {0}, room[1];
-    size_t place = 0;
-    struct mve_stepped s = mve_begin(film, sizeof film, 0, palette, sizeof palette, &place);
+    struct lent lent = all_lent();
+    struct mve_stepped s = begun(film, sizeof film, 0, &lent);
     EXPECT(s.kind == MVE_TAKEN && s.state.chunk_end == 42);
 
     /* Without a map and a format, what stands behind them is not read, and comes back as 0. */
@@ -188,7 +245,7 @@ static int states(void) {
     plain.position = 46;
     plain.chunk_end = 82;
     plain.unsent = 1;
-    s = mve_step(film, sizeof film, odd, palette, sizeof palette, a, sizeof a, b, sizeof b, &place, room, 0, 70);
+    s = stepped(film, sizeof film, odd, &lent, 70, MVE_DEFAULT);
     EXPECT(s.kind == MVE_TAKEN && is_same(s.state, plain));
 
     /* With both, a flag that is not 0 comes back as 1, and the other numbers as they are. */
@@ -196,15 +253,157 @@ static int states(void) {
     plain.has_map = plain.has_format = plain.wide = plain.stereo = plain.compressed = plain.begun = 1;
     plain.map_start = plain.map_length = 2;
     plain.left = plain.right = 4;
-    s = mve_step(film, sizeof film, odd, palette, sizeof palette, a, sizeof a, b, sizeof b, &place, room, 0, 70);
+    s = stepped(film, sizeof film, odd, &lent, 70, MVE_DEFAULT);
     EXPECT(s.kind == MVE_TAKEN && is_same(s.state, plain));
 
     /* A refused step gives all numbers back as they came. */
-    s = mve_step(film, sizeof film, odd, palette, 767, a, sizeof a, b, sizeof b, &place, room, 0, 70);
+    lent.palette_length = 767;
+    s = stepped(film, sizeof film, odd, &lent, 70, MVE_DEFAULT);
     EXPECT(s.kind == MVE_REFUSED && s.number == MVE_ERROR_LENT_LENGTH && is_same(s.state, odd));
+    lent.palette_length = 768;
     odd.front = 2;
-    s = mve_step(film, sizeof film, odd, palette, sizeof palette, a, sizeof a, b, sizeof b, &place, room, 0, 70);
+    s = stepped(film, sizeof film, odd, &lent, 70, MVE_DEFAULT);
     EXPECT(s.kind == MVE_REFUSED && s.number == MVE_ERROR_STATE && is_same(s.state, odd));
+    return 0;
+}
+
+/* The fields in the order of the numbers, which the library goes by. */
+static const size_t state_places[] = {
+    offsetof(struct mve_state, position),   offsetof(struct mve_state, chunk_end), offsetof(struct mve_state, columns),
+    offsetof(struct mve_state, rows),       offsetof(struct mve_state, front),     offsetof(struct mve_state, has_map),
+    offsetof(struct mve_state, map_start),  offsetof(struct mve_state, map_length), offsetof(struct mve_state, unsent),
+    offsetof(struct mve_state, stream),     offsetof(struct mve_state, has_format), offsetof(struct mve_state, stereo),
+    offsetof(struct mve_state, wide),       offsetof(struct mve_state, compressed), offsetof(struct mve_state, begun),
+    offsetof(struct mve_state, left),       offsetof(struct mve_state, right),
+};
+static const size_t stepped_places[] = {
+    offsetof(struct mve_stepped, kind),      offsetof(struct mve_stepped, number),   offsetof(struct mve_stepped, block),
+    offsetof(struct mve_stepped, stores),    offsetof(struct mve_stepped, bytes),    offsetof(struct mve_stepped, touched),
+    offsetof(struct mve_stepped, first_row), offsetof(struct mve_stepped, last_row), offsetof(struct mve_stepped, state),
+};
+
+/* Each number at its place: the fields lie one behind the other, and each number that a step is given comes back where it
+   stood. One flag at a time is set, so that two that change places are seen. */
+static int places(void) {
+    EXPECT(sizeof state_places / sizeof *state_places == MVE_STATE_NUMBERS && sizeof(size_t) == 8);
+    EXPECT(sizeof stepped_places / sizeof *stepped_places == MVE_STEPPED_NUMBERS - MVE_STATE_NUMBERS + 1);
+    for (size_t i = 0; i < MVE_STATE_NUMBERS; i += 1) {
+        EXPECT(state_places[i] == 8 * i && (i > 8 || stepped_places[i] == 8 * i));
+    }
+
+    static const size_t flags[] = {5, 8, 10, 11, 12, 13, 14};
+    struct lent lent = all_lent();
+    for (size_t i = 0; i < sizeof flags / sizeof *flags; i += 1) {
+        /* position and chunk end at the second chunk's head; then columns, rows, front, .., stream, .., left, right */
+        size_t from[17] = {42, 42, 1, 1, 1, 0, 0, 0, 0, 77, 0, 0, 0, 0, 0, 0, 0}, next[17];
+        from[flags[i]] = 1;
+        if (flags[i] == 5) {
+            from[6] = 6;
+            from[7] = 7;
+        }
+        if (flags[i] > 10) {
+            from[10] = 1;
+            from[12] |= flags[i] == 13; /* compressed sound has 16 bits */
+            from[15] = 65534;
+            from[16] = 65535;
+        }
+        memcpy(next, from, sizeof next);
+        next[0] = 46;
+        next[1] = 82;
+        struct mve_state state;
+        memcpy(&state, from, sizeof state);
+        struct mve_stepped s = stepped(film, sizeof film, state, &lent, 70, MVE_DEFAULT);
+        EXPECT(s.kind == MVE_TAKEN && memcmp(&s.state, next, sizeof next) == 0);
+    }
+    return 0;
+}
+
+/* Memory for numbers of any count, and what is lent beside. */
+struct counted {
+    size_t from[18], out[26];
+    struct lent lent;
+};
+
+/* A step at the head of the second chunk, with numbers of these counts. */
+static size_t counted_step(struct counted *c, size_t from_numbers, size_t out_numbers) {
+    struct lent *lent = &c->lent;
+    return mve_step(film, sizeof film, (const struct mve_state *)c->from, from_numbers, (struct mve_stepped *)c->out,
+                    out_numbers, lent->palette, lent->palette_length, lent->a, sizeof lent->a, lent->b, sizeof lent->b,
+                    &lent->place, lent->room, lent->room_length, 70, MVE_DEFAULT);
+}
+
+/* As found but for the answer: refused by 16, and a state of zeros. */
+static int is_no_state(const struct counted *c, const struct counted *found) {
+    struct counted expected = *found;
+    memset(expected.out, 0, MVE_STEPPED_NUMBERS * sizeof(size_t));
+    expected.out[0] = MVE_REFUSED;
+    expected.out[1] = MVE_ERROR_STATE;
+    return memcmp(c, &expected, sizeof expected) == 0;
+}
+
+static int counts(void) {
+    static const size_t first[18] = {42, 42, 1, 1, 0, 0, 0, 0, 1, 16, 0, 0, 0, 0, 0, 0, 0, 0x77};
+    static const size_t wrong[] = {0, 1, 16, 18};
+    struct counted found, c;
+    memset(&found, 0x77, sizeof found);
+    memcpy(found.from, first, sizeof first);
+    found.lent = all_lent();
+
+    /* An out that is too short: nothing is touched, whatever else is wrong. */
+    for (size_t out = 0; out < MVE_STEPPED_NUMBERS; out += 1) {
+        c = found;
+        c.from[15] = 65536;
+        found.from[15] = 65536;
+        EXPECT(counted_step(&c, out % 2 ? MVE_STATE_NUMBERS : 0, out) == MVE_REFUSED);
+        EXPECT(memcmp(&c, &found, sizeof c) == 0);
+        EXPECT(mve_open(film, sizeof film, 0, (struct mve_stepped *)c.out, out) == MVE_REFUSED);
+        EXPECT(mve_begin(film, sizeof film, 0, (struct mve_stepped *)c.out, out, c.lent.palette, out, &c.lent.place) ==
+               MVE_REFUSED);
+        EXPECT(memcmp(&c, &found, sizeof c) == 0);
+        found.from[15] = 0;
+    }
+
+    /* One that is long enough: the numbers behind the answer stay. */
+    for (size_t out = MVE_STEPPED_NUMBERS; out <= MVE_STEPPED_NUMBERS + 1; out += 1) {
+        c = found;
+        EXPECT(counted_step(&c, MVE_STATE_NUMBERS, out) == MVE_TAKEN && c.out[0] == MVE_TAKEN && c.out[8] == 46);
+        EXPECT(memcmp(c.from, found.from, sizeof c.from) == 0 && c.out[25] == found.out[25]);
+        c = found;
+        EXPECT(mve_open(film, sizeof film, 3, (struct mve_stepped *)c.out, out) == MVE_TAKEN);
+        EXPECT(c.out[8] == 26 && c.out[17] == 3 && c.out[25] == found.out[25]);
+        c = found;
+        EXPECT(mve_begin(film, sizeof film, 3, (struct mve_stepped *)c.out, out, c.lent.palette, 768, &c.lent.place) ==
+               MVE_TAKEN);
+        EXPECT(c.out[8] == 38 && c.out[10] == 1 && c.out[17] == 3 && c.out[25] == found.out[25]);
+    }
+
+    /* Numbers that are no state's: refused by 16 before anything else is looked at, here a palette that is too short. */
+    for (size_t i = 0; i < sizeof wrong / sizeof *wrong; i += 1) {
+        for (size_t out = MVE_STEPPED_NUMBERS; out <= MVE_STEPPED_NUMBERS + 1; out += 1) {
+            c = found;
+            c.lent.palette_length = found.lent.palette_length = 767;
+            EXPECT(counted_step(&c, wrong[i], out) == MVE_REFUSED && is_no_state(&c, &found));
+            found.lent.palette_length = 768;
+        }
+        EXPECT(mve_shown((const struct mve_state *)found.from, wrong[i], c.lent.a, 64, c.lent.b, 64) == 0);
+    }
+    EXPECT(mve_shown((const struct mve_state *)found.from, MVE_STATE_NUMBERS, c.lent.a, 64, c.lent.b, 64) == 64);
+
+    /* A last sample of more than 16 bits, with a format and without: no state's, either. 65,535 is one. */
+    for (size_t i = 0; i < 4; i += 1) {
+        size_t at = 15 + i % 2;
+        struct counted with = found;
+        with.from[10] = with.from[12] = i / 2;
+        with.from[at] = 65535;
+        c = with;
+        EXPECT(counted_step(&c, MVE_STATE_NUMBERS, MVE_STEPPED_NUMBERS) == MVE_TAKEN);
+        EXPECT(c.out[8 + at] == (i / 2 ? 65535 : 0));
+        EXPECT(mve_shown((const struct mve_state *)with.from, MVE_STATE_NUMBERS, c.lent.a, 64, c.lent.b, 64) == 64);
+        with.from[at] = i % 2 ? 65536 : (size_t)-1;
+        c = with;
+        EXPECT(counted_step(&c, MVE_STATE_NUMBERS, MVE_STEPPED_NUMBERS) == MVE_REFUSED && is_no_state(&c, &with));
+        EXPECT(mve_shown((const struct mve_state *)with.from, MVE_STATE_NUMBERS, c.lent.a, 64, c.lent.b, 64) == 0);
+    }
     return 0;
 }
 
@@ -238,50 +437,53 @@ static int padded_packet(void) {
 /* The film again, as it is, and cut in its opcode 07. Its packet has one byte; where the length of opcode 11 says two, the
    first byte of the next opcode's head is left over. */
 static int padded_film(void) {
-    uint8_t palette[768] = {0}, a[64] = {0}, b[64] = {0}, zeros[64] = {0}, drawn[64], room[1], padded[71];
-    size_t place = 0;
+    struct lent lent = all_lent();
+    uint8_t zeros[64] = {0}, drawn[64], padded[71];
     memset(drawn, 0x2a, sizeof drawn);
     memcpy(padded, film, sizeof padded);
     padded[42] = 25; /* the chunk's length: 5 bytes of opcode 0F, 20 of opcode 11 */
     padded[51] = 16; /* the opcode's */
 
-    struct mve_stepped s = mve_begin(padded, sizeof padded, 0, palette, sizeof palette, &place);
+    struct mve_stepped s = begun(padded, sizeof padded, 0, &lent);
     EXPECT(s.kind == MVE_TAKEN && s.state.position == 38);
     while (s.kind == MVE_TAKEN && s.state.position != 51) {
-        s = mve_step_strict(padded, sizeof padded, s.state, palette, sizeof palette, a, sizeof a, b, sizeof b, &place,
-                            room, 0, 70);
+        s = stepped(padded, sizeof padded, s.state, &lent, 70, MVE_STRICT);
     }
     EXPECT(s.kind == MVE_TAKEN && s.state.has_map != 0);
     struct mve_state at_video = s.state;
-    s = mve_step_strict(padded, sizeof padded, at_video, palette, sizeof palette, a, sizeof a, b, sizeof b, &place, room,
-                        0, 70);
-    EXPECT(s.kind == MVE_REFUSED && s.number == MVE_ERROR_DATA_LEFT && s.block == 0 && s.stores == 0 && s.bytes == 0);
-    EXPECT(is_same(s.state, at_video) && place == 0 && memcmp(b, zeros, 64) == 0);
     /* Every number but 0 means the strict form. */
-    s = mve_step_as(padded, sizeof padded, at_video, palette, sizeof palette, a, sizeof a, b, sizeof b, &place, room, 0,
-                    70, (size_t)-1);
-    EXPECT(s.kind == MVE_REFUSED && s.number == MVE_ERROR_DATA_LEFT && memcmp(b, zeros, 64) == 0);
-    s = mve_step(padded, sizeof padded, at_video, palette, sizeof palette, a, sizeof a, b, sizeof b, &place, room, 0, 70);
-    EXPECT(s.kind == MVE_WHOLE && s.stores == 65 && s.state.position == 71 && place == 1);
-    EXPECT(memcmp(b, drawn, 64) == 0);
+    static const size_t strict[] = {MVE_STRICT, 2, 256, (size_t)-1};
+    for (size_t i = 0; i < sizeof strict / sizeof *strict; i += 1) {
+        s = stepped(padded, sizeof padded, at_video, &lent, 70, strict[i]);
+        EXPECT(s.kind == MVE_REFUSED && s.number == MVE_ERROR_DATA_LEFT && s.block == 0 && s.stores == 0 && s.bytes == 0);
+        EXPECT(is_same(s.state, at_video) && lent.place == 0 && memcmp(lent.b, zeros, 64) == 0);
+    }
+    s = stepped(padded, sizeof padded, at_video, &lent, 70, MVE_DEFAULT);
+    EXPECT(s.kind == MVE_WHOLE && s.stores == 65 && s.state.position == 71 && lent.place == 1);
+    EXPECT(memcmp(lent.b, drawn, 64) == 0);
 
     /* With nothing left over the strict form draws the same. */
-    memset(b, 0, sizeof b);
-    s = mve_begin(film, sizeof film, 0, palette, sizeof palette, &place);
+    memset(lent.b, 0, sizeof lent.b);
+    s = begun(film, sizeof film, 0, &lent);
     while (s.kind == MVE_TAKEN || s.kind == MVE_WHOLE) {
-        s = mve_step_strict(film, sizeof film, s.state, palette, sizeof palette, a, sizeof a, b, sizeof b, &place, room, 0,
-                            70);
+        s = stepped(film, sizeof film, s.state, &lent, 70, MVE_STRICT);
     }
-    EXPECT(s.kind == MVE_ENDED && s.state.front == 1 && memcmp(b, drawn, 64) == 0);
+    EXPECT(s.kind == MVE_ENDED && s.state.front == 1 && memcmp(lent.b, drawn, 64) == 0);
     return 0;
 }
 
 /* The constants, from the rules: 256 entries of three bytes; 80 by 60 blocks of 64 pixels; as many blocks of 65 stores; a
    word of samples, two bytes each. */
 static int constants(void) {
-    EXPECT(MVE_VERSION == 9 && MVE_PALETTE_BYTES == 256 * 3 && MVE_PICTURE_BYTES == 80 * 60 * 64);
+    EXPECT(MVE_VERSION == 11 && MVE_PALETTE_BYTES == 256 * 3 && MVE_PICTURE_BYTES == 80 * 60 * 64);
     EXPECT(MVE_BLOCK_STORES == 64 + 1 && MVE_ALL_STORES == 80 * 60 * MVE_BLOCK_STORES);
+    EXPECT(MVE_PALETTE_STORES == 2 * 256 * 3);
     EXPECT(MVE_ROOM_BYTES == 2 * 65535 && MVE_NO_STREAM == 16);
+    EXPECT(MVE_DEFAULT == 0 && MVE_STRICT == 1 && MVE_STATE_NUMBERS == 17 && MVE_STEPPED_NUMBERS == 8 + 17);
+    EXPECT(sizeof(struct mve_state) == 17 * sizeof(size_t) && sizeof(struct mve_stepped) == 25 * sizeof(size_t));
+    /* What a player lends for writing, at most: palette, pictures, room, place and two answers. */
+    EXPECT(MVE_PALETTE_BYTES + 2 * MVE_PICTURE_BYTES + MVE_ROOM_BYTES + sizeof(size_t) + 2 * sizeof(struct mve_stepped) ==
+           746646);
     return 0;
 }
 
@@ -307,7 +509,8 @@ static int has_rows(struct mve_answer answer, size_t touched, size_t first, size
    refusal; and the film's step at its only block. */
 static int rows(void) {
     const uint8_t map[] = {0xe1, 0x10}, untouched[] = {0x11, 0x11}, data[] = {0x2a, 0x99};
-    uint8_t palette[768] = {0}, front[256] = {0}, back[256], a[64] = {0}, b[64] = {0}, room[1];
+    uint8_t front[256] = {0}, back[256];
+    struct lent lent = all_lent();
     size_t place = 0, calls = 0;
     memset(back, 7, sizeof back);
     EXPECT(has_rows(mve_check(1, 4, map, 2, data, 1), 1, 1, 2));
@@ -325,11 +528,10 @@ static int rows(void) {
     EXPECT(calls == 4 && place == 4 && back[64] == 0x2a && back[191] == 0);
 
     size_t drawn = 0;
-    struct mve_stepped s = mve_begin(film, sizeof film, 0, palette, sizeof palette, &place);
+    struct mve_stepped s = begun(film, sizeof film, 0, &lent);
     EXPECT(s.kind == MVE_TAKEN && s.touched == 0 && s.first_row == 0 && s.last_row == 0);
     while (s.kind != MVE_ENDED) {
-        s = mve_step(film, sizeof film, s.state, palette, sizeof palette, a, sizeof a, b, sizeof b, &place, room, 0,
-                     drawn == 0 ? 40 : 70);
+        s = stepped(film, sizeof film, s.state, &lent, drawn == 0 ? 40 : 70, MVE_DEFAULT);
         size_t draws = s.kind == MVE_WHOLE || s.kind == MVE_UNFINISHED;
         EXPECT(s.kind != MVE_REFUSED && s.touched == draws && s.first_row == 0 && s.last_row == 0);
         drawn += draws;
@@ -359,5 +561,6 @@ static int origins(void) {
 }
 
 int main(void) {
-    return constants() | texts() | pictures() | states() | sound() | padded_packet() | padded_film() | rows() | origins();
+    return constants() | texts() | pictures() | states() | places() | counts() | sound() | padded_packet() | padded_film() |
+           rows() | origins();
 }

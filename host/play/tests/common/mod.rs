@@ -2,11 +2,9 @@
 
 #![allow(dead_code)] // each test file uses a part of it
 
-use reference::begin::begin;
 use reference::film::{opcode_head, open, step, Lent, State, Stepped};
 use reference::frame::MAX_PIXELS;
 use reference::pictures::{Played, Recording};
-use reference::sound::NO_STREAM;
 use std::collections::BTreeMap;
 use std::env;
 use std::fs::{self, File};
@@ -102,20 +100,16 @@ pub fn play(program: &Path, name: &str, film: &[u8], options: &Options) -> Left 
     run(program, &folder, &["film.mve", "pictures"].into_iter().chain(words).collect::<Vec<_>>())
 }
 
-/// How often a player is stopped: where stores are missing, and at every so many opcodes of sound, of
-/// which one that is taken again counts again.
+/// How often a player is stopped: where stores are missing, of which a step that came no further gets
+/// twice as many, and at every so many opcodes of sound, of which one that is taken again counts again.
 pub fn stops(film: &[u8], options: &Options) -> usize {
     let (mut palette, mut place, mut room) = ([0; 768], 0, vec![0; 131_070]);
     let (mut a, mut b) = (vec![0; MAX_PIXELS], vec![0; MAX_PIXELS]);
-    // With sound by the separate calls: an opcode of sound before the size may stop a player, too.
-    let opened = if options.stream < NO_STREAM {
-        open(film, options.stream).ok()
-    } else {
-        begin(film, options.stream, &mut palette, &mut place).ok()
-    };
-    let Some(mut state) = opened else { return 0 };
-    let (mut stops, mut sounds) = (0, 0);
+    // By the separate calls: a palette or an opcode of sound before the size may stop a player, too.
+    let Ok(mut state) = open(film, options.stream) else { return 0 };
+    let (mut stops, mut sounds, mut allowed) = (0, 0, options.allowance);
     loop {
+        let found = place;
         let lent = Lent {
             palette: &mut palette,
             picture_a: &mut a,
@@ -123,8 +117,8 @@ pub fn stops(film: &[u8], options: &Options) -> usize {
             place: &mut place,
             room: &mut room,
         };
-        match step(film, state, lent, options.allowance) {
-            Stepped::Taken(next, bytes) => {
+        match step(film, state, lent, allowed) {
+            Stepped::Taken(next, _, bytes) => {
                 if bytes > 0 || is_format(film, &state) {
                     sounds += 1;
                     if options.every.is_some_and(|every| sounds % every == 0) {
@@ -135,9 +129,16 @@ pub fn stops(film: &[u8], options: &Options) -> usize {
                 state = next;
             }
             Stepped::Whole(next, ..) => state = next,
-            Stepped::Unfinished(..) => stops += 1,
+            Stepped::Unfinished(..) => {
+                stops += 1;
+                if place == found {
+                    allowed = allowed.saturating_mul(2);
+                    continue;
+                }
+            }
             Stepped::Ended(_) | Stepped::Refused(_) => return stops,
         }
+        allowed = options.allowance;
     }
 }
 

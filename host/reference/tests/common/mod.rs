@@ -102,7 +102,7 @@ impl Lent {
     pub fn steps(&mut self, film: &[u8], mut state: State, count: usize) -> State {
         for number in 0..count {
             state = match self.step(film, state, 312_000) {
-                Stepped::Taken(state, _) | Stepped::Whole(state, ..) => state,
+                Stepped::Taken(state, ..) | Stepped::Whole(state, ..) => state,
                 other => panic!("step {number}: {other:?}"),
             };
         }
@@ -114,10 +114,10 @@ impl Lent {
         let mut state = film::open(film, NO_STREAM).expect("a good header");
         loop {
             match self.step(film, state, 312_000) {
-                Stepped::Taken(after, _) | Stepped::Whole(after, ..) => state = after,
+                Stepped::Taken(after, ..) | Stepped::Whole(after, ..) => state = after,
                 Stepped::Ended(after) => return (after, None),
                 Stepped::Refused(refusal) => return (state, Some(refusal)),
-                Stepped::Unfinished(..) => panic!("312,000 stores draw any frame"),
+                Stepped::Unfinished(..) => panic!("312,000 stores are enough for any step"),
             }
         }
     }

@@ -1,0 +1,50 @@
+/* A least caller of each call of the library but mve_step, whose least caller is examples/synopsis.c. What they need is not
+   on the stack: painted.c sets it. */
+#include "callers.h"
+
+const uint8_t *film, *map, *data;
+size_t film_length, map_length, data_length, columns, rows, allowed, place;
+uint8_t palette[MVE_PALETTE_BYTES], front[MVE_PICTURE_BYTES], back[MVE_PICTURE_BYTES];
+struct mve_stepped answer;
+struct mve_answer verdict;
+struct mve_traced traced;
+size_t kind, shown;
+
+void call_mve_open(void) {
+    kind = mve_open(film, film_length, 0, &answer, MVE_STEPPED_NUMBERS);
+}
+
+void call_mve_begin(void) {
+    kind = mve_begin(film, film_length, 0, &answer, MVE_STEPPED_NUMBERS, palette, sizeof palette, &place);
+}
+
+void call_mve_shown(void) {
+    shown = mve_shown(&answer.state, MVE_STATE_NUMBERS, front, sizeof front, back, sizeof back);
+}
+
+void call_mve_check(void) {
+    verdict = mve_check(columns, rows, map, map_length, data, data_length);
+}
+
+void call_mve_check_strict(void) {
+    verdict = mve_check_strict(columns, rows, map, map_length, data, data_length);
+}
+
+void call_mve_draw(void) {
+    do {
+        verdict = mve_draw(columns, rows, map, map_length, data, data_length, front, sizeof front, back, sizeof back,
+                           &place, allowed);
+    } while (verdict.kind == MVE_UNFINISHED);
+}
+
+void call_mve_draw_strict(void) {
+    do {
+        verdict = mve_draw_strict(columns, rows, map, map_length, data, data_length, front, sizeof front, back,
+                                  sizeof back, &place, allowed);
+    } while (verdict.kind == MVE_UNFINISHED);
+}
+
+void call_mve_origin(void) {
+    traced = mve_origin(columns, rows, map, map_length, data, data_length, front, sizeof front, back, sizeof back,
+                        8 * columns - 1, 8 * rows - 1);
+}
