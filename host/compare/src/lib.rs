@@ -12,7 +12,8 @@
 //! [`cuts`] plays films whose steps are cut and called again.
 //!
 //! [`FromDefault`] is the strict form as it follows from the default one: with it the strict form of a
-//! decoder is compared. [`origins`] compares where pixels come from. [`numbers`] compares the film's calls with states and answers as numbers of any
+//! decoder is compared. [`origins`] compares where pixels come from, [`salvages`] what is left of
+//! scratched films. [`numbers`] compares the film's calls with states and answers as numbers of any
 //! count, as they cross to C.
 //!
 //! In comments "01" is the scope document, "02" that of the requests; docs/RULES.md has
@@ -28,6 +29,7 @@ mod film;
 pub mod forms;
 pub mod numbers;
 pub mod origins;
+pub mod salvages;
 pub mod tally;
 
 pub use begin::Separate;

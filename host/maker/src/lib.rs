@@ -20,6 +20,7 @@ pub mod film_damage;
 pub mod form;
 pub mod packet;
 pub mod packet_damage;
+pub mod scratches;
 pub mod seeded;
 pub mod size;
 pub mod sound;

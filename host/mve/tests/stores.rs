@@ -1,10 +1,11 @@
 //! One function for each store (01, "Stores"): of the library's functions `paint::put` stores a
 //! pixel, `paint::set_place` the place, `palette::put` a byte of the palette, and `dpcm::put`,
-//! `dpcm::put_start_byte`, `room::put_byte` and `room::put_value` a byte of sound,
+//! `dpcm::put_start_byte`, `room::put_byte` and `room::put_value` a byte of sound or of a new film,
 //! once each, and no other does. Their contracts ask that a store is the next of its list; that nothing
 //! else stores is read from the sources, since no contract says which function stores. The numbers of
 //! an answer, which are no part of a film's memory, are stored by some functions of `mve_states` and
-//! `mve_steps`, to `out` alone.
+//! `mve_steps`, to `out` alone; `parts::put_number` stores a number of a list, `video1::put` a pixel of a
+//! Video 1 frame, and `encode::put` a byte of a map or a packet that is made.
 //!
 //! Rattle stores by assignment alone; slices have no methods that do. Lent memory is assigned to by
 //! an index, through a reference, or as a field: an assignment to a mere name is to the function's
@@ -16,14 +17,17 @@ use std::fs;
 use std::path::{Path, PathBuf};
 
 /// The functions that store, in the order of their names.
-const STORING: [&str; 7] = [
+const STORING: [&str; 10] = [
     "dpcm::put",
     "dpcm::put_start_byte",
+    "encode::put",
     "paint::put",
     "paint::set_place",
     "palette::put",
+    "parts::put_number",
     "room::put_byte",
     "room::put_value",
+    "video1::put",
 ];
 
 /// The functions that store numbers of an answer, in the order of their names.

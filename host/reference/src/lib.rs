@@ -22,6 +22,7 @@
 //! | [`begin`] | opening, and stepping until there is a size |
 //! | [`cuts`] | the stores of a step in one list, and films played through cuts |
 //! | [`numbers`] | the film's calls with states and answers as numbers of any count |
+//! | [`salvage`] | what is left of a scratched film |
 //! | [`listing`] | the text that the listing program writes |
 //! | [`pictures`] | the pictures that a film sends, as the example players write them |
 
@@ -38,6 +39,7 @@ pub mod packet;
 pub mod palette;
 pub mod pictures;
 pub mod refusal;
+pub mod salvage;
 pub mod sound;
 pub mod steps;
 

@@ -1,0 +1,5 @@
+pub mod First
+pub mod Compare
+pub mod Colours
+pub mod Best
+pub mod Rows

@@ -1,0 +1,4 @@
+pub mod Heads
+pub mod Testing
+pub mod Holding
+pub mod Moved

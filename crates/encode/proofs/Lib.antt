@@ -1,0 +1,5 @@
+pub mod Draws
+pub mod Blocks
+pub mod Parts
+pub mod Answers
+pub mod Made

@@ -1,0 +1,5 @@
+pub mod Code
+pub mod Frame
+pub mod Asked
+pub mod Explained
+pub mod Accepted
