@@ -50,6 +50,7 @@ mve_shown   how many bytes of the front picture are shown
 mve_check   whether a packet is accepted, without drawing it
 mve_draw    the drawing of a packet, without a film
 mve_origin  which byte or pixel gave a pixel of a packet's picture its value
+mve_salvage what is left of a scratched film, as a new film
 
 mve_step with MVE_STRICT, mve_check_strict and mve_draw_strict are the strict forms: a packet may leave no byte over (THE
 PACKET). mve_is_sent tells whether a step sent a picture to the display. mve_refusal_text says in words why a call was
@@ -67,10 +68,10 @@ The library allocates nothing and keeps nothing between calls. The caller lends 
 set lent bytes, and no other function.) The caller must keep three rules:
 
     While a call runs, nobody else writes to lent memory, and nobody else reads what is lent for writing: out, palette,
-    pictures, place and room.
+    pictures, place, room and list.
     What is lent for writing shares no byte with anything else that is lent. So from and out share no number.
-    Every address comes with its length, and is not null even where the length is 0. The addresses of from, out and place
-    are aligned, as those of size_t are.
+    Every address comes with its length, and is not null even where the length is 0. The addresses of from, out, place
+    and list are aligned, as those of size_t are.
 
 Beyond these rules nothing is asked: the library answers any values and any lengths.
 
@@ -168,7 +169,7 @@ libmve.a is one object for x86-64 and the System V ABI. It needs no operating sy
 undefined below. Every function has a section of its own, so that the linker's --gc-sections leaves out those that are not
 called. All relocations are relative: code and constants may be loaded at any address, as long as they stay together.
 
-    code                        40,719 bytes
+    code                        42,359 bytes
     constants                   1,317 bytes
     memory of its own           0 bytes
     undefined symbols           memset
@@ -182,6 +183,7 @@ called. All relocations are relative: code and constants may be loaded at any ad
     stack of mve_draw_strict    664 bytes
     stack of mve_open           8 bytes
     stack of mve_origin         288 bytes
+    stack of mve_salvage        552 bytes
     stack of mve_shown          8 bytes
     stack of mve_step           744 bytes
 
@@ -201,6 +203,7 @@ A boot stage has one stack for all of this. A whole stage is a least caller in C
     whole stage of mve_draw_strict  872 bytes
     whole stage of mve_open         24 bytes
     whole stage of mve_origin       432 bytes
+    whole stage of mve_salvage      648 bytes
     whole stage of mve_shown        24 bytes
     whole stage of mve_step         904 bytes
 
@@ -337,6 +340,38 @@ the bits which chose it.
 
 The packet is what mve_check takes as data: in a film, what stands behind the 14 bytes of opcode 11. Of front and back only
 the lengths are read.
+
+WHAT IS LEFT OF A SCRATCHED FILM
+
+mve_salvage walks over a film chunk by chunk and writes what is left of it to the room, as a new film:
+
+    the header;
+    each chunk that has no opcode refused by 3, 4 or 5: the same bytes in the same order. An empty chunk is kept, too;
+    unless the last kept chunk has opcode 00, a chunk that has nothing else: 04 00 05 00 00 00 00 00.
+
+Of an opcode, 3, 4 and 5 are tested as a step tests them, and 03, 08 and 09 whatever the stream. 11 needs 14 bytes. Of 0C
+and 0D, 5 means that the content does not fill the body exactly. Nothing else is tested, so the new film may still be refused
+where it is played: for a packet that does not fit, for instance.
+
+The list gets MVE_LOSS_NUMBERS numbers for each chunk left out, in the order of the film:
+
+    the position of its head in the film
+    its length, as the head has it, without the head
+    the refusal first met in it: 3, 4 or 5
+
+The answer tells how the walk stopped, apart from the list:
+
+    MVE_STOP_FILM_END     at the end of the film
+    MVE_STOP_BEHIND_END   behind a kept chunk with opcode 00. A 00 in a chunk left out does not stop the walk.
+    MVE_STOP_PAST_END     where a chunk or its head passes the end of the film (refusal 2). All from there on is not kept.
+
+It counts the bytes of the header, of the chunks kept and of the chunks left out, both with their heads, and of the rest that
+was not walked. These four are counted by the walk, and it is proved that they add up to the length of the film.
+
+A room of film_length + 8 bytes is always enough, and so is a list of 3 * (film_length / 5) numbers, since a chunk left out
+has five bytes or more. Where room or list is too short, nothing is written. The film is walked twice, once to measure and
+once to write. The new film saved again is kept whole, with nothing left out: that is proved, too. A call that is stopped in
+the middle leaves any part of both written; call it anew.
 */
 
 #ifndef MVE_H
@@ -351,7 +386,7 @@ extern "C" {
 
 /* The version of this interface. It changes with every change of the calls, of the structs, of the names, of the packets
    that are accepted and of the pictures that they give. CHANGELOG.md says what changed in each. */
-#define MVE_VERSION 11
+#define MVE_VERSION 12
 
 /* The bytes of the palette: 256 entries of red, green and blue. */
 #define MVE_PALETTE_BYTES 768
@@ -375,8 +410,8 @@ extern "C" {
 /* A stream number that no film has: all sound is passed over. So it is with every larger number. */
 #define MVE_NO_STREAM 16
 
-/* How many numbers a state and an answer about a film have. */
-enum { MVE_STATE_NUMBERS = 17, MVE_STEPPED_NUMBERS = 25 };
+/* How many numbers a state and an answer about a film have, and the list of mve_salvage for each chunk left out. */
+enum { MVE_STATE_NUMBERS = 17, MVE_STEPPED_NUMBERS = 25, MVE_LOSS_NUMBERS = 3 };
 
 /* The forms of a step: how many bytes a packet may leave over. Any other number means the strict form, too. */
 enum mve_form {
@@ -404,13 +439,14 @@ enum mve_kind {
        mve_check, mve_check_strict     6, 10, the blocks, 15
        mve_draw, mve_draw_strict       6, 8, 10, 11, the blocks, 15
        mve_origin                      6, 8, 10, the blocks, 15, 22
+       mve_salvage                     1, 19
 
    Of several blocks with a fault, the one with the lowest number is given, with its first fault in the order 12, 13, 14. */
 enum mve_refusal {
     MVE_ERROR_STATE = 16,        /* from is no state (MEMORY), or one with position, chunk end, map, front, size or sound
                                     format out of bounds */
     MVE_ERROR_LENT_LENGTH = 8,   /* palette not 768 bytes, or a picture shorter than the frame */
-    MVE_ERROR_HEADER = 1,        /* film header wrong or short (mve_open and mve_begin alone) */
+    MVE_ERROR_HEADER = 1,        /* film header wrong or short (mve_open, mve_begin and mve_salvage alone) */
     MVE_ERROR_CHUNK = 2,         /* a chunk or its head passes the end of the film */
     MVE_ERROR_OPCODE = 3,        /* an opcode or its head passes its chunk, or bytes follow 00 or 01 */
     MVE_ERROR_TYPE = 4,          /* opcode type or version not taken */
@@ -427,7 +463,7 @@ enum mve_refusal {
     MVE_ERROR_SOUND_FORMAT = 17, /* 08 or 09 of the stream before a 03, or a 03 both 8-bit and compressed */
     MVE_ERROR_SOUND_LENGTH = 18, /* data not as long as the count of samples says, a count that is odd in stereo, or
                                     below the channels in the first compressed 08 */
-    MVE_ERROR_ROOM = 19,         /* room too small for the samples */
+    MVE_ERROR_ROOM = 19,         /* room too small for the samples; of mve_salvage, for the new film or the list */
     MVE_ERROR_NO_SIZE = 21,      /* the film ends without a frame size (mve_begin alone) */
     MVE_ERROR_POSITION = 22      /* a position outside the picture (mve_origin alone) */
 };
@@ -453,7 +489,7 @@ static inline const char *mve_refusal_text(size_t number) {
     case MVE_ERROR_STATE: return "the state is one that no film gives";
     case MVE_ERROR_SOUND_FORMAT: return "sound comes before its format, or a format is both 8-bit and compressed";
     case MVE_ERROR_SOUND_LENGTH: return "the sound's data or its count of samples has a wrong length";
-    case MVE_ERROR_ROOM: return "the room is too small for the samples";
+    case MVE_ERROR_ROOM: return "a room is too small for what is to be written there";
     case MVE_ERROR_NO_SIZE: return "the film ends without a frame size";
     case MVE_ERROR_POSITION: return "the position lies outside the picture";
     default: return "not a number of refusal";
@@ -555,6 +591,27 @@ struct mve_traced {
     size_t y;
 };
 
+/* How the walk of mve_salvage stopped. */
+enum mve_stop {
+    MVE_STOP_FILM_END = 0,   /* at the end of the film */
+    MVE_STOP_BEHIND_END = 1, /* behind a kept chunk with opcode 00 */
+    MVE_STOP_PAST_END = 2    /* where a chunk or its head passes the end of the film */
+};
+
+/* What is left of a scratched film. number: of a refusal, and all else is 0 then; else 0. bytes: how many the new film has, at
+   the room's front. left_out: how many chunks are in the list. header, kept, lost and rest are bytes of the film and add up to
+   its length. */
+struct mve_salvaged {
+    size_t number;
+    size_t bytes;
+    size_t left_out;
+    size_t stop;   /* one of enum mve_stop */
+    size_t header; /* 26 */
+    size_t kept;   /* of the chunks kept, with their heads */
+    size_t lost;   /* of the chunks left out, with their heads */
+    size_t rest;   /* not walked */
+};
+
 /* The first state of a film, for this stream of its sound: MVE_TAKEN, or MVE_REFUSED by MVE_ERROR_HEADER with a state of
    zeros. Reads the film alone. out_numbers is MVE_STEPPED_NUMBERS, here and below; MEMORY says what other counts get. */
 size_t mve_open(const uint8_t *film, size_t film_length, size_t stream, struct mve_stepped *out, size_t out_numbers);
@@ -613,6 +670,12 @@ struct mve_traced mve_origin(size_t columns, size_t rows, const uint8_t *map, si
                              const uint8_t *data, size_t data_length, const uint8_t *front,
                              size_t front_length, const uint8_t *back, size_t back_length, size_t x,
                              size_t y);
+
+/* Writes what is left of a scratched film to the room, and MVE_LOSS_NUMBERS numbers for each chunk left out to the list
+   (WHAT IS LEFT OF A SCRATCHED FILM). Refused by 1 for the header, then by 19 where the room or the list is too short; both
+   are then as they were. What lies in them behind what is written stays. */
+struct mve_salvaged mve_salvage(const uint8_t *film, size_t film_length, uint8_t *room, size_t room_length,
+                                size_t *list, size_t list_numbers);
 
 #ifdef __cplusplus
 }

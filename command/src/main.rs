@@ -22,6 +22,7 @@ mod player;
 mod progress;
 mod refusals;
 mod report;
+mod salvage;
 mod sound;
 mod table;
 mod walk;
@@ -34,8 +35,8 @@ use std::io::{self, Write};
 use std::process::ExitCode;
 
 /// All subcommands, in the order of the help.
-const SUBCOMMANDS: [Subcommand; 4] =
-    [info::SUBCOMMAND, play::SUBCOMMAND, why::SUBCOMMAND, blocks::SUBCOMMAND];
+const SUBCOMMANDS: [Subcommand; 5] =
+    [info::SUBCOMMAND, play::SUBCOMMAND, why::SUBCOMMAND, blocks::SUBCOMMAND, salvage::SUBCOMMAND];
 
 /// The version of the command, and that of the library's interface.
 const VERSION: &str =

@@ -20,6 +20,8 @@ pub enum Failure {
     Write(PathBuf, io::Error),
     /// A file that may not be overwritten.
     Exists(PathBuf),
+    /// The film itself, which is never overwritten.
+    IsInput(PathBuf),
     /// A folder in place of a file.
     IsFolder(PathBuf),
     /// A file in place of a folder.
@@ -28,6 +30,8 @@ pub enum Failure {
     HasPictures(PathBuf),
     /// Y4M is not for eyes.
     Terminal,
+    /// A file that is no film, so that there is nothing to save.
+    NoFilm(PathBuf, Refused),
     /// A film that is refused, and what becomes of its pictures.
     Refused(PathBuf, Refused, Kept),
     /// A film that sends too few pictures: so many.
@@ -104,6 +108,12 @@ impl fmt::Display for Failure {
             }
             Failure::Exists(path) => {
                 write!(f, "{}: exists already: give another name, or --force", name(path))
+            }
+            Failure::IsInput(path) => {
+                write!(f, "{}: is the scratched film itself: give another name", name(path))
+            }
+            Failure::NoFilm(path, refused) => {
+                write!(f, "{}: {refused} Nothing is written.", name(path))
             }
             Failure::IsFolder(path) => write!(f, "{}: is a folder: give another name", name(path)),
             Failure::IsFile(path) => write!(f, "{}: is no folder: give another name", name(path)),

@@ -33,7 +33,7 @@ const SENTENCES: [(u8, &str); 21] = [
     (16, "The walk has lost its state, a fault of this program: please report it."),
     (17, "Sound comes before its format, or the format is both 8-bit and compressed."),
     (18, "This sound is not as long as its count of samples says, or the count cannot be."),
-    (19, "The samples have too little memory, a fault of this program: please report it."),
+    (19, "What is written has too little memory, a fault of this program: please report it."),
     (21, "The film ends before it gives the size of its pictures."),
     (22, "The position lies outside the picture."),
 ];

@@ -24,14 +24,15 @@ fn help_and_version() {
         let expected = format!("mve {} (MVE_VERSION {})\n", env!("CARGO_PKG_VERSION"), interface());
         assert_eq!(ran.text(), expected);
     }
-    let all: [(&[&str], &[&str]); 7] = [
-        (&["--help"], &["info", "play", "why", "blocks", "--version"]),
+    let all: [(&[&str], &[&str]); 8] = [
+        (&["--help"], &["info", "play", "why", "blocks", "salvage", "--version"]),
         (&["-h"], &["info", "play"]),
         (&["info", "--help"], &["opcode 02", "rate times its subdivision", "--json", "--strict"]),
         (&["play", "--help"], &["BT.601", "4:4:4", "(v << 2) | (v >> 4)", "--stops", "1/100 s"]),
         (&["help", "play"], &["--partial", "--force", "--sound", "--stream", "--from"]),
         (&["help", "why"], &["<FILM> <PICTURE> <X> <Y>", "ORIGIN", "counted from 0"]),
         (&["help", "blocks"], &["OUT.png", "--force", "  E  one colour"]),
+        (&["help", "salvage"], &["SAVED.mve", "--json", "--force", "is never overwritten"]),
     ];
     for (words, expected) in all {
         let ran = mve(&folder, words);
@@ -48,7 +49,7 @@ fn help_and_version() {
 #[test]
 fn wrong_use() {
     let folder = with_film("wrong", &demo::beginning(2).bytes());
-    let cases: [(&[&str], &str); 18] = [
+    let cases: [(&[&str], &str); 20] = [
         (&[], "Usage: mve <COMMAND>"),
         (&["list"], "'list' wasn't recognized"),
         (&["info"], "<FILM>"),
@@ -70,6 +71,8 @@ fn wrong_use() {
         (&["play", "film.mve", "-o", "x.gif", "--pictures", "0"], "give a number, 1 or more"),
         (&["play", "film.mve", "-o", "x.gif", "--from", "-1"], "'-1'"),
         (&["play", "film.mve", "-o", "x.gif", "--stream", "16"], "16 is not in 0..=15"),
+        (&["salvage", "film.mve"], "--output <SAVED.mve>"),
+        (&["salvage", "-o", "x.mve"], "<SCRATCHED.mve>"),
     ];
     for (words, message) in cases {
         let ran = mve(&folder, words);

@@ -7,6 +7,8 @@ use mve_answers::answered;
 use mve_answers::of_check;
 use mve_answers::of_trace;
 use mve_answers::refused;
+use mve_salvages::MveSalvaged;
+use mve_salvages::of_salvaged;
 use mve_states::is_state;
 use mve_states::state_of;
 use mve_steps::put_begun;
@@ -23,8 +25,10 @@ ghost use Rattle.stores.specs.Stores.{memory};
 ghost use Rattle.draw.specs.Call.{within, request, pictures, leaves, report, said};
 ghost use Rattle.origin.specs.Trace.{traceOf};
 ghost use Rattle.film.specs.Film.{lent};
+ghost use Rattle.salvage.specs.Salvage.{answerOf, bytesAfter, numbersAfter};
 ghost use Rattle.mve_answers.specs.Answer.{ofFound, ofReport};
 ghost use Rattle.mve_answers.specs.Trace.{ofTrace};
+ghost use Rattle.mve_salvages.specs.Salvages.{ofSalvage};
 ghost use Rattle.exports.specs.Calls.{exit, mveOpen, mveStep, mveBegin, mveShown};
 
 // Whether a packet is accepted for a picture of columns by rows blocks.
@@ -199,4 +203,14 @@ pub extern "C" fn mve_origin(
     ensures { λ r. ⌜ r ≡ ofTrace (traceOf columns rows (now (map .entry)) (now («data» .entry)) (length (now (front .entry))) (length (now (back .entry))) x y) ⌝ }
 {
     of_trace(origin::trace(columns, rows, map, data, front, back, x, y))
+}
+
+// What is left of a scratched film: the new film to the room, and three numbers for every chunk left out to the list. A refusal leaves both as they were.
+#[no_mangle]
+pub extern "C" fn mve_salvage(film: &[u8], room: &mut [u8], list: &mut [usize]) -> MveSalvaged
+    ensures { λ r. ⌜ r ≡ ofSalvage (answerOf (now (film .entry)) (length (now (room .entry))) (length (now (list .entry)))) ⌝ }
+    ensures { λ _. ⌜ now (room .exit) ≡ bytesAfter (now (film .entry)) (now (room .entry)) (length (now (list .entry))) ⌝ }
+    ensures { λ _. ⌜ now (list .exit) ≡ numbersAfter (now (film .entry)) (length (now (room .entry))) (now (list .entry)) ⌝ }
+{
+    of_salvaged(salvage::salvage(film, room, list))
 }

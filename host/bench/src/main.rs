@@ -1,6 +1,7 @@
 //! Times of the proved drawing call beside libavcodec's decoder, the second decoder and a copy of
 //! the picture, all on the same frames, whose pictures are compared; and of the film step on packets
-//! of sound beside the same, with every sample compared; and of the film step on palettes.
+//! of sound beside the same, with every sample compared; of the film step on palettes; and of saving what
+//! is left of scratched films beside a copy of them.
 
 mod allowance;
 mod blocks;
@@ -14,6 +15,7 @@ mod libav;
 mod measure;
 mod program;
 mod report;
+mod salvages;
 mod sound;
 mod table;
 
@@ -24,6 +26,7 @@ use hearing::Hearing;
 use kind::{frames, Kind, KINDS, MIX, PRIMERS, SAME};
 use measure::Bench;
 use program::{programs, Program};
+use salvages::Salvages;
 use std::env;
 use std::process::ExitCode;
 
@@ -106,24 +109,27 @@ struct Run {
     series: Vec<Series>,
     hearings: Vec<Hearing>,
     colours: Vec<Colours>,
+    salvages: Vec<Salvages>,
 }
 
 impl Run {
     /// So many rounds, each of everything in turn: a slow time of the machine meets all alike.
-    fn new(seed: u64, rounds: usize) -> Result<Run, String> {
+    fn new(seed: u64, rounds: usize, is_timed: bool) -> Result<Run, String> {
         let benches: Result<Vec<_>, _> =
             KINDS.map(|kind| Bench::new(kind, seed)).into_iter().collect();
         let cuts: Result<Vec<_>, _> =
             [SAME, MIX].map(|kind| Cuts::new(kind, seed)).into_iter().collect();
         let (benches, cuts) = (benches?, cuts?);
         let (series, hearings) = (Series::all(seed)?, Hearing::all(seed)?);
-        let mut run = Run { benches, cuts, series, hearings, colours: Colours::all(seed)? };
+        let (colours, salvages) = (Colours::all(seed)?, Salvages::all(seed, is_timed)?);
+        let mut run = Run { benches, cuts, series, hearings, colours, salvages };
         for round in 0..rounds {
             run.benches.iter_mut().try_for_each(|bench| bench.round(round))?;
             run.cuts.iter_mut().try_for_each(|cuts| cuts.round(round))?;
             run.series.iter_mut().for_each(Series::round);
             run.hearings.iter_mut().try_for_each(|hearing| hearing.round(round))?;
             run.colours.iter_mut().try_for_each(|colours| colours.round(round))?;
+            run.salvages.iter_mut().try_for_each(|salvages| salvages.round(round))?;
         }
         Ok(run)
     }
@@ -131,7 +137,8 @@ impl Run {
 
 /// Compares the pictures of everything that is measured, and the sound.
 fn quick(seed: u64, rounds: usize) -> Result<(), String> {
-    let Run { benches, cuts, series, hearings: _, colours } = Run::new(seed, rounds)?;
+    let Run { benches, cuts, series, hearings: _, colours, salvages } =
+        Run::new(seed, rounds, false)?;
     let (kinds, lists, sizes) = (benches.len(), cuts.len() * cuts[0].pieces.len(), series.len());
     println!(
         "bench: seed {seed}: {kinds} kinds of frames, {lists} lists of calls, {sizes} sizes: \
@@ -139,6 +146,7 @@ fn quick(seed: u64, rounds: usize) -> Result<(), String> {
     );
     let opcodes: Vec<&str> = colours.iter().map(|colours| colours.name).collect();
     println!("bench: the palettes of {} are those of the second decoder", opcodes.join(", "));
+    println!("bench: what is left of {} scratched films is the second program's", salvages.len());
     match libav::version() {
         Ok(version) => println!("bench: libavcodec {version} draws the same of every kind"),
         Err(why) => println!("bench: not compared with libavcodec: {why}"),
@@ -157,7 +165,7 @@ fn quick(seed: u64, rounds: usize) -> Result<(), String> {
 
 /// Measures everything and prints it.
 fn tables(markdown: bool, seed: u64, rounds: usize) -> Result<(), String> {
-    let Run { benches, cuts, series, hearings, colours } = Run::new(seed, rounds)?;
+    let Run { benches, cuts, series, hearings, colours, salvages } = Run::new(seed, rounds, true)?;
     let measured: Vec<_> = benches.iter().map(Bench::measured).collect();
     let pieces = cuts.into_iter().flat_map(|cuts| cuts.pieces).collect::<Vec<_>>();
     let points: Vec<_> = series.iter().map(Series::point).collect();
@@ -169,6 +177,7 @@ fn tables(markdown: bool, seed: u64, rounds: usize) -> Result<(), String> {
         ("Nanoseconds a pixel", report::kinds(&measured).text(markdown)),
         ("Nanoseconds a sample", report::sounds(&hearings).text(markdown)),
         ("Nanoseconds a store of a palette", report::palettes(&colours).text(markdown)),
+        ("Saving scratched films", report::salvages(&salvages).text(markdown)),
         ("Targets", format!("The project's targets:\n\n{targets}")),
         ("By the stores that a call is allowed", report::allowances(&pieces).text(markdown)),
         ("By the number of blocks", format!("{blocks}\n\n{}", report::line(&points, line))),

@@ -13,6 +13,8 @@ pub const CHECK: &str = "check";
 pub const DRAW: &str = "draw";
 /// The film step of the proved library, which takes a packet of sound.
 pub const STEP: &str = "step";
+/// The call of the proved library that saves what is left of a film.
+pub const SALVAGE: &str = "salvage";
 /// libavcodec's decoder.
 pub const LIBAV: &str = "libavcodec";
 /// The second decoder.

@@ -8,6 +8,7 @@ use crate::kind::MIX;
 use crate::libav;
 use crate::measure::Measured;
 use crate::program::{CHECK, DRAW, LIBAV, MEMCPY, STEP};
+use crate::salvages::Salvages;
 use crate::table::{number, Table};
 use maker::Size;
 use std::fs;
@@ -62,6 +63,29 @@ pub fn palettes(colours: &[Colours]) -> Table {
         let mut row = vec![colours.name.to_owned(), colours.stores().to_string()];
         row.extend(colours.measured().map(|(_, time)| number(time, 3)));
         table.row(row);
+    }
+    table
+}
+
+/// Megabytes a second of saving a film and of copying it, and the time of a byte.
+pub fn salvages(salvages: &[Salvages]) -> Table {
+    let [(copy, _), (save, _)] = salvages[0].measured();
+    let rates = [copy, save].map(|name| format!("{name} MB/s"));
+    let heading = ["chunks", "bytes", "left out"].map(str::to_owned).into_iter().chain(rates);
+    let more = ["ns a byte".to_owned(), format!("{save}/{copy}")];
+    let mut table = Table::new(heading.chain(more).collect());
+    for film in salvages {
+        let [(_, copied), (_, saved)] = film.measured();
+        let bytes = film.bytes() as f64;
+        table.row(vec![
+            film.chunks.name().to_owned(),
+            film.bytes().to_string(),
+            film.left_out().to_string(),
+            number(bytes / copied * 1e3, 0),
+            number(bytes / saved * 1e3, 0),
+            number(saved / bytes, 3),
+            number(saved / copied, 2),
+        ]);
     }
     table
 }

@@ -1,10 +1,12 @@
 //! A long comparison of the proved library with the second decoder, of its strict form with its default
 //! form, and of its opening call with separate calls, run by hand:
-//! `compare SEED COUNT [packets|lists|films|sounds|openings|cuts|numbers]`. The cases of `numbers` are states
-//! and answers as numbers of any count.
+//! `compare SEED COUNT [packets|lists|films|sounds|openings|cuts|numbers|salvages]`. The cases of `numbers` are
+//! states and answers as numbers of any count, those of `salvages` films that are saved.
 
 use compare::numbers::{self, Reached};
+use compare::salvages;
 use compare::{Comparison, Found, FromDefault, Kind, Proved, Second, Separate};
+use std::collections::BTreeMap;
 use std::env;
 use std::process::ExitCode;
 use std::time::{Duration, Instant};
@@ -14,11 +16,16 @@ const PROGRESS: Duration = Duration::from_secs(10);
 
 fn main() -> ExitCode {
     let arguments: Vec<String> = env::args().skip(1).collect();
-    if let Some((seed, count)) = parsed_numbers(&arguments) {
+    if let Some((seed, count)) = parsed_as("numbers", &arguments) {
         return by_numbers(seed, count);
     }
+    if let Some((seed, count)) = parsed_as("salvages", &arguments) {
+        return by_salvages(seed, count);
+    }
     let Some((seed, count, kinds)) = parsed(&arguments) else {
-        eprintln!("usage: compare SEED COUNT [packets|lists|films|sounds|openings|cuts|numbers]");
+        eprintln!(
+            "usage: compare SEED COUNT [packets|lists|films|sounds|openings|cuts|numbers|salvages]"
+        );
         return ExitCode::from(2);
     };
     match compare(seed, count, &kinds) {
@@ -34,12 +41,34 @@ fn main() -> ExitCode {
     }
 }
 
-/// Seed and cases, where the kind is that of numbers.
-fn parsed_numbers(arguments: &[String]) -> Option<(u64, u64)> {
+/// Seed and cases, where the kind is this one.
+fn parsed_as(kind: &str, arguments: &[String]) -> Option<(u64, u64)> {
     match arguments {
-        [seed, count, name] if name == "numbers" => Some((seed.parse().ok()?, count.parse().ok()?)),
+        [seed, count, name] if name == kind => Some((seed.parse().ok()?, count.parse().ok()?)),
         _ => None,
     }
+}
+
+/// Saves so many films, and prints how often each answer was reached. A question's number tells its film,
+/// so each seed has numbers of its own.
+fn by_salvages(seed: u64, count: u64) -> ExitCode {
+    let mut times = BTreeMap::new();
+    for number in 0..count {
+        let question = salvages::question((seed << 32) + number);
+        match salvages::compare(&Proved, &Second, &question) {
+            Err(differs) => {
+                println!("difference in salvages, seed {seed}, film {number}: {differs:?}");
+                println!("again: compare {seed} {} salvages", number + 1);
+                return ExitCode::FAILURE;
+            }
+            Ok(answers) => salvages::reached(&question, &answers)
+                .into_iter()
+                .for_each(|event| *times.entry(event).or_insert(0_u64) += 1),
+        }
+    }
+    times.iter().for_each(|(event, times)| println!("{times:>9} {event}"));
+    println!("seed {seed}: {count} films: no difference");
+    ExitCode::SUCCESS
 }
 
 fn by_numbers(seed: u64, count: u64) -> ExitCode {

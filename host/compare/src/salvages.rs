@@ -2,7 +2,7 @@
 //! and numbers, in rooms that are long enough and too short; the sums add up, and what is written is kept
 //! whole where it is saved again.
 
-use crate::decoder::Second;
+use crate::decoder::{Proved, Second};
 use maker::{film, film_damage, scratches, sound_damage, Seeded};
 use reference::salvage::{self, Stop};
 use reference::Refusal;
@@ -16,6 +16,8 @@ pub struct Account {
     pub left_out: usize,
     /// How the walk stopped.
     pub stop: Stop,
+    /// Bytes of the header.
+    pub header: usize,
     /// Bytes of the chunks kept.
     pub kept: usize,
     /// Bytes of the chunks left out.
@@ -31,6 +33,25 @@ pub trait Saver {
         -> Result<Account, Refusal>;
 }
 
+impl Saver for Proved {
+    fn salvage(
+        &self,
+        film: &[u8],
+        room: &mut [u8],
+        list: &mut [usize],
+    ) -> Result<Account, Refusal> {
+        let saved = mve::salvage(film, room, list)
+            .map_err(|refusal| Refusal { number: refusal.number(), block: refusal.block })?;
+        let mve::Salvaged { bytes, left_out, header, kept, lost, rest, .. } = saved;
+        let stop = match saved.stop {
+            mve::Stop::FilmEnd => Stop::FilmEnd,
+            mve::Stop::BehindEnd => Stop::BehindEnd,
+            mve::Stop::PastEnd => Stop::PastEnd,
+        };
+        Ok(Account { bytes, left_out, stop, header, kept, lost, rest })
+    }
+}
+
 impl Saver for Second {
     fn salvage(
         &self,
@@ -43,7 +64,8 @@ impl Saver for Second {
         room[..bytes].copy_from_slice(&saved.film);
         list[..numbers.len()].copy_from_slice(&numbers);
         let salvage::Salvaged { left_out, stop, kept, lost, rest, .. } = saved;
-        Ok(Account { bytes, left_out: left_out.len(), stop, kept, lost, rest })
+        let header = film::HEADER.len();
+        Ok(Account { bytes, left_out: left_out.len(), stop, header, kept, lost, rest })
     }
 }
 
@@ -121,7 +143,7 @@ pub fn compare(
         }
         let (answer, room, _) = one;
         if let Ok(account) = answer {
-            let sum = film::HEADER.len() + account.kept + account.lost + account.rest;
+            let sum = account.header + account.kept + account.lost + account.rest;
             if sum != film.len() {
                 return differs([format!("the sums are {sum}"), format!("of {}", film.len())]);
             }
@@ -135,4 +157,28 @@ pub fn compare(
         Ok(answer)
     });
     answers.collect()
+}
+
+/// What a question reaches, each by a name: how the walk stopped and how many chunks are left out (3: or
+/// more), each refusal of a chunk that is listed, and the refusals, 19 with what is too short.
+pub fn reached(question: &Question, answers: &[Result<Account, Refusal>]) -> Vec<String> {
+    let needed = salvage::salvage(&question.film, usize::MAX, usize::MAX).ok();
+    let answered = question.rooms.iter().zip(answers).map(|(&(bytes, numbers), answer)| {
+        match (answer, &needed) {
+            (Ok(account), _) => format!("{:?}, {} left out", account.stop, account.left_out.min(3)),
+            (Err(refusal), Some(needed)) => {
+                let short = (bytes < needed.film.len(), numbers < needed.numbers().len());
+                let short = match short {
+                    (true, false) => "film",
+                    (false, true) => "list",
+                    (true, true) => "film and list",
+                    (false, false) => "nothing",
+                };
+                format!("refused {}: {short} too short", refusal.number)
+            }
+            (Err(refusal), None) => format!("refused {}", refusal.number),
+        }
+    });
+    let losses = needed.iter().flat_map(|needed| &needed.left_out);
+    answered.chain(losses.map(|loss| format!("listed {}", loss.number))).collect()
 }

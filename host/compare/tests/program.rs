@@ -44,6 +44,10 @@ fn runs_one_kind() {
     let text = String::from_utf8(output.stdout).expect("text");
     assert!(text.starts_with("seed 7: ") && text.ends_with(": no difference\n"), "{text}");
     assert!(text.contains(" step with a short answer"), "{text}");
+    let output = run(&["7", "60", "salvages"]);
+    let text = String::from_utf8(output.stdout).expect("text");
+    assert!(text.ends_with("\nseed 7: 60 films: no difference\n"), "{text}");
+    assert!(text.contains(" refused 19: list too short\n"), "{text}");
 }
 
 #[test]

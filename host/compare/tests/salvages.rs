@@ -1,8 +1,10 @@
-//! What is left of scratched films (02, W13): every refusal and every way to stop is reached, and
-//! planted faults are found.
+//! What is left of scratched films (02, W13): the proved library gives what the second program gives;
+//! every refusal and every way to stop is reached, and planted faults are found.
 
-use compare::salvages::{compare, question, Account, Saver};
-use compare::Second;
+use compare::salvages::{compare, question, reached, Account, Question, Saver};
+use compare::{Proved, Second};
+use maker::scratches;
+use maker::Seeded;
 use reference::salvage::{salvage, Stop, END_CHUNK, NUMBERS};
 use reference::Refusal;
 use std::collections::BTreeMap;
@@ -13,30 +15,67 @@ const OFTEN: usize = 50;
 
 type Answer = Result<Account, Refusal>;
 
+/// Each way to stop with no chunk left out, one, two and more; each refusal of a chunk in the list; 1, and 19
+/// by the film, by the list and by both. Nothing else is answered.
 #[test]
 fn every_answer_is_reached() {
-    let mut reached = BTreeMap::new();
+    let mut times = BTreeMap::new();
     for number in 0..QUESTIONS {
-        let answers = compare(&Second, &Second, &question(number));
+        let question = question(number);
+        let answers = compare(&Proved, &Second, &question);
         let answers = answers.unwrap_or_else(|differs| panic!("question {number}: {differs:?}"));
-        for answer in answers {
-            let event = match answer {
-                Err(refusal) => format!("refused {}", refusal.number),
-                Ok(Account { stop, left_out, .. }) => format!("{stop:?}, {}", left_out.min(3)),
-            };
-            *reached.entry(event).or_insert(0) += 1;
+        for event in reached(&question, &answers) {
+            *times.entry(event).or_insert(0) += 1;
         }
     }
-    println!("{reached:#?}");
+    println!("{times:#?}");
     let stops = ["FilmEnd", "BehindEnd", "PastEnd"];
-    let saved = stops.into_iter().flat_map(|stop| (0..4).map(move |n| format!("{stop}, {n}")));
-    let wanted: Vec<String> =
-        saved.chain([1, 19].map(|number| format!("refused {number}"))).collect();
+    let stops = stops.iter().flat_map(|stop| (0..4).map(move |n| format!("{stop}, {n} left out")));
+    let listed = [3, 4, 5].map(|number| format!("listed {number}"));
+    let short =
+        ["film", "list", "film and list"].map(|what| format!("refused 19: {what} too short"));
+    let refused = [String::from("refused 1")].into_iter().chain(short);
+    let wanted: Vec<String> = stops.chain(listed).chain(refused).collect();
     for event in &wanted {
-        let times = reached.get(event).copied().unwrap_or(0);
+        let times = times.get(event).copied().unwrap_or(0);
         assert!(times >= OFTEN, "{event} reached {times} times");
     }
-    assert_eq!(reached.len(), wanted.len(), "something else is answered");
+    assert_eq!(times.len(), wanted.len(), "something else is answered");
+}
+
+/// Scratched films, cut at each byte.
+#[test]
+fn every_cut() {
+    for seed in 0..20 {
+        let film = scratches::make(&mut Seeded::new(seed)).bytes();
+        for end in 0..film.len() {
+            let film = film[..end].to_vec();
+            let question = Question { rooms: vec![(end + 8, end)], film };
+            let answers = compare(&Proved, &Second, &question);
+            assert!(answers.is_ok(), "seed {seed}, {end} bytes: {answers:?}");
+        }
+    }
+}
+
+/// Each byte of a chunk's head and of an opcode's head set to other values.
+#[test]
+fn every_byte_of_a_head() {
+    let film = [
+        &b"Interplay MVE File\x1A\0\x1A\0\0\x01\x33\x11"[..],
+        &[8, 0, 3, 0, 4, 0, 0x07, 0, 1, 2, 3, 4],
+        &[10, 0, 3, 0, 6, 0, 0x09, 0, 0, 0, 1, 0, 4, 0],
+        &[4, 0, 3, 0, 0, 0, 0x00, 0],
+    ]
+    .concat();
+    for at in 0..film.len() {
+        for value in 0..=255 {
+            let mut film = film.clone();
+            film[at] = value;
+            let question = Question { rooms: vec![(film.len() + 8, 9), (film.len(), 0)], film };
+            let answers = compare(&Proved, &Second, &question);
+            assert!(answers.is_ok(), "byte {at} is {value}: {answers:?}");
+        }
+    }
 }
 
 /// A program with a fault.
@@ -129,4 +168,47 @@ fn faults_in_the_walk() {
         let account = Second.salvage(&film[..end], room, list)?;
         Ok(Account { rest: film.len() - end, ..account })
     }));
+}
+
+/// The film with the opcodes of these types made ones that are passed over, whatever their version and
+/// length. The damage behind an opcode that passes its chunk stays.
+fn untested(film: &[u8], kinds: &[u8]) -> Vec<u8> {
+    let word = |at: usize| usize::from(film[at]) + 256 * usize::from(film[at + 1]);
+    let (mut masked, mut head) = (film.to_vec(), 26);
+    while head + 4 <= film.len() && head + 4 + word(head) <= film.len() {
+        let (mut at, end) = (head + 4, head + 4 + word(head));
+        while at + 4 <= end {
+            if kinds.contains(&film[at + 2]) {
+                masked[at + 2] = 0x02;
+            }
+            at += 4 + word(at);
+        }
+        head = end;
+    }
+    masked
+}
+
+/// A program that does not test opcodes of these types.
+fn without_tests(kinds: &'static [u8]) -> impl Fn(&[u8], &mut [u8], &mut [usize]) -> Answer {
+    move |film, room, list| {
+        let masked = untested(film, kinds);
+        let account = Second.salvage(&masked, room, list)?;
+        let (mut from, mut to) = (26, 26); // the bytes of the film itself, chunk by chunk
+        for loss in list[..NUMBERS * account.left_out].chunks(NUMBERS) {
+            room[to..][..loss[0] - from].copy_from_slice(&film[from..loss[0]]);
+            (from, to) = (loss[0] + 4 + loss[1], to + loss[0] - from);
+        }
+        let rest = 26 + account.kept - to;
+        room[to..][..rest].copy_from_slice(&film[from..from + rest]);
+        Ok(account)
+    }
+}
+
+#[test]
+fn faults_in_the_tests() {
+    assert!(!is_found(without_tests(&[]))); // with all tests it is right
+    assert!(!is_found(without_tests(&[0x02]))); // nothing is tested of a type that is passed over
+    for kinds in [&[0x0C][..], &[0x0D], &[0x03], &[0x08], &[0x09], &[0x11], &[0x06]] {
+        assert!(is_found(without_tests(kinds)), "{kinds:02X?}");
+    }
 }

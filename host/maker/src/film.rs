@@ -77,7 +77,8 @@ impl Chunk {
         self.opcodes.iter().map(|opcode| 4 + opcode.body.len()).sum()
     }
 
-    pub(crate) fn bytes(&self) -> Vec<u8> {
+    /// The bytes, with its head.
+    pub fn bytes(&self) -> Vec<u8> {
         let mut body: Vec<u8> = self.opcodes.iter().flat_map(Opcode::bytes).collect();
         body.extend(&self.loose);
         let length = stated(self.stated_length, body.len());

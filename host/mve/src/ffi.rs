@@ -3,13 +3,14 @@
 //! The library is proved to answer every call, to read no byte that is not lent to it, to write
 //! none that is not lent for writing, and to keep nothing after it returns. It asks nothing of the
 //! values. What is left to this module is the C ABI: a slice goes as the address of its first element
-//! and its length; answers about packets come back by value.
+//! and its length; answers about packets and about what is left of a film come back by value.
 
 #![allow(unsafe_code)]
 
 use crate::answer::Answer;
 use crate::form::Form;
 use crate::origin::Numbers as Found;
+use crate::salvage::Numbers as Saved;
 
 unsafe extern "C" {
     fn mve_check(
@@ -122,6 +123,15 @@ unsafe extern "C" {
         x: usize,
         y: usize,
     ) -> Found;
+
+    fn mve_salvage(
+        film: *const u8,
+        film_length: usize,
+        room: *mut u8,
+        room_length: usize,
+        list: *mut usize,
+        list_numbers: usize,
+    ) -> Saved;
 }
 
 pub(crate) fn check(form: Form, columns: usize, rows: usize, map: &[u8], data: &[u8]) -> Answer {
@@ -275,6 +285,22 @@ pub(crate) fn origin(
             back.len(),
             x,
             y,
+        )
+    }
+}
+
+pub(crate) fn salvage(film: &[u8], room: &mut [u8], list: &mut [usize]) -> Saved {
+    // SAFETY: each address and length are those of a slice that lives through the call; that of an
+    // empty slice is not null. Only the room and the list are written; they are borrowed mutably, so
+    // they overlap neither each other nor the film.
+    unsafe {
+        mve_salvage(
+            film.as_ptr(),
+            film.len(),
+            room.as_mut_ptr(),
+            room.len(),
+            list.as_mut_ptr(),
+            list.len(),
         )
     }
 }

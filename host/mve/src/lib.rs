@@ -57,6 +57,8 @@
 //! the [`Rows`] of blocks that the packet touches, so that a display with a slow link need not be sent
 //! the others. [`origin`] tells which byte or pixel gave a pixel its value.
 //!
+//! [`salvage`] saves what is left of a scratched film.
+//!
 //! Many films pad a packet to an even length, so these calls accept one byte left over behind the
 //! blocks' data. [`check_strict`], [`draw_strict`] and [`step`] in [`Form::Strict`] accept none: they are
 //! for those who make films and want every byte accounted for. A player uses the default forms.
@@ -97,6 +99,7 @@ mod packet;
 mod player;
 mod refusal;
 mod rows;
+mod salvage;
 
 pub use begin::{begin, Unbegun};
 pub use film::{is_sent, open, shown, step, Sound, State, Step};
@@ -108,6 +111,7 @@ pub use packet::{ALL_STORES, BLOCK_STORES, PALETTE_STORES};
 pub use player::{Event, Memory, Picture, Player, Samples};
 pub use refusal::{Error, Refusal};
 pub use rows::Rows;
+pub use salvage::{salvage, LeftOut, Salvaged, Stop, LOSS_NUMBERS};
 
 /// The version of the interface that this crate is written for: C's `MVE_VERSION`.
-pub const VERSION: usize = 11;
+pub const VERSION: usize = 12;

@@ -55,7 +55,7 @@ macro_rules! errors {
         /// assert_eq!(Error::Room.number(), 19);
         /// assert_eq!(Error::from_number(19), Some(Error::Room));
         /// assert_eq!(Error::from_number(99), None);
-        /// assert_eq!(Error::Room.to_string(), "the room is too small for the samples");
+        /// assert_eq!(Error::Room.to_string(), "a room is too small for what is to be written there");
         /// ```
         #[derive(Clone, Copy, Debug, PartialEq, Eq, PartialOrd, Ord, Hash)]
         #[non_exhaustive]
@@ -124,8 +124,8 @@ errors! {
     SoundFormat = 17, "sound comes before its format, or a format is both 8-bit and compressed";
     /// Sound whose data is not as long as its count of samples says, or whose count cannot be.
     SoundLength = 18, "the sound's data or its count of samples has a wrong length";
-    /// A room that is too small for the samples.
-    Room = 19, "the room is too small for the samples";
+    /// A room that is too small for the samples, or for what is left of a film or the list of what is not.
+    Room = 19, "a room is too small for what is to be written there";
     /// A film that ends without a frame size. Only [`begin`](crate::begin()) meets it.
     NoSize = 21, "the film ends without a frame size";
     /// A position outside the picture. Only [`origin`](crate::origin()) meets it.

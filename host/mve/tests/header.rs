@@ -2,7 +2,7 @@
 //! and run; and the wrapper's names, constants and texts are those of the header.
 
 use mve::numbers::{kind, STATE_NUMBERS, STEPPED_NUMBERS};
-use mve::{Error, Form, Refusal};
+use mve::{Error, Form, Refusal, LOSS_NUMBERS};
 use std::env;
 use std::fs;
 use std::path::{Path, PathBuf};
@@ -84,6 +84,7 @@ fn enums() {
     for (name, value) in [
         ("MVE_STATE_NUMBERS", STATE_NUMBERS),
         ("MVE_STEPPED_NUMBERS", STEPPED_NUMBERS),
+        ("MVE_LOSS_NUMBERS", LOSS_NUMBERS),
         ("MVE_DEFAULT", Form::Default.number()),
         ("MVE_STRICT", Form::Strict.number()),
         ("MVE_TAKEN", kind::TAKEN),

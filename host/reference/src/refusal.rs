@@ -86,7 +86,7 @@ impl Refusal {
             STATE => "film state cannot be",
             SOUND_FORMAT => "sound before its format, or a format both 8-bit and compressed",
             SOUND_LENGTH => "sound data or sample count of a wrong length",
-            ROOM => "room too small for the samples",
+            ROOM => "room too small for what is to be written there",
             NO_SIZE => "film ends without a frame size",
             POSITION => "position outside the picture",
             _ => "unknown number of refusal",

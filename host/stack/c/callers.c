@@ -8,6 +8,9 @@ uint8_t palette[MVE_PALETTE_BYTES], front[MVE_PICTURE_BYTES], back[MVE_PICTURE_B
 struct mve_stepped answer;
 struct mve_answer verdict;
 struct mve_traced traced;
+struct mve_salvaged salvaged;
+uint8_t new_film[NEW_FILM_BYTES];
+size_t losses[LOSSES * MVE_LOSS_NUMBERS];
 size_t kind, shown;
 
 void call_mve_open(void) {
@@ -47,4 +50,8 @@ void call_mve_draw_strict(void) {
 void call_mve_origin(void) {
     traced = mve_origin(columns, rows, map, map_length, data, data_length, front, sizeof front, back, sizeof back,
                         8 * columns - 1, 8 * rows - 1);
+}
+
+void call_mve_salvage(void) {
+    salvaged = mve_salvage(film, film_length, new_film, sizeof new_film, losses, LOSSES * MVE_LOSS_NUMBERS);
 }

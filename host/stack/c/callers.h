@@ -4,12 +4,18 @@
 
 #include "mve.h"
 
+/* What is left of a film of 16 MiB, and of how many chunks left out there is a list. */
+enum { NEW_FILM_BYTES = (1 << 24) + 8, LOSSES = 1 << 16 };
+
 extern const uint8_t *film, *map, *data;
 extern size_t film_length, map_length, data_length, columns, rows, allowed, place;
 extern uint8_t palette[MVE_PALETTE_BYTES], front[MVE_PICTURE_BYTES], back[MVE_PICTURE_BYTES];
 extern struct mve_stepped answer;
 extern struct mve_answer verdict;
 extern struct mve_traced traced;
+extern struct mve_salvaged salvaged;
+extern uint8_t new_film[NEW_FILM_BYTES];
+extern size_t losses[LOSSES * MVE_LOSS_NUMBERS];
 extern size_t kind, shown;
 
 void call_mve_open(void);
@@ -20,5 +26,6 @@ void call_mve_check_strict(void);
 void call_mve_draw(void);
 void call_mve_draw_strict(void);
 void call_mve_origin(void);
+void call_mve_salvage(void);
 
 #endif

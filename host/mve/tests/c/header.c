@@ -1,7 +1,7 @@
 /* The film of document 01's listing, opened and stepped over through the C header, with a call that leaves a block begun;
    states of any numbers; numbers of any count; a film with sound, in rooms that are too small at first; packets with bytes
-   left over, by the default and the strict forms; the rows that packets touch; and where pixels come from. Exits with 0
-   where every answer is the one that the documents give. */
+   left over, by the default and the strict forms; the rows that packets touch; where pixels come from; and what is left of
+   a scratched film. Exits with 0 where every answer is the one that the documents give. */
 #include "mve.h"
 
 #include <stddef.h>
@@ -475,7 +475,7 @@ static int padded_film(void) {
 /* The constants, from the rules: 256 entries of three bytes; 80 by 60 blocks of 64 pixels; as many blocks of 65 stores; a
    word of samples, two bytes each. */
 static int constants(void) {
-    EXPECT(MVE_VERSION == 11 && MVE_PALETTE_BYTES == 256 * 3 && MVE_PICTURE_BYTES == 80 * 60 * 64);
+    EXPECT(MVE_VERSION == 12 && MVE_PALETTE_BYTES == 256 * 3 && MVE_PICTURE_BYTES == 80 * 60 * 64);
     EXPECT(MVE_BLOCK_STORES == 64 + 1 && MVE_ALL_STORES == 80 * 60 * MVE_BLOCK_STORES);
     EXPECT(MVE_PALETTE_STORES == 2 * 256 * 3);
     EXPECT(MVE_ROOM_BYTES == 2 * 65535 && MVE_NO_STREAM == 16);
@@ -560,7 +560,38 @@ static int origins(void) {
     return 0;
 }
 
+/* An empty chunk, one with an opcode of type 99, one whose 07 is a byte too short, and a head that passes the end. */
+static int salvages(void) {
+    static const uint8_t chunks[] = {0, 0, 2, 0, 4, 0, 3, 0, 0, 0, 0x99, 0, 7, 0, 3, 0, 3, 0, 0x07, 0, 0, 0, 0, 0x40, 0, 0};
+    static const uint8_t left[] = {0, 0, 2, 0, 4, 0, 5, 0, 0, 0, 0, 0};
+    uint8_t scratched[26 + sizeof chunks], room[40];
+    size_t list[2 * MVE_LOSS_NUMBERS + 1], i;
+    const size_t length = sizeof scratched, expected[] = {30, 4, MVE_ERROR_TYPE, 38, 7, MVE_ERROR_BODY_LENGTH, 77};
+    memcpy(scratched, film, 26);
+    memcpy(scratched + 26, chunks, sizeof chunks);
+    memset(room, 0x5a, sizeof room);
+    for (i = 0; i < sizeof list / sizeof *list; i += 1) {
+        list[i] = 77;
+    }
+    struct mve_salvaged s = mve_salvage(scratched, length, room, 37, list, 6);
+    EXPECT(s.number == MVE_ERROR_ROOM && s.bytes == 0 && s.header == 0 && room[0] == 0x5a && list[0] == 77);
+    s = mve_salvage(scratched, length, room, sizeof room, list, 5);
+    EXPECT(s.number == MVE_ERROR_ROOM && room[0] == 0x5a && list[0] == 77);
+    s = mve_salvage(scratched, 25, room, sizeof room, list, 6);
+    EXPECT(s.number == MVE_ERROR_HEADER && room[0] == 0x5a && list[0] == 77);
+    s = mve_salvage(scratched, length, room, sizeof room, list, 6);
+    EXPECT(s.number == 0 && s.bytes == 38 && s.left_out == 2 && s.stop == MVE_STOP_PAST_END);
+    EXPECT(s.header == 26 && s.kept == 4 && s.lost == 19 && s.rest == 3);
+    EXPECT(memcmp(room, film, 26) == 0 && memcmp(room + 26, left, sizeof left) == 0 && room[38] == 0x5a);
+    EXPECT(memcmp(list, expected, sizeof expected) == 0);
+    s = mve_salvage(scratched, 38, room, sizeof room, list, 6);
+    EXPECT(s.number == 0 && s.bytes == 38 && s.left_out == 1 && s.stop == MVE_STOP_FILM_END && s.lost == 8 && s.rest == 0);
+    s = mve_salvage(scratched, 26, room, sizeof room, list, 0);
+    EXPECT(s.number == 0 && s.bytes == 34 && s.stop == MVE_STOP_FILM_END);
+    return 0;
+}
+
 int main(void) {
     return constants() | texts() | pictures() | states() | places() | counts() | sound() | padded_packet() | padded_film() |
-           rows() | origins();
+           rows() | origins() | salvages();
 }
