@@ -169,7 +169,7 @@ libmve.a is one object for x86-64 and the System V ABI. It needs no operating sy
 undefined below. Every function has a section of its own, so that the linker's --gc-sections leaves out those that are not
 called. All relocations are relative: code and constants may be loaded at any address, as long as they stay together.
 
-    code                        42,359 bytes
+    code                        42,294 bytes
     constants                   1,317 bytes
     memory of its own           0 bytes
     undefined symbols           memset

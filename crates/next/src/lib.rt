@@ -49,18 +49,51 @@ fn chunk_end(film: &[u8], c: Cursor) -> Next
     }
 }
 
-// What stands at a cursor. hears: a stream of sound is chosen.
-pub fn standing_at(film: &[u8], c: Cursor, hears: bool) -> Next
+// What stands at a cursor: the work of a reader. hears: a stream of sound is chosen.
+// One value for both branches: after a `return` in the first the compiler built the answer on the stack before it gave it.
+fn next_at(film: &[u8], c: Cursor, hears: bool) -> Next
     requires { ⌜ (c .position ≤ c .«chunk_end») × (c .«chunk_end» ≤ length (now film)) ⌝ }
     ensures { λ r. ⌜ nextAs r ≡ standingAt hears (now (film .entry)) c ⌝ }
 {
     if c.position == c.chunk_end {
-        return chunk_end(film, c);
+        chunk_end(film, c)
+    } else {
+        match opcode_head(film, c) {
+            OpcodeHead::Op(o) => shaped(o, hears),
+            OpcodeHead::BadOp(r) => Next::Refused(r),
+        }
     }
-    match opcode_head(film, c) {
-        OpcodeHead::Op(o) => shaped(o, hears),
-        OpcodeHead::BadOp(r) => Next::Refused(r),
+}
+
+// A film together with the position at which it is read. Every function over it is proved by hand, so each is thin.
+pub struct Reader<'a> {
+    pub film: &'a [u8],
+    pub at: Cursor,
+}
+
+impl<'a> Reader<'a> {
+    fn new(film: &'a [u8], at: Cursor) -> Reader<'a>
+        ensures { λ r. ⌜ (r .film ≡ film .entry) × (r .at ≡ at) ⌝ }
+    {
+        Reader { film, at }
     }
+
+    // What stands at its position.
+    fn standing(self, hears: bool) -> Next
+        requires { ⌜ (self .at .position ≤ self .at .«chunk_end») × (self .at .«chunk_end» ≤ length (now (self .film))) ⌝ }
+        ensures { λ r. ⌜ nextAs r ≡ standingAt hears (now (self .entry .film)) (self .entry .at) ⌝ }
+    {
+        next_at(self.film, self.at, hears)
+    }
+}
+
+// What stands at a cursor, through a reader. All that read a film call this: its parameters are plain, so they need no
+// proof by hand.
+pub fn standing_at(film: &[u8], c: Cursor, hears: bool) -> Next
+    requires { ⌜ (c .position ≤ c .«chunk_end») × (c .«chunk_end» ≤ length (now film)) ⌝ }
+    ensures { λ r. ⌜ nextAs r ≡ standingAt hears (now (film .entry)) c ⌝ }
+{
+    Reader::new(film, c).standing(hears)
 }
 
 fn next_with_lent(film: &[u8], st: State, palette: usize, a: usize, b: usize) -> Next
