@@ -5,7 +5,8 @@
 Writes each picture that the film sends to FOLDER, as 000000.ppm, 000001.ppm and so on, and the sound of stream STREAM
 (0 to 15, 0 if it is not given; above 15 none) as 000000.wav; where format or rate changes 000001.wav begins, and so on.
 The heading of each picture says, in a line like "# rows 3 to 5" or "# rows none", which rows of blocks were touched
-since this one of the two pictures was last sent: all that a display with a copy of each needs to be sent.
+since this one of the two pictures was last sent: all that a display with a copy of each needs to be sent. A second line,
+like "# at 400000 us", says when to show it: so many microseconds after the film's begin, by its timer (opcode 0x02).
 FOLDER must be there and hold no name that ends in .ppm or .wav. Every step is allowed ALLOWANCE stores; when they do
 not suffice, the player is stopped as a watchdog would stop it, and goes on. A drawing goes on from its place. A palette
 begins again with its first store; so a step that came no further is allowed twice as many stores when it is taken
@@ -24,6 +25,7 @@ failed, 2 on bad arguments. host/play is the same player in Rust.
 #include <ctype.h>
 #include <dirent.h>
 #include <errno.h>
+#include <inttypes.h>
 #include <stdatomic.h>
 #include <stdbool.h>
 #include <stdio.h>
@@ -33,6 +35,7 @@ failed, 2 on bad arguments. host/play is the same player in Rust.
 
 enum {
     LEAST_EVERY = 2, /* a player that is stopped at every opcode of sound never gets on */
+    USUAL = 66728,   /* microseconds that a picture stays where the film has no timer yet */
     FILE_NAME = 32,  /* room for a slash and the name of a picture or a sound file */
     WAV_HEADER = 44
 };
@@ -54,6 +57,12 @@ struct rows {
     size_t last;
 };
 
+/* When to show a picture, in microseconds: the time of the next one, and how long it stays. */
+struct clock {
+    uint64_t now;
+    uint64_t stays;
+};
+
 /* Where a player is: what it must not lose at a stop. The answer of a step has the state at its end. The rows of each
    of the two pictures, a and b, are those touched since it was last sent, which a display's copy of it lacks: a stop may
    fall between drawing and sending. */
@@ -61,6 +70,7 @@ struct saved {
     struct mve_stepped step;
     struct sound sound;
     struct rows unsent[2];
+    struct clock clock;
 };
 
 /* All that a stop leaves, beside the files. In a real player it lies in memory that outlives the stop. */
@@ -206,11 +216,6 @@ static bool read_film(const char *name, struct film *film) {
     return read;
 }
 
-/* A component of the palette, 0 to 63, as the nearest of 0 to 255. */
-static int scaled(uint8_t component) {
-    return (component * 255 + 31) / 63;
-}
-
 /* Joins the rows that a packet touches to those of the picture that it was drawn on, which was not the front. */
 static void join_rows(struct saved *next) {
     const struct mve_stepped *drawn = &next->step;
@@ -227,7 +232,8 @@ static void join_rows(struct saved *next) {
     rows->touched = 1;
 }
 
-static bool write_ppm(FILE *file, const struct kept *kept, const struct mve_state *state, struct rows rows) {
+static bool write_ppm(FILE *file, const struct kept *kept, const struct mve_state *state, struct rows rows,
+                      uint64_t at) {
     const uint8_t *front = state->front == 0 ? kept->a : kept->b;
     size_t shown = mve_shown(state, MVE_STATE_NUMBERS, kept->a, sizeof kept->a, kept->b, sizeof kept->b);
     if (rows.touched != 0) {
@@ -235,18 +241,18 @@ static bool write_ppm(FILE *file, const struct kept *kept, const struct mve_stat
     } else {
         fprintf(file, "P6\n# rows none\n");
     }
-    fprintf(file, "%zu %zu\n255\n", 8 * state->columns, 8 * state->rows);
+    fprintf(file, "# at %" PRIu64 " us\n%zu %zu\n255\n", at, 8 * state->columns, 8 * state->rows);
     for (size_t i = 0; i < shown; i++) {
         const uint8_t *colour = &kept->palette[3 * front[i]];
-        putc(scaled(colour[0]), file);
-        putc(scaled(colour[1]), file);
-        putc(scaled(colour[2]), file);
+        putc(mve_widened(colour[0]), file);
+        putc(mve_widened(colour[1]), file);
+        putc(mve_widened(colour[2]), file);
     }
     return ferror(file) == 0;
 }
 
 /* Writes the shown picture under the first free number, with the rows that were touched since it was last sent; then
-   none are. It gets its number when it is written in full, so that a stop leaves no half picture that counts. */
+   none are. The next one is to be shown when this one has stayed for its time. It gets its number when it is written in full, so that a stop leaves no half picture that counts. */
 static bool write_picture(const struct kept *kept, struct saved *next, const struct arguments *arguments,
                           size_t film_length) {
     char part[FILENAME_MAX], path[FILENAME_MAX];
@@ -256,7 +262,7 @@ static bool write_picture(const struct kept *kept, struct saved *next, const str
     picture_path(path, sizeof path, arguments->folder, number);
     snprintf(part, sizeof part, "%s/picture.part", arguments->folder);
     FILE *file = fopen(part, "wb");
-    bool written = file != NULL && write_ppm(file, kept, state, *rows);
+    bool written = file != NULL && write_ppm(file, kept, state, *rows, next->clock.now);
     if (file != NULL && fclose(file) != 0) {
         written = false;
     }
@@ -266,6 +272,7 @@ static bool write_picture(const struct kept *kept, struct saved *next, const str
         return false;
     }
     *rows = (struct rows){0};
+    next->clock.now += next->clock.stays;
     fprintf(stderr, "\r%s: byte %zu of %zu, pictures: %zu", arguments->film, state->position, film_length, number + 1);
     return true;
 }
@@ -380,7 +387,7 @@ static bool cut_sound(struct sound sound, const struct arguments *arguments) {
 }
 
 static void tell_refusal(const struct mve_stepped *refused, size_t sounds, const struct arguments *arguments) {
-    fprintf(stderr, "\r%s: refused %zu", arguments->film, refused->number);
+    fprintf(stderr, "\r%s: refusal %zu", arguments->film, refused->number);
     if (mve_is_of_block(refused->number)) {
         fprintf(stderr, " in block %zu", refused->block);
     }
@@ -403,6 +410,10 @@ static size_t rate_of(const struct film *film, const struct mve_state *state) {
 /* Writes what a step that was taken or whole gave: samples, the beginning of a sound file, a picture. */
 static bool write_output(const struct film *film, const struct kept *kept, const struct mve_state *before,
                          struct saved *next, const uint8_t *room, const struct arguments *arguments) {
+    uint64_t timer = mve_timer(film->bytes, film->length, before);
+    if (timer != 0) {
+        next->clock.stays = timer;
+    }
     if (is_format(film, before) && !take_format(next, rate_of(film, before), arguments)) {
         return false;
     }
@@ -496,6 +507,7 @@ static bool begin(struct kept *kept, const struct arguments *arguments) {
     }
     /* Not mve_begin, which drops the samples before the size. */
     struct mve_stepped *opened = &spare_in(kept)->step;
+    spare_in(kept)->clock.stays = USUAL;
     size_t kind = mve_open(film.bytes, film.length, arguments->stream, opened, MVE_STEPPED_NUMBERS);
     free(film.bytes);
     if (kind == MVE_REFUSED) {

@@ -27,7 +27,7 @@ int main(void) {
     }
     const struct mve_stepped *end = &answers[last];
     if (kind == MVE_REFUSED) {
-        fprintf(stderr, "refused by %zu at byte %zu: %s\n", end->number, end->state.position,
+        fprintf(stderr, "refusal %zu at byte %zu: %s\n", end->number, end->state.position,
                 mve_refusal_text(end->number));
         return 1;
     }

@@ -33,7 +33,7 @@ The text of examples/synopsis.c, a whole program:
         }
         const struct mve_stepped *end = &answers[last];
         if (kind == MVE_REFUSED) {
-            fprintf(stderr, "refused by %zu at byte %zu: %s\n", end->number, end->state.position,
+            fprintf(stderr, "refusal %zu at byte %zu: %s\n", end->number, end->state.position,
                     mve_refusal_text(end->number));
             return 1;
         }
@@ -43,7 +43,7 @@ The text of examples/synopsis.c, a whole program:
 
     cc -I include examples/synopsis.c target/staticlib/libmve.a -o synopsis && ./synopsis < film.mve
 
-mve_begin   opens a film and steps until its size is known: the state just after opcode 05
+mve_begin   opens a film and steps until its size is known: the state just after opcode 0x05
 mve_open    the first state of a film, for one stream of its sound or for none
 mve_step    one step: a chunk's head, or one opcode with its palette change, its drawing or its samples
 mve_shown   how many bytes of the front picture are shown
@@ -53,14 +53,16 @@ mve_origin  which byte or pixel gave a pixel of a packet's picture its value
 mve_salvage what is left of a scratched film, as a new film
 
 mve_step with MVE_STRICT, mve_check_strict and mve_draw_strict are the strict forms: a packet may leave no byte over (THE
-PACKET). mve_is_sent tells whether a step sent a picture to the display. mve_refusal_text says in words why a call was
-refused. mve_is_of_block tells whether a refusal names a block.
+PACKET). mve_is_sent tells whether a step sent a picture to the display. mve_timer reads how long a picture stays (THE TIME
+OF A PICTURE). mve_widened makes 8 bits of a colour's 6. mve_refusal_text says in words why a call was refused.
+mve_is_of_block tells whether a refusal names a block. These five are functions of this header, and are not proved.
 
 examples/play.c is a whole player, which is stopped again and again and goes on. docs/RULES.md has all rules in full.
 
-mve_begin opens a film and steps until its size is known. A film that it refuses is one that mve_open or a step of mve_step
-refuses, or that has no size. It drops the samples before the size and tells nothing of the opcodes that it passes, so a
-host that wants these samples, or reads opcodes 02 and 03 for timing and rate, calls mve_open and steps from there on.
+mve_begin opens a film and steps until its size is known. It refuses a film that mve_open or one of these steps refuses, and
+one that has no size. It drops the samples before the size, and tells nothing of the opcodes that it passes. So a host that
+wants these samples, or the time of a picture (opcode 0x02) or the rate of the sound (opcode 0x03), calls mve_open and steps
+from there on.
 
 MEMORY
 
@@ -107,22 +109,22 @@ STOPS
 
 A step makes its stores one by one, in a fixed order. Each is of one byte of the palette, of one pixel, or of the place:
 
-    0B, 0C, 0D   the bytes of the palette, by rising entry, red, green, blue; of 0B the red-blue gradient first. An entry
-                 that both gradients have is stored twice.
-    0F           the place, which becomes 0
-    11           of each block its pixels, row by row, then the place, which becomes the number of the next block
-    all others   none. Samples are not counted: they go to the room.
+    0x0B, 0x0C, 0x0D   the bytes of the palette, by rising entry, red, green, blue; of 0x0B the red-blue gradient first. An
+                       entry that both gradients have is stored twice.
+    0x0F               the place, which becomes 0
+    0x11               of each block its pixels, row by row, then the place, which becomes the number of the next block
+    all others         none. Samples are not counted: they go to the room.
 
 The place is the number of the first block that is not finished. `allowed` limits the stores of a step, and `stores` tells
 how many it made. A step that is allowed fewer than are due makes the first of them, answers MVE_UNFINISHED and gives its
 state back as it came; the next call takes the opcode again. A drawing then goes on from the place: a block that was begun
 is drawn again from its first pixel, which gives the same picture, because no block reads a pixel of its own. A palette
-and 0F begin again with their first store.
+and 0x0F begin again with their first store.
 
 A block has at most MVE_BLOCK_STORES stores, a palette MVE_PALETTE_STORES, the largest picture MVE_ALL_STORES. A palette
 that begins again is never done by calls that are each allowed fewer stores than it has. So allow MVE_PALETTE_STORES or
 more; then every call gets on. With MVE_ALL_STORES no call is unfinished. mve_draw and its strict form are limited and
-counted as 11 is.
+counted as 0x11 is.
 
 A watchdog may stop the program between any two stores, in any step of a film or in mve_draw. To go on, call again with the
 same film and the same state, and with palette, pictures and place as the stop left them. Where this call is allowed
@@ -226,50 +228,66 @@ Numbers are little-endian. A word has 16 bits.
     chunk    word length, word type (not read), body                length counts the body alone
     opcode   word length, byte type, byte version, body             the same; opcodes fill a chunk's body exactly
 
-    type  version  body
-    00    0        none, last in its chunk; ends the film
-    01    0        none, last in its chunk; ends the chunk
-    03    0, 1     8, 10 bytes: the format of the sound
-    05    0 to 2   4, 6, 8 bytes: words columns and rows, a count, and in version 2 the true-colour word 0. Columns and
-                   rows count blocks of 8x8 pixels: 1 to 80 and 1 to 60, up to 640x480 pixels. Once in a film.
-    07    0, 1     4, 6 bytes, not read: sends the frame. If one is finished and unsent, front and back change roles.
-    08    0        6 bytes or more: sound
-    09    0        6 bytes: silence
-    0B    0        6 bytes: two gradients of the palette, red-blue and red-green: base, rows, columns of each
-    0C    0        words start and count, then 3 bytes an entry
-    0D    0        32 groups: a mask byte, lowest bit first, and 3 bytes for each bit that is one
-    0F    0        the map for the next 11; the place becomes 0
-    11    0        14 bytes that are skipped, then the packet
-    02, 04, 0A, 12 to 15: passed over unread. 03, 08 and 09 are passed over, too, where the stream is above 15. All other
-    types are refused.
+    type    version  body
+    0x00    0        none, last in its chunk; ends the film
+    0x01    0        none, last in its chunk; ends the chunk
+    0x03    0, 1     8, 10 bytes: the format of the sound
+    0x05    0 to 2   4, 6, 8 bytes: words columns and rows, a count, and in version 2 the true-colour word 0. Columns and
+                     rows count blocks of 8x8 pixels: 1 to 80 and 1 to 60, up to 640x480 pixels. Once in a film.
+    0x07    0, 1     4, 6 bytes, not read: sends the frame. If one is finished and unsent, front and back change roles.
+    0x08    0        6 bytes or more: sound
+    0x09    0        6 bytes: silence
+    0x0B    0        6 bytes: two gradients of the palette, red-blue and red-green: base, rows, columns of each
+    0x0C    0        words start and count, then 3 bytes an entry
+    0x0D    0        32 groups: a mask byte, lowest bit first, and 3 bytes for each bit that is one
+    0x0F    0        the map for the next 0x11; the place becomes 0
+    0x11    0        14 bytes that are skipped, then the packet
+    0x02, 0x04, 0x0A, 0x12 to 0x15: passed over unread. 0x03, 0x08 and 0x09 are passed over, too, where the stream is above
+    15. All other types are refused.
 
-The palette has 256 entries of red, green and blue, 0 to 63, one byte each.
+The palette has 256 entries of red, green and blue, 0 to 63, one byte each. mve_widened gives the 8 bits that a display
+takes.
 
 A picture has one byte a pixel, row by row: 8 times columns bytes for each row of pixels, 64 times columns times rows in
 all.
 
+THE TIME OF A PICTURE
+
+The library keeps no time and passes over opcode 0x02, which gives it: a rate of 32 bits, in microseconds, then a word, the
+subdivision. Rate times subdivision is how long each picture stays, from this opcode on to the next 0x02. The usual values
+are 8,341 and 8: 66,728 microseconds, about 15 pictures a second. mve_timer reads an 0x02 at the state that goes into a step:
+
+    static uint64_t now, stays = 66728; // in microseconds
+    uint64_t timer = mve_timer(film, length, from);
+    if (timer != 0) stays = timer;
+    // then the step; and where mve_is_sent tells that it sent a picture:
+    // show the picture when `now` microseconds of the film have passed
+    now += stays;
+
+After a stop, `now` and `stays` are needed again: save them together with the state.
+
 THE SOUND
 
 A film has up to 16 streams of sound, 0 to 15. mve_open is told which one is wanted. Any number above 15 chooses none
-(MVE_NO_STREAM): 03, 08 and 09 are then passed over, whatever their version and length.
+(MVE_NO_STREAM): 0x03, 0x08 and 0x09 are then passed over, whatever their version and length.
 
-    03       a word that is not read; word of flags: bit 0 stereo, bit 1 16-bit, bit 2 compressed (in version 1 alone);
-             word of the rate, in samples of a channel a second, and the length of a buffer. The library reads neither
-             rate nor length; a host finds the rate in bytes 4 and 5 of the body, counted from 0. A later 03 starts
-             afresh.
-    08, 09   word of an index that is not read; word of a mask, which has bit n for stream n; word of the count of
-             samples, of both channels together; in 08 then the data. A packet whose mask lacks the stream's bit is
-             passed over.
+    0x03         a word that is not read; word of flags: bit 0 stereo, bit 1 16-bit, bit 2 compressed (in version 1 alone);
+                 word of the rate, in samples of a channel a second, and the length of a buffer. The library reads neither
+                 rate nor length; a host finds the rate in bytes 4 and 5 of the body, counted from 0. A later 0x03 starts
+                 afresh.
+    0x08, 0x09   word of an index that is not read; word of a mask, which has bit n for stream n; word of the count of
+                 samples, of both channels together; in 0x08 then the data. A packet whose mask lacks the stream's bit is
+                 passed over.
 
-A step that takes an 08 or 09 of the stream writes its samples at the room's front and answers how many bytes in `bytes`.
+A step that takes an 0x08 or 0x09 of the stream writes its samples at the room's front and answers how many bytes in `bytes`.
 The rest of the room stays. Samples of 16 bits are signed, with the low byte first; those of 8 bits are unsigned. In
 stereo left and right come in turn. state.stereo and state.wide tell the format.
 
-    08, uncompressed   the data: one byte a sample, or two
-    08, compressed     16-bit. The first one behind a 03 has a start word for each channel, which are its first samples;
-                       then, as in all later ones, a byte a sample, which picks one of 256 steps from the last sample of
-                       its channel, added with wrap-around. The state carries the last samples from packet to packet.
-    09                 zero samples (of 8 bits 128); the last samples stay
+    0x08, uncompressed   the data: one byte a sample, or two
+    0x08, compressed     16-bit. The first one behind a 0x03 has a start word for each channel, which are its first samples;
+                         then, as in all later ones, a byte a sample, which picks one of 256 steps from the last sample of
+                         its channel, added with wrap-around. The state carries the last samples from packet to packet.
+    0x09                 zero samples (of 8 bits 128); the last samples stay
 
 A room of MVE_ROOM_BYTES is always enough. After MVE_ERROR_ROOM call again with more: nothing has changed.
 
@@ -304,12 +322,12 @@ how the colours choose a form, and what the offsets are.
 
 THE ROWS TOUCHED
 
-A row of blocks is touched by a packet where it holds a block other than code 1; code 0 counts, whatever it copies. If
-there is such a row, `touched` is 1, and `first_row` and `last_row` are the first and the last of them, counted from 0 (8
-rows of pixels each). If there is none, all three are 0. They come with MVE_ACCEPTED of mve_check, and with MVE_WHOLE and
-MVE_UNFINISHED of mve_draw and of mve_step at an 11, in both forms. They are always those of the whole packet, whatever the
-place and the count of stores. Every other answer has none. A drawing leaves all pixels of the other rows, and the whole front
-picture, as they are.
+A row of blocks is touched by a packet where it holds a block other than code 1; code 0 counts, whatever it copies. If there
+is such a row, `touched` is 1, and `first_row` and `last_row` are the first and the last of them, counted from 0 (8 rows of
+pixels each). If there is none, all three are 0. They come with MVE_ACCEPTED of mve_check, and with MVE_WHOLE and
+MVE_UNFINISHED of mve_draw and of mve_step at an 0x11, in both forms. They are always those of the whole packet, whatever the
+place and the count of stores. Every other answer has none. A drawing leaves all pixels of the other rows, and the whole
+front picture, as they are.
 
 A display with a slow link may keep a copy of each of the two pictures, as each was last sent, and be sent the touched
 rows alone. For this, keep the rows touched since the last sending, for each of the two pictures. Begin with no row if the
@@ -323,7 +341,7 @@ copies begin as the pictures do, else with all. Then:
 The rows of the last packet alone may be too few: a frame that is never sent is drawn over, and its rows are still to be
 sent.
 
-Save the rows together with the state, in one write: a stop may fall between 11 and 07. A drawing that was stopped or is
+Save the rows together with the state, in one write: a stop may fall between 0x11 and 0x07. A drawing that was stopped or is
 unfinished is taken again and tells the same rows at its end. A host that gives up an unfinished drawing must join the
 rows of MVE_UNFINISHED, too.
 
@@ -338,7 +356,7 @@ the bits which chose it.
     MVE_BACK     pixel x, y of back as it was before the packet: code 1, the pixel itself, and code 2
     MVE_NEW      pixel x, y of the new picture, in an earlier block: code 3. Ask again for that pixel to go on.
 
-The packet is what mve_check takes as data: in a film, what stands behind the 14 bytes of opcode 11. Of front and back only
+The packet is what mve_check takes as data: in a film, what stands behind the 14 bytes of opcode 0x11. Of front and back only
 the lengths are read.
 
 WHAT IS LEFT OF A SCRATCHED FILM
@@ -346,12 +364,12 @@ WHAT IS LEFT OF A SCRATCHED FILM
 mve_salvage walks over a film chunk by chunk and writes what is left of it to the room, as a new film:
 
     the header;
-    each chunk that has no opcode refused by 3, 4 or 5: the same bytes in the same order. An empty chunk is kept, too;
-    unless the last kept chunk has opcode 00, a chunk that has nothing else: 04 00 05 00 00 00 00 00.
+    each chunk that has no opcode refused by refusal 3, 4 or 5: the same bytes in the same order. An empty chunk is kept, too;
+    unless the last kept chunk has opcode 0x00, a chunk that has nothing else: 04 00 05 00 00 00 00 00.
 
-Of an opcode, 3, 4 and 5 are tested as a step tests them, and 03, 08 and 09 whatever the stream. 11 needs 14 bytes. Of 0C
-and 0D, 5 means that the content does not fill the body exactly. Nothing else is tested, so the new film may still be refused
-where it is played: for a packet that does not fit, for instance.
+Of an opcode, refusals 3, 4 and 5 are tested as a step tests them, and 0x03, 0x08 and 0x09 whatever the stream. 0x11 needs 14
+bytes. Of 0x0C and 0x0D, 5 means that the content does not fill the body exactly. Nothing else is tested, so the new film may
+still be refused where it is played: for a packet that does not fit, for instance.
 
 The list gets MVE_LOSS_NUMBERS numbers for each chunk left out, in the order of the film:
 
@@ -362,7 +380,7 @@ The list gets MVE_LOSS_NUMBERS numbers for each chunk left out, in the order of 
 The answer tells how the walk stopped, apart from the list:
 
     MVE_STOP_FILM_END     at the end of the film
-    MVE_STOP_BEHIND_END   behind a kept chunk with opcode 00. A 00 in a chunk left out does not stop the walk.
+    MVE_STOP_BEHIND_END   behind a kept chunk with opcode 0x00. A 0x00 in a chunk left out does not stop the walk.
     MVE_STOP_PAST_END     where a chunk or its head passes the end of the film (refusal 2). All from there on is not kept.
 
 It counts the bytes of the header, of the chunks kept and of the chunks left out, both with their heads, and of the rest that
@@ -400,7 +418,7 @@ extern "C" {
 /* The stores of the largest picture: a call that is allowed so many is never unfinished. */
 #define MVE_ALL_STORES 312000
 
-/* The stores of the longest palette, 0B with 256 entries in both of its gradients: a palette that is allowed so many is
+/* The stores of the longest palette, 0x0B with 256 entries in both of its gradients: a palette that is allowed so many is
    never unfinished. */
 #define MVE_PALETTE_STORES 1536
 
@@ -448,21 +466,21 @@ enum mve_refusal {
     MVE_ERROR_LENT_LENGTH = 8,   /* palette not 768 bytes, or a picture shorter than the frame */
     MVE_ERROR_HEADER = 1,        /* film header wrong or short (mve_open, mve_begin and mve_salvage alone) */
     MVE_ERROR_CHUNK = 2,         /* a chunk or its head passes the end of the film */
-    MVE_ERROR_OPCODE = 3,        /* an opcode or its head passes its chunk, or bytes follow 00 or 01 */
+    MVE_ERROR_OPCODE = 3,        /* an opcode or its head passes its chunk, or bytes follow 0x00 or 0x01 */
     MVE_ERROR_TYPE = 4,          /* opcode type or version not taken */
     MVE_ERROR_BODY_LENGTH = 5,   /* opcode body of a wrong length */
     MVE_ERROR_FRAME_SIZE = 6,    /* columns not 1 to 80, rows not 1 to 60, true-colour word wrong, or a second size */
     MVE_ERROR_PALETTE = 7,       /* palette range or colour component too large */
-    MVE_ERROR_NO_FRAME = 9,      /* 11 without a frame size or a map */
+    MVE_ERROR_NO_FRAME = 9,      /* 0x11 without a frame size or a map */
     MVE_ERROR_MAP_LENGTH = 10,   /* map length does not fit the frame size */
     MVE_ERROR_PLACE = 11,        /* place above the block count */
     MVE_ERROR_CODE_6 = 12,       /* code 6, which 8-bit films do not have */
     MVE_ERROR_DATA_SHORT = 13,   /* too few data bytes */
     MVE_ERROR_COPY_OUTSIDE = 14, /* copied from outside the picture */
     MVE_ERROR_DATA_LEFT = 15,    /* two data bytes or more left over; in the strict forms one or more */
-    MVE_ERROR_SOUND_FORMAT = 17, /* 08 or 09 of the stream before a 03, or a 03 both 8-bit and compressed */
+    MVE_ERROR_SOUND_FORMAT = 17, /* 0x08 or 0x09 of the stream before a 0x03, or a 0x03 both 8-bit and compressed */
     MVE_ERROR_SOUND_LENGTH = 18, /* data not as long as the count of samples says, a count that is odd in stereo, or
-                                    below the channels in the first compressed 08 */
+                                    below the channels in the first compressed 0x08 */
     MVE_ERROR_ROOM = 19,         /* room too small for the samples; of mve_salvage, for the new film or the list */
     MVE_ERROR_NO_SIZE = 21,      /* the film ends without a frame size (mve_begin alone) */
     MVE_ERROR_POSITION = 22      /* a position outside the picture (mve_origin alone) */
@@ -519,7 +537,7 @@ enum mve_source {
 struct mve_state {
     size_t position;   /* in the film */
     size_t chunk_end;
-    size_t columns;    /* of 8x8 blocks; 0 by 0 before opcode 05 */
+    size_t columns;    /* of 8x8 blocks; 0 by 0 before opcode 0x05 */
     size_t rows;
     size_t front;      /* 0: picture a is shown, 1: picture b */
     size_t has_map;    /* 0: no map is pending */
@@ -527,11 +545,11 @@ struct mve_state {
     size_t map_length;
     size_t unsent;     /* 0: no frame is finished and unsent */
     size_t stream;     /* of sound; above 15: none */
-    size_t has_format; /* 0: no 03 was taken yet */
+    size_t has_format; /* 0: no 0x03 was taken yet */
     size_t stereo;     /* 0: one channel */
     size_t wide;       /* 0: 8-bit samples, else 16-bit */
     size_t compressed;
-    size_t begun;      /* 0: no compressed 08 was taken since the last 03 */
+    size_t begun;      /* 0: no compressed 0x08 was taken since the last 0x03 */
     size_t left;       /* the last samples of compressed sound; of one channel, left */
     size_t right;
 };
@@ -549,7 +567,7 @@ struct mve_answer {
 };
 
 /* As above; mve_open and mve_begin count no store. bytes: how many bytes of samples the step wrote at the room's front; only
-   an 08 or 09 of the stream writes any. state: the next state. */
+   an 0x08 or 0x09 of the stream writes any. state: the next state. */
 struct mve_stepped {
     size_t kind;
     size_t number;
@@ -572,14 +590,37 @@ _Static_assert(sizeof(struct mve_stepped) == MVE_STEPPED_NUMBERS * sizeof(size_t
 #endif
 
 /* Whether the step from `before` to `after` sent a picture: it is to be shown now. A picture is sent by the step that
-   leaves no frame unsent where one was finished and unsent: opcode 07. Give the state that went into mve_step and the one
+   leaves no frame unsent where one was finished and unsent: opcode 0x07. Give the state that went into mve_step and the one
    that came back. */
 static inline int mve_is_sent(const struct mve_state *before, const struct mve_state *after) {
     return before->unsent != 0 && after->unsent == 0;
 }
 
-/* Where a pixel comes from. number: of a refusal, else 0. block: the pixel's, or that of a refusal. code: the block's. byte:
-   where source is MVE_DATA, else 0. x, y: where it is not, else 0. A refusal has 0 behind block. */
+/* The microseconds that each picture stays from here on, where the next step from `from` takes an opcode 0x02 that says so;
+   else 0 (THE TIME OF A PICTURE). Reads the film alone, and never outside it. */
+static inline uint64_t mve_timer(const uint8_t *film, size_t film_length, const struct mve_state *from) {
+    size_t at = from->position, end = from->chunk_end;
+    if (end > film_length || at > end || end - at < 10 || film[at + 2] != 0x02) {
+        return 0;
+    }
+    size_t length = film[at] + 256u * film[at + 1];
+    if (length < 6 || length > end - at - 4) {
+        return 0;
+    }
+    uint64_t rate = film[at + 4] + 256u * film[at + 5] + 65536u * film[at + 6] + 16777216u * film[at + 7];
+    return rate * (film[at + 8] + 256u * film[at + 9]);
+}
+
+/* A component of the palette, 0 to 63, as 8 bits: the two high bits come again as the low ones, so that 0 is 0 and 63 is
+   255. What is above 63 counts as 63. */
+static inline uint8_t mve_widened(uint8_t component) {
+    unsigned least = component > 63 ? 63 : component;
+    return (uint8_t)(least << 2 | least >> 4);
+}
+
+/* Where a pixel comes from. number: of a refusal, else 0. block: the pixel's, or that of a refusal. code: the block's.
+   source says which fields count: byte for MVE_DATA; x and y for the others. Fields that do not count are 0. A refusal has 0
+   behind block. */
 struct mve_traced {
     size_t kind;
     size_t number;
@@ -594,13 +635,13 @@ struct mve_traced {
 /* How the walk of mve_salvage stopped. */
 enum mve_stop {
     MVE_STOP_FILM_END = 0,   /* at the end of the film */
-    MVE_STOP_BEHIND_END = 1, /* behind a kept chunk with opcode 00 */
+    MVE_STOP_BEHIND_END = 1, /* behind a kept chunk with opcode 0x00 */
     MVE_STOP_PAST_END = 2    /* where a chunk or its head passes the end of the film */
 };
 
-/* What is left of a scratched film. number: of a refusal, and all else is 0 then; else 0. bytes: how many the new film has, at
-   the room's front. left_out: how many chunks are in the list. header, kept, lost and rest are bytes of the film and add up to
-   its length. */
+/* What is left of a scratched film. number: of a refusal, and all else is 0 then; else 0. bytes: how many the new film has,
+   at the room's front. left_out: how many chunks are in the list. header, kept, lost and rest are bytes of the film and add
+   up to its length. */
 struct mve_salvaged {
     size_t number;
     size_t bytes;
@@ -616,27 +657,31 @@ struct mve_salvaged {
    zeros. Reads the film alone. out_numbers is MVE_STEPPED_NUMBERS, here and below; MEMORY says what other counts get. */
 size_t mve_open(const uint8_t *film, size_t film_length, size_t stream, struct mve_stepped *out, size_t out_numbers);
 
-/* Opens a film and steps until its size is known: MVE_TAKEN, with the state just after opcode 05, and the palette and the
-   place as the steps up to there leave them; or MVE_REFUSED by the first refusal that mve_open and those steps meet (8 for
-   a palette that has not 768 bytes comes right behind 1), or by MVE_ERROR_NO_SIZE. All is judged before the first store, so a
-   refusal leaves palette and place as they were. The state is then that which the refused step was given: of MVE_ERROR_HEADER
-   zeros, of MVE_ERROR_NO_SIZE the film's last one. Sound before the size is decoded for the state and its samples are dropped,
-   so MVE_ERROR_ROOM is not met. No picture is needed before the size. The call reads the film twice, up to the size. */
+/* Opens a film and steps until its size is known. Answers:
+
+       MVE_TAKEN     the state is that just after opcode 0x05. Palette and place are as the steps up to there leave them.
+       MVE_REFUSED   by the first refusal that mve_open and these steps meet, or by MVE_ERROR_NO_SIZE where the film ends
+                     first. Palette and place are as they were, since all is judged before the first store. The state is
+                     that which the refused step was given: zeros for MVE_ERROR_HEADER, the film's last for MVE_ERROR_NO_SIZE.
+
+   A palette that has not 768 bytes is refused right behind the header. Sound before the size is decoded, so that the state
+   goes on rightly, but its samples are dropped: MVE_ERROR_ROOM is not met. No picture is needed before the size. The call
+   reads the film twice, up to the size. */
 size_t mve_begin(const uint8_t *film, size_t film_length, size_t stream, struct mve_stepped *out, size_t out_numbers,
                  uint8_t *palette, size_t palette_length, size_t *place);
 
-/* One step from the state `from`, by at most `allowed` stores (STOPS). MVE_TAKEN: a chunk's head or an opcode other than 11
-   was taken. MVE_WHOLE: opcode 11 was drawn to its end. MVE_UNFINISHED: a palette, 0F or 11 ran short of stores; the state
-   stays. a and b are the two pictures; once the size is known, each has at least 64 times columns times rows bytes. The
-   place starts at 0. Only sound writes to the room. A step is refused by 2 to 19. from_numbers is MVE_STATE_NUMBERS. `form`
-   is MVE_DEFAULT or MVE_STRICT: at opcode 11 a packet may leave one byte over, or none. */
+/* One step from the state `from`, by at most `allowed` stores (STOPS). MVE_TAKEN: a chunk's head or an opcode other than
+   0x11 was taken. MVE_WHOLE: opcode 0x11 was drawn to its end. MVE_UNFINISHED: a palette, 0x0F or 0x11 ran short of stores;
+   the state stays. a and b are the two pictures; once the size is known, each has at least 64 times columns times rows
+   bytes. The place starts at 0. Only sound writes to the room. A step is refused by 2 to 19. from_numbers is
+   MVE_STATE_NUMBERS. `form` is MVE_DEFAULT or MVE_STRICT: at opcode 0x11 a packet may leave one byte over, or none. */
 size_t mve_step(const uint8_t *film, size_t film_length, const struct mve_state *from, size_t from_numbers,
                 struct mve_stepped *out, size_t out_numbers, uint8_t *palette, size_t palette_length,
                 uint8_t *a, size_t a_length, uint8_t *b, size_t b_length, size_t *place,
                 uint8_t *room, size_t room_length, size_t allowed, size_t form);
 
 /* How many bytes of the front picture (a where from->front is 0, b where it is 1) are shown: 64 times columns times rows
-   (8 times columns for each row of pixels), or 0 where no size is known yet, front is above 1, the size is not one that 05
+   (8 times columns for each row of pixels), or 0 where no size is known yet, front is above 1, the size is not one that 0x05
    may give, that picture is shorter, or from is no state (MEMORY). */
 size_t mve_shown(const struct mve_state *from, size_t from_numbers, const uint8_t *a, size_t a_length,
                  const uint8_t *b, size_t b_length);
@@ -646,7 +691,7 @@ size_t mve_shown(const struct mve_state *from, size_t from_numbers, const uint8_
 struct mve_answer mve_check(size_t columns, size_t rows, const uint8_t *map, size_t map_length,
                             const uint8_t *data, size_t data_length);
 
-/* The strict form of mve_check: one byte left over is refused by 15, too. */
+/* The strict form of mve_check: one byte left over is refused by refusal 15, too. */
 struct mve_answer mve_check_strict(size_t columns, size_t rows, const uint8_t *map, size_t map_length,
                                    const uint8_t *data, size_t data_length);
 
@@ -657,7 +702,7 @@ struct mve_answer mve_draw(size_t columns, size_t rows, const uint8_t *map, size
                            size_t front_length, uint8_t *back, size_t back_length, size_t *place,
                            size_t allowed);
 
-/* The strict form of mve_draw: one byte left over is refused by 15, too. */
+/* The strict form of mve_draw: one byte left over is refused by refusal 15, too. */
 struct mve_answer mve_draw_strict(size_t columns, size_t rows, const uint8_t *map, size_t map_length,
                                   const uint8_t *data, size_t data_length, const uint8_t *front,
                                   size_t front_length, uint8_t *back, size_t back_length, size_t *place,

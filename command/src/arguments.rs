@@ -5,7 +5,11 @@ use std::path::{Path, PathBuf};
 
 /// The film or films.
 pub fn film() -> Arg {
-    Arg::new("film").value_name("FILM").required(true).value_parser(value_parser!(PathBuf))
+    Arg::new("film")
+        .value_name("FILM")
+        .required(true)
+        .value_parser(value_parser!(PathBuf))
+        .help("An Interplay MVE film; - is standard input")
 }
 
 /// The number of a picture that is sent.

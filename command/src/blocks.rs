@@ -4,7 +4,7 @@ use crate::canvas::Canvas;
 use crate::drawings::{Drawing, Played};
 use crate::legend::{self, Code, CODES};
 use crate::messages::Failure;
-use crate::output;
+use crate::output::{self, Overwrite};
 use crate::walk::Picture;
 use crate::{arguments, film, Subcommand};
 use clap::builder::{PathBufValueParser, TypedValueParser};
@@ -44,7 +44,7 @@ fn describe(command: Command) -> Command {
     command
         .about(ABOUT)
         .long_about(format!("{MORE}{codes}{STATUS}"))
-        .arg(arguments::film().help("An Interplay MVE film"))
+        .arg(arguments::film())
         .arg(arguments::picture())
         .arg(output.value_parser(png).required(true).help("Write the picture there"))
         .arg(force.help("Overwrite a file"))
@@ -59,16 +59,16 @@ fn png_name(path: PathBuf) -> Result<PathBuf, String> {
 
 fn run(matches: &ArgMatches) -> Result<u8, Failure> {
     let wanted = matches.get_one::<usize>("picture").copied().unwrap_or(0);
-    let force = matches.get_flag("force");
     let path = arguments::film_path(matches);
+    let overwrite = Overwrite::new(path, matches.get_flag("force"));
     let target = arguments::path(matches, "output").unwrap_or(path);
-    output::check_file(target, force)?;
+    overwrite.check(target)?;
     let film = film::read(path).map_err(|unread| unread.failure(path))?;
     let played = Played::to(path, &film, wanted)?;
     let codes = played.drawings.last().map(codes_of).unwrap_or_default();
     let picture = played.picture();
     let canvas = painted(&picture, &codes);
-    output::write_png(target, &canvas, force)?;
+    output::write_png(target, &canvas, &overwrite)?;
     io::stdout().write_all(legend::text(&codes).as_bytes()).map_err(Failure::standard_output)?;
     Ok(0)
 }
@@ -91,7 +91,7 @@ fn painted(picture: &Picture<'_>, codes: &[u8]) -> Canvas {
             let (column, row) = (x / scale, y / scale);
             let colour = picture.colour(picture.pixels[row * width + column]);
             let code = codes[row / 8 * (width / 8) + column / 8];
-            canvas.put(x, y, legend::tinted(colour.map(crate::colours::wide), code));
+            canvas.put(x, y, legend::tinted(colour.map(mve::widened), code));
         }
     }
     legend::paint(&mut canvas, (0, height * scale), codes);

@@ -33,11 +33,13 @@ pub fn chain<'a>(
     position: (usize, usize),
 ) -> Result<Vec<Link<'a>>, Refusal> {
     let mut links = Vec::new();
+    let mut blank = Vec::new();
     let (mut at, (mut x, mut y)) = (drawings.len().checked_sub(1), position);
     while let Some(number) = at {
         let drawing = drawings[number];
-        let traced = traced(&drawing, x, y)?;
-        let last_on = |on| drawings[..number].iter().rposition(|drawing| drawing.on == on);
+        blank.resize(drawing.pixels(), 0);
+        let traced = drawing.traced(&blank, x, y)?;
+        let last_on = |on| last_on(&drawings[..number], on);
         let (next, from) = match traced.origin {
             mve::Origin::Byte(index) => {
                 let origin = Origin::Byte { film: drawing.start + index, packet: index };
@@ -63,12 +65,9 @@ pub fn chain<'a>(
     Ok(links)
 }
 
-/// What the library says of a pixel. Of the pictures it tests the lengths and no more, so blank ones
-/// do: no earlier picture is needed.
-fn traced(drawing: &Drawing<'_>, x: usize, y: usize) -> Result<Traced, Refusal> {
-    let (columns, rows) = drawing.size;
-    let blank = vec![0; 64 * columns * rows];
-    mve::origin(columns, rows, drawing.map, drawing.packet, &blank, &blank, x, y)
+/// The last of some drawings on a picture in memory.
+pub fn last_on(drawings: &[Drawing<'_>], on: usize) -> Option<usize> {
+    drawings.iter().rposition(|drawing| drawing.on == on)
 }
 
 impl fmt::Display for Link<'_> {

@@ -1,11 +1,8 @@
-//! The time of pictures. Opcode 02 gives the microseconds from each picture to the next; the library
-//! does not read it.
-
-use crate::opcodes::Opcode;
+//! The time of pictures. Opcode 0x02 gives the microseconds from each picture to the next.
 
 /// Where a film does not say it: the usual timer of document 003, 8341 times 8.
 pub const USUAL: u32 = 66_728;
-/// Ten minutes. A timer of 0, or of more than this, is taken as none: no player can follow it.
+/// Ten minutes. A timer of more than this is taken as none: no player can follow it. Nor is one of 0.
 const LONGEST: u64 = 600_000_000;
 
 /// The time that has passed.
@@ -17,9 +14,9 @@ pub struct Clock {
 }
 
 impl Clock {
-    /// Takes a timer, where the opcode is one.
-    pub fn take(&mut self, opcode: &Opcode<'_>) {
-        let interval = opcode.interval().filter(|&interval| (1..=LONGEST).contains(&interval));
+    /// Takes a timer, where there is one.
+    pub fn take(&mut self, timer: Option<u64>) {
+        let interval = timer.filter(|&interval| interval <= LONGEST);
         self.interval = interval.map(|interval| interval as u32).or(self.interval);
     }
 

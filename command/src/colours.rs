@@ -2,15 +2,9 @@
 
 use mve::PALETTE_BYTES;
 
-/// A palette of components of 8 bits, from one of 6 bits, 0 to 63: the two high bits come again as the
-/// low ones, so that 0 is 0 and 63 is 255.
+/// A palette of components of 8 bits, from one of 6 bits; see [`mve::widened`].
 pub fn widened(palette: &[u8; PALETTE_BYTES]) -> [u8; PALETTE_BYTES] {
-    palette.map(wide)
-}
-
-/// A component of 8 bits, from one of 6.
-pub fn wide(component: u8) -> u8 {
-    component << 2 | component >> 4
+    palette.map(mve::widened)
 }
 
 /// Thousandths of what 255 of red, green and blue give of luma and of the differences (ITU-R BT.601).

@@ -1,19 +1,16 @@
 //! The drawings of a film up to a picture that is sent: where each one's map and packet stand in the
-//! film. No picture is held: where a pixel comes from follows from the packets alone.
+//! film. Where a pixel comes from follows from the packets alone: pictures are held only to be shown.
 
 use crate::messages::{Failure, Kept};
-use crate::opcodes::kind;
+use crate::opcodes::{kind, HEAD, SKIPPED};
 use crate::progress::Progress;
 use crate::refusals::Refused;
 use crate::walk::{Picture, Rules, Walk};
-use mve::{Form, ALL_STORES, NO_STREAM};
+use mve::{Form, Refusal, Traced, ALL_STORES, NO_STREAM, PALETTE_BYTES};
+use std::collections::VecDeque;
 use std::path::Path;
 
-/// The bytes of an opcode's head, and those in front of the packet of opcode 11.
-const HEAD: usize = 4;
-const SKIPPED: usize = 14;
-
-/// A packet that is drawn, by an opcode 11.
+/// A packet that is drawn, by an opcode 0x11.
 #[derive(Clone, Copy, Debug)]
 pub struct Drawing<'a> {
     /// The number of the picture that it is drawn for: the next that is sent.
@@ -28,21 +25,62 @@ pub struct Drawing<'a> {
     pub start: usize,
 }
 
+impl Drawing<'_> {
+    /// How many blocks its picture has.
+    pub fn blocks(&self) -> usize {
+        let (columns, rows) = self.size;
+        columns * rows
+    }
+
+    /// How many pixels.
+    pub fn pixels(&self) -> usize {
+        64 * self.blocks()
+    }
+
+    /// What the library says of a pixel. Of the pictures it tests the lengths and no more, so a blank one
+    /// does, of as many pixels: no earlier picture is needed.
+    pub fn traced(&self, blank: &[u8], x: usize, y: usize) -> Result<Traced, Refusal> {
+        let (columns, rows) = self.size;
+        mve::origin(columns, rows, self.map, self.packet, blank, blank, x, y)
+    }
+}
+
+/// The picture that a packet was drawn on, afterwards.
+#[derive(Clone, Debug)]
+pub struct Drawn {
+    /// A palette entry for each pixel, row by row.
+    pub pixels: Vec<u8>,
+    /// The colours at that time, 0 to 63.
+    pub palette: [u8; PALETTE_BYTES],
+}
+
 /// A film that was played to a picture.
 pub struct Played<'a> {
     walk: Walk<'a>,
     /// The drawings so far; the last one drew the picture that is shown.
     pub drawings: Vec<Drawing<'a>>,
+    /// What the last of them left, as many as were to be held.
+    pub held: VecDeque<Drawn>,
 }
 
 impl<'a> Played<'a> {
     /// Plays a film until it sends the picture with this number, counted from 0.
     pub fn to(path: &Path, film: &'a [u8], number: usize) -> Result<Played<'a>, Failure> {
+        Played::holding(path, film, number, 0)
+    }
+
+    /// The same, and holds so many pictures as they were drawn.
+    pub fn holding(
+        path: &Path,
+        film: &'a [u8],
+        number: usize,
+        pictures: usize,
+    ) -> Result<Played<'a>, Failure> {
         let refused =
             |refused: Refused, sent| Failure::Refused(path.into(), refused, Kept::OnlyBefore(sent));
         let rules = Rules { stream: NO_STREAM, form: Form::Default, allowance: ALL_STORES };
         let mut walk = Walk::open(film, rules).map_err(|why| refused(why, 0))?;
-        let (mut drawings, mut sent) = (Vec::new(), 0);
+        let (mut drawings, mut held, mut sent) = (Vec::new(), VecDeque::new(), 0);
         let mut progress = Progress::new();
         while sent <= number {
             let before = *walk.state();
@@ -59,11 +97,16 @@ impl<'a> Played<'a> {
                     packet: &video.body[SKIPPED..],
                     start: before.position + HEAD + SKIPPED,
                 });
+                if pictures > 0 {
+                    let Picture { pixels, palette, .. } = walk.drawn();
+                    held.push_back(Drawn { pixels: pixels.to_vec(), palette: *palette });
+                    held.drain(..held.len().saturating_sub(pictures));
+                }
             }
             sent += usize::from(passed.sent);
             progress.show(before.position, film.len(), || format!("picture {sent}"));
         }
-        Ok(Played { walk, drawings })
+        Ok(Played { walk, drawings, held })
     }
 
     /// The picture that is shown.

@@ -7,6 +7,8 @@ use std::fs::File;
 use std::io::{self, Read};
 use std::path::Path;
 
+/// The name that stands for standard input, and for standard output.
+pub const STANDARD: &str = "-";
 /// The bytes of a film's header.
 const HEADER: u64 = 26;
 
@@ -24,7 +26,7 @@ impl Unread {
         match self {
             Unread::Failed(error) => Failure::Read(path.into(), error),
             Unread::Refused(refusal, _) => {
-                Failure::Refused(path.into(), Refused::new(refusal, 0), Kept::OnlyBefore(0))
+                Failure::Refused(path.into(), Refused::at_header(refusal), Kept::OnlyBefore(0))
             }
         }
     }
@@ -36,12 +38,21 @@ impl From<io::Error> for Unread {
     }
 }
 
-/// Reads a film whose header is right.
+/// Reads a film whose header is right, also from standard input.
 pub fn read(path: &Path) -> Result<Vec<u8>, Unread> {
-    let mut file = File::open(path)?;
+    if path == Path::new(STANDARD) {
+        return read_from(io::stdin().lock(), 0);
+    }
+    let file = File::open(path)?;
     let length = file.metadata()?.len();
+    read_from(file, length)
+}
+
+/// The length is told of a file whose header is wrong, or else how much of it was read.
+fn read_from(mut file: impl Read, length: u64) -> Result<Vec<u8>, Unread> {
     let mut film = Vec::new();
     file.by_ref().take(HEADER).read_to_end(&mut film)?;
+    let length = length.max(film.len() as u64);
     mve::open(&film, mve::NO_STREAM).map_err(|refusal| Unread::Refused(refusal, length))?;
     file.read_to_end(&mut film)?;
     Ok(film)

@@ -4,11 +4,14 @@ use crate::film::{self, Unread};
 use crate::messages::{name, why, Failure, FAILED, REFUSED};
 use crate::progress::Progress;
 use crate::refusals::Refused;
-use crate::report::Report;
+use crate::report::{stream_numbers, Report};
+use crate::terminal::{output_width, tail};
 use crate::walk::Rules;
-use crate::{arguments, json, listing, table, tell, Subcommand};
+use crate::{arguments, listing, table, tell, Subcommand};
+use clap::parser::ValueSource;
 use clap::{Arg, ArgAction, ArgMatches, Command};
 use mve::{Form, ALL_STORES};
+use serde_json::json;
 use std::io::{self, Write};
 use std::path::{Path, PathBuf};
 
@@ -25,13 +28,18 @@ than one in a table:
   SIZE, BLOCKS   of the pictures: in pixels, and in blocks of 8x8 pixels
   SENT           pictures that the film sends to the display
   SECONDS        the sum of their times. A picture stays for the microseconds that the last
-                 timer (opcode 02) before it says: its rate times its subdivision. A timer
+                 timer (opcode 0x02) before it says: its rate times its subdivision. A timer
                  of 0 or above ten minutes is passed over. A picture before the first timer
                  stays for the usual 66728 microseconds, and the number has a star
   SOUND          samples a second, channels x bits, c where the film has it compressed, + where
                  another format follows; then the streams that have sound
   PALETTE        opcodes that change the palette
-  RESULT         plays, or the number by which the film is refused; below the table in words
+  RESULT         plays, or the number of the refusal; below the table in words
+
+Of one film it is also told what players differ in: pictures that are drawn and never sent,
+bytes that pictures leave over and, where sound is refused by 18, how many of its packets fit
+the readings that players have of their length. These are counted over the whole film, also
+behind a refusal. --json has them of every film.
 
 Exit status: 0 if all films play, 1 if one is refused, 2 if a file cannot be read or the
 command is used wrongly.";
@@ -47,7 +55,7 @@ fn describe(command: Command) -> Command {
     command
         .about(ABOUT)
         .long_about(MORE)
-        .arg(arguments::film().num_args(1..).help("Interplay MVE films"))
+        .arg(arguments::film().num_args(1..).help("Interplay MVE films; - is standard input"))
         .arg(json.help("Write JSON: an array with an object for each film"))
         .arg(strict.help("Refuse pictures with a left-over byte, as for mastering"))
         .arg(stream)
@@ -65,7 +73,12 @@ fn run(matches: &ArgMatches) -> Result<u8, Failure> {
         films.push((path.as_path(), look(path, rules, &mut progress, &word)));
     }
     drop(progress);
-    let text = if matches.get_flag("json") { json_of(&films, stream) } else { text(&films) };
+    let text = match matches.get_flag("json") {
+        true => json_of(&films, stream),
+        false => {
+            text(&films, matches.value_source("stream") == Some(ValueSource::CommandLine), stream)
+        }
+    };
     io::stdout().write_all(text.as_bytes()).map_err(Failure::standard_output)?;
     Ok(status(films))
 }
@@ -83,26 +96,31 @@ fn look(
             Ok(Report::of(&film, rules, watch))
         }
         Err(Unread::Refused(refusal, bytes)) => {
-            Ok(Report::refused(Refused::new(refusal, 0), bytes))
+            Ok(Report::refused(Refused::at_header(refusal), bytes))
         }
         Err(Unread::Failed(error)) => Err(error),
     }
 }
 
-/// The name of a file, as far as it fits behind a bar of progress.
+/// The end of a film's name, behind a bar of progress.
 fn short(path: &Path) -> String {
-    path.file_name()
-        .map(|file| name(Path::new(file)).chars().take(20).collect())
-        .unwrap_or_default()
+    tail(&name(path), 40)
 }
 
 /// Lines for one film, a table for more. Of a single file that cannot be read there is nothing to list.
-fn text(films: &[Found<'_>]) -> String {
-    match films {
-        [(path, Ok(report))] => listing::lines(&name(path), report),
+fn text(films: &[Found<'_>], is_stream_asked: bool, stream: usize) -> String {
+    let text = match films {
+        [(path, Ok(report))] => listing::lines(&name(path), stream, report),
         [_] => String::new(),
         _ => table_of(films),
-    }
+    };
+    let lacks = |(path, found): &Found<'_>| {
+        let report = found.as_ref().ok()?;
+        let streams = stream_numbers(report.readings.streams);
+        (!streams.contains(&stream)).then(|| listing::lacking(&name(path), stream, &streams))
+    };
+    let lacking: String = films.iter().filter(|_| is_stream_asked).filter_map(lacks).collect();
+    text + &lacking
 }
 
 fn table_of(films: &[Found<'_>]) -> String {
@@ -113,21 +131,21 @@ fn table_of(films: &[Found<'_>]) -> String {
     let rows: Vec<_> = Some(listing::HEADS.map(String::from)).into_iter().chain(rows).collect();
     let reports: Vec<_> = films.iter().filter_map(|(_, found)| found.as_ref().ok()).collect();
     let refusals = films.iter().filter_map(|(path, found)| {
-        let refused = found.as_ref().ok()?.refused?;
-        Some(format!("{}: {}\n    {}\n", name(path), refused.place(), refused.sentence()))
+        let refused = found.as_ref().ok()?.refused.as_ref()?;
+        Some(format!("{}: {}\n    {}\n", name(path), refused.place(), refused.words))
     });
     let refusals: String = refusals.collect();
     let footnote = listing::footnote(&reports).unwrap_or_default();
     let gap = if refusals.is_empty() { "" } else { "\n" };
-    format!("{}{footnote}{gap}{refusals}", table::table(&rows))
+    format!("{}{footnote}{gap}{refusals}", table::table(&rows, output_width()))
 }
 
 fn json_of(films: &[Found<'_>], stream: usize) -> String {
     let objects = films.iter().map(|(path, found)| match found {
-        Ok(report) => listing::object(&path.to_string_lossy(), stream, report),
-        Err(error) => listing::error_object(&path.to_string_lossy(), &why(error)),
+        Ok(report) => listing::object(&path.to_string_lossy(), stream, report).to_string(),
+        Err(error) => json!({"file": path.to_string_lossy(), "error": why(error)}).to_string(),
     });
-    json::lines(&objects.collect::<Vec<_>>()) + "\n"
+    format!("[\n  {}\n]\n", objects.collect::<Vec<_>>().join(",\n  "))
 }
 
 /// Says which files cannot be read. The exit status of all films.

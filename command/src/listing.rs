@@ -1,23 +1,28 @@
 //! A report as lines for one film, as a row of the table for many, and as JSON.
 
 use crate::clock::USUAL;
-use crate::json;
+use crate::readings::{Readings, SOUND};
 use crate::refusals::Refused;
-use crate::report::Report;
+use crate::report::{stream_numbers, Report};
 use crate::sound::Format;
+use mve::Error;
+use serde_json::{json, Value};
 
 /// The heads of the table.
 pub const HEADS: [&str; 9] =
     ["FILM", "SIZE", "BLOCKS", "SENT", "SECONDS", "SOUND", "PALETTE", "BYTES", "RESULT"];
+
+/// In front of a second line.
+const INDENT: &str = "            ";
 
 /// The streams of a row of the table have so many characters at most.
 const STREAMS: usize = 7;
 
 /// A row of the table.
 pub fn row(name: &str, report: &Report) -> [String; HEADS.len()] {
-    let result = match report.refused {
+    let result = match &report.refused {
         None => "plays".into(),
-        Some(Refused { number, .. }) => format!("refused {number}"),
+        Some(refused) => format!("refusal {}", refused.number()),
     };
     [
         name.into(),
@@ -46,7 +51,7 @@ pub fn footnote(reports: &[&Report]) -> Option<String> {
 }
 
 /// All that was found, a line each.
-pub fn lines(name: &str, report: &Report) -> String {
+pub fn lines(name: &str, stream: usize, report: &Report) -> String {
     let lines = [
         ("size", size(report)),
         ("pictures", format!("{} sent", report.pictures)),
@@ -54,16 +59,73 @@ pub fn lines(name: &str, report: &Report) -> String {
         ("sound", sound(report)),
         ("palette", palette(report.palette_changes)),
         ("bytes", report.bytes.to_string()),
-        ("result", report.refused.map_or("plays to its end".into(), |refused| refused.place())),
+        ("result", result(report)),
     ];
-    let lines = lines.map(|(head, text)| format!("  {head:<10}{text}\n")).concat();
-    let why = report.refused.map(|refused| format!("            {}\n", refused.sentence()));
-    format!("{name}\n{lines}{}", why.unwrap_or_default())
+    let lines = lines.into_iter().chain(notes(stream, report));
+    let lines: String = lines.map(|(head, text)| format!("  {head:<10}{text}\n")).collect();
+    format!("{name}\n{lines}")
+}
+
+/// Whether it plays; the reason in words is on a line of its own.
+fn result(report: &Report) -> String {
+    match &report.refused {
+        None => "plays to its end".into(),
+        Some(refused) => format!("does not play: {}\n{INDENT}{}", refused.place(), refused.words),
+    }
+}
+
+/// What players differ in, where the film has it.
+fn notes(stream: usize, report: &Report) -> Vec<(&'static str, String)> {
+    let Readings { packets, sound, left_over: [none, one, more], most_left_over, unsent, .. } =
+        &report.readings;
+    let mut notes = Vec::new();
+    if report.refused.as_ref().is_some_and(|refused| refused.error == Error::SoundLength) {
+        let fits = SOUND.iter().zip(sound);
+        let fits = fits.map(|((_, words), count)| format!("\n{INDENT}{count:>7} fit {words}"));
+        let text = format!("of {packets} packets of sound in stream {stream}");
+        notes.push(("readings", text + &fits.collect::<String>()));
+    }
+    if one + more > 0 {
+        let text = format!(
+            "{one} pictures leave a byte over, {more} leave more, {most_left_over} at most"
+        );
+        notes.push(("padding", format!("{text}; {none} leave none")));
+    }
+    if *unsent > 0 {
+        notes.push((
+            "not sent",
+            format!(
+                "{unsent} {} drawn and never sent",
+                plural(*unsent, "picture is", "pictures are")
+            ),
+        ));
+    }
+    notes
+}
+
+/// A stream that was asked for, and that a film does not have.
+pub fn lacking(name: &str, stream: usize, streams: &[usize]) -> String {
+    match streams {
+        [] => format!("{name}: there is no stream {stream}: the film has no sound\n"),
+        _ => format!("{name}: there is no stream {stream}: the film has {}\n", ranges(streams)),
+    }
+}
+
+fn plural(count: usize, one: &'static str, more: &'static str) -> &'static str {
+    if count == 1 {
+        one
+    } else {
+        more
+    }
 }
 
 fn duration(report: &Report) -> String {
     let how = if report.clock.assumed() { "usual timer, as it has none at first" } else { "timer" };
-    format!("{} s by the {how}", seconds(report, 3).trim_end_matches('*'))
+    let rate = report
+        .pictures_a_second()
+        .map(|rate| format!(", {}.{:03} pictures a second", rate / 1000, rate % 1000));
+    let seconds = seconds(report, 3);
+    format!("{} s by the {how}{}", seconds.trim_end_matches('*'), rate.unwrap_or_default())
 }
 
 fn size(report: &Report) -> String {
@@ -73,7 +135,7 @@ fn size(report: &Report) -> String {
 }
 
 fn palette(changes: usize) -> String {
-    format!("{changes} {}", if changes == 1 { "change" } else { "changes" })
+    format!("{changes} {}", plural(changes, "change", "changes"))
 }
 
 /// The duration, rounded; with a star where the timer is assumed.
@@ -90,7 +152,7 @@ fn sound(report: &Report) -> String {
         return "none".into();
     }
     let formats: Vec<_> = report.formats.iter().map(format).collect();
-    let streams = match &*report.stream_numbers() {
+    let streams = match &*stream_numbers(report.readings.streams) {
         [] => "no stream".into(),
         [stream] => format!("stream {stream}"),
         several => format!("streams {}", ranges(several)),
@@ -130,53 +192,49 @@ fn ranges(numbers: &[usize]) -> String {
 }
 
 /// The object of a film.
-pub fn object(name: &str, stream: usize, report: &Report) -> String {
+pub fn object(name: &str, stream: usize, report: &Report) -> Value {
     let size = report.size.map(|(columns, rows)| {
-        let numbers = [8 * columns, 8 * rows, columns, rows].map(|number| number.to_string());
-        json::object(&named(["width", "height", "columns", "rows"], numbers))
+        json!({"width": 8 * columns, "height": 8 * rows, "columns": columns, "rows": rows})
     });
-    json::object(&[
-        ("file", json::string(name)),
-        ("bytes", report.bytes.to_string()),
-        ("size", json::or_null(size)),
-        ("pictures", report.pictures.to_string()),
-        ("duration_us", report.clock.elapsed().to_string()),
-        ("timer_assumed", report.clock.assumed().to_string()),
-        ("sound", json::array(report.formats.iter().map(format_object))),
-        ("streams", json::array(report.stream_numbers().iter().map(usize::to_string))),
-        ("stream", stream.to_string()),
-        ("palette_changes", report.palette_changes.to_string()),
-        ("plays", report.refused.is_none().to_string()),
-        ("refused", json::or_null(report.refused.as_ref().map(refused_object))),
-    ])
+    json!({
+        "file": name,
+        "bytes": report.bytes,
+        "size": size,
+        "pictures": report.pictures,
+        "duration_us": report.clock.elapsed(),
+        "pictures_a_second": report.pictures_a_second().map(|rate| rate as f64 / 1000.0),
+        "timer_assumed": report.clock.assumed(),
+        "sound": report.formats.iter().map(format_object).collect::<Vec<_>>(),
+        "streams": report.stream_numbers(),
+        "stream": stream,
+        "palette_changes": report.palette_changes,
+        "plays": report.refused.is_none(),
+        "refused": report.refused.as_ref().map(refused_object),
+        "readings": readings_object(&report.readings),
+    })
 }
 
-/// The object of a file that cannot be read.
-pub fn error_object(name: &str, error: &str) -> String {
-    json::object(&named(["file", "error"], [name, error].map(json::string)))
-}
-
-fn format_object(format: &Format) -> String {
+fn format_object(format: &Format) -> Value {
     let Format { rate, channels, bits, compressed } = format;
-    let values = [rate.to_string(), channels.to_string(), bits.to_string(), compressed.to_string()];
-    json::object(&named(["rate", "channels", "bits", "compressed"], values))
+    json!({"rate": rate, "channels": channels, "bits": bits, "compressed": compressed})
 }
 
-fn refused_object(refused: &Refused) -> String {
-    let values = [
-        refused.number.to_string(),
-        refused.byte.to_string(),
-        json::or_null(refused.block),
-        json::string(refused.sentence()),
-    ];
-    json::object(&named(["number", "byte", "block", "words"], values))
+fn refused_object(refused: &Refused) -> Value {
+    let Refused { byte, block, words, .. } = refused;
+    json!({"number": refused.number(), "byte": byte, "block": block, "words": words})
 }
 
-fn named<const COUNT: usize>(
-    names: [&'static str; COUNT],
-    values: [String; COUNT],
-) -> Vec<(&'static str, String)> {
-    names.into_iter().zip(values).collect()
+fn readings_object(readings: &Readings) -> Value {
+    let [none, one, more] = readings.left_over;
+    let mut object = json!({
+        "sound_packets": readings.packets,
+        "left_over": {"none": none, "one": one, "more": more, "most": readings.most_left_over},
+        "not_sent": readings.unsent,
+    });
+    for ((name, _), count) in SOUND.iter().zip(readings.sound) {
+        object["sound"][name] = count.into();
+    }
+    object
 }
 
 #[cfg(test)]

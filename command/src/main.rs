@@ -5,26 +5,32 @@
 mod arguments;
 mod blocks;
 mod canvas;
+mod causes;
 mod chain;
 mod clock;
 mod colours;
+mod completions;
 mod drawings;
 mod film;
 mod info;
-mod json;
 mod legend;
+mod list;
 mod listing;
 mod messages;
 mod opcodes;
 mod output;
+mod page;
 mod play;
 mod player;
 mod progress;
+mod readings;
 mod refusals;
 mod report;
 mod salvage;
+mod signals;
 mod sound;
 mod table;
+mod terminal;
 mod walk;
 mod why;
 
@@ -35,8 +41,15 @@ use std::io::{self, Write};
 use std::process::ExitCode;
 
 /// All subcommands, in the order of the help.
-const SUBCOMMANDS: [Subcommand; 5] =
-    [info::SUBCOMMAND, play::SUBCOMMAND, why::SUBCOMMAND, blocks::SUBCOMMAND, salvage::SUBCOMMAND];
+const SUBCOMMANDS: [Subcommand; 7] = [
+    info::SUBCOMMAND,
+    list::SUBCOMMAND,
+    play::SUBCOMMAND,
+    why::SUBCOMMAND,
+    blocks::SUBCOMMAND,
+    salvage::SUBCOMMAND,
+    completions::SUBCOMMAND,
+];
 
 /// The version of the command, and that of the library's interface.
 const VERSION: &str =

@@ -1,6 +1,7 @@
 //! What the command says where it fails: what is wrong, with which file, what to do; and its exit
 //! statuses.
 
+use crate::film::STANDARD;
 use crate::refusals::Refused;
 use std::fmt;
 use std::io::{self, ErrorKind};
@@ -22,14 +23,18 @@ pub enum Failure {
     Exists(PathBuf),
     /// The film itself, which is never overwritten.
     IsInput(PathBuf),
+    /// Sound of several formats, which one WAV file cannot hold.
+    ManyFormats,
     /// A folder in place of a file.
     IsFolder(PathBuf),
     /// A file in place of a folder.
     IsFile(PathBuf),
     /// A folder that has numbered pictures.
     HasPictures(PathBuf),
-    /// Y4M is not for eyes.
-    Terminal,
+    /// What is not for eyes: Y4M or WAV.
+    Terminal(&'static str),
+    /// Pictures and sound cannot both go to standard output.
+    BothStandard,
     /// A file that is no film, so that there is nothing to save.
     NoFilm(PathBuf, Refused),
     /// A film that is refused, and what becomes of its pictures.
@@ -53,6 +58,8 @@ pub enum Failure {
 pub enum Kept {
     /// They are not kept.
     Nothing,
+    /// There is neither a picture nor sound that is wanted.
+    NothingBefore,
     /// There is none that is wanted.
     NoPicture,
     /// So many are written.
@@ -110,7 +117,7 @@ impl fmt::Display for Failure {
                 write!(f, "{}: exists already: give another name, or --force", name(path))
             }
             Failure::IsInput(path) => {
-                write!(f, "{}: is the scratched film itself: give another name", name(path))
+                write!(f, "{}: is the film itself: give another name", name(path))
             }
             Failure::NoFilm(path, refused) => {
                 write!(f, "{}: {refused} Nothing is written.", name(path))
@@ -121,8 +128,20 @@ impl fmt::Display for Failure {
                 let path = name(path);
                 write!(f, "{path}: has numbered pictures already: give another folder, or --force")
             }
-            Failure::Terminal => {
-                write!(f, "Y4M is not for a terminal: send it to a player (| ffplay -) or a file")
+            Failure::Terminal(what) => {
+                write!(
+                    f,
+                    "{what} is not for a terminal: send it to a player (| ffplay -) or a file"
+                )
+            }
+            Failure::BothStandard => {
+                write!(
+                    f,
+                    "standard output takes pictures or sound, not both: give one of them a name"
+                )
+            }
+            Failure::ManyFormats => {
+                write!(f, "the sound changes its format, and standard output takes one: give --sound a name")
             }
             Failure::Refused(path, refused, kept) => write!(f, "{}: {refused} {kept}", name(path)),
             Failure::NoPicture(path, 0) | Failure::NotSent(path, 0) => {
@@ -179,6 +198,7 @@ impl fmt::Display for Kept {
     fn fmt(&self, f: &mut fmt::Formatter<'_>) -> fmt::Result {
         match self {
             Kept::Nothing => write!(f, "Nothing is written; --partial keeps what comes before it."),
+            Kept::NothingBefore => write!(f, "Nothing comes before it."),
             Kept::NoPicture => write!(f, "No picture is written."),
             Kept::OnlyBefore(0) => write!(f, "No picture comes before it."),
             Kept::OnlyBefore(1) => write!(f, "Picture 0 comes before it."),
@@ -191,6 +211,9 @@ impl fmt::Display for Kept {
 
 /// A path for a message or a table: on one line, and without any sequence that steers a terminal.
 pub fn name(path: &Path) -> String {
+    if path == Path::new(STANDARD) {
+        return "standard input".into();
+    }
     path.to_string_lossy().replace(char::is_control, "\u{FFFD}")
 }
 

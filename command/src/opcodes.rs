@@ -5,19 +5,52 @@ use mve::State;
 
 /// Types of opcodes.
 pub mod kind {
-    pub const TIMER: u8 = 0x02;
+    pub const END: u8 = 0x00;
+    pub const CHUNK_END: u8 = 0x01;
     pub const SOUND_FORMAT: u8 = 0x03;
+    pub const SIZE: u8 = 0x05;
+    pub const SEND: u8 = 0x07;
     pub const SOUND: u8 = 0x08;
     pub const GRADIENTS: u8 = 0x0B;
     pub const PALETTE: u8 = 0x0C;
     pub const PALETTE_MASKS: u8 = 0x0D;
+    pub const MAP: u8 = 0x0F;
     pub const VIDEO: u8 = 0x11;
+}
+
+/// The bytes of the head of an opcode, and of a chunk.
+pub const HEAD: usize = 4;
+/// The bytes in front of the packet of opcode 0x11.
+pub const SKIPPED: usize = 14;
+
+/// What the types that films have are for; none for others.
+pub fn meaning(kind: u8) -> Option<&'static str> {
+    Some(match kind {
+        0x00 => "end of the film",
+        0x01 => "end of the chunk",
+        0x02 => "timer",
+        0x03 => "format of the sound",
+        0x04 => "start of the sound",
+        0x05 => "size",
+        0x07 => "sends the picture",
+        0x08 => "sound",
+        0x09 => "silence",
+        0x0A => "display mode",
+        0x0B => "palette by gradients",
+        0x0C => "palette",
+        0x0D => "palette by masks",
+        0x0F => "map of the blocks",
+        0x11 => "picture",
+        0x12..=0x15 => "passed over, its use is not known",
+        _ => return None,
+    })
 }
 
 /// An opcode as it stands in the film.
 #[derive(Clone, Copy, Debug, PartialEq, Eq)]
 pub struct Opcode<'a> {
     pub kind: u8,
+    pub version: u8,
     pub body: &'a [u8],
 }
 
@@ -25,20 +58,13 @@ impl<'a> Opcode<'a> {
     /// The opcode where a state is; none at a chunk's head, or where it passes its chunk.
     pub fn at(film: &'a [u8], state: &State) -> Option<Opcode<'a>> {
         let rest = film.get(state.position..state.chunk_end)?;
-        let &[low, high, kind, _version, ref behind @ ..] = rest else { return None };
+        let &[low, high, kind, version, ref behind @ ..] = rest else { return None };
         let length = usize::from(u16::from_le_bytes([low, high]));
-        Some(Opcode { kind, body: behind.get(..length)? })
+        Some(Opcode { kind, version, body: behind.get(..length)? })
     }
 
     pub fn changes_palette(&self) -> bool {
         matches!(self.kind, kind::GRADIENTS | kind::PALETTE | kind::PALETTE_MASKS)
-    }
-
-    /// The microseconds from picture to picture that a timer sets: its rate times its subdivision.
-    pub fn interval(&self) -> Option<u64> {
-        let rate = [self.word(0)?, self.word(1)?].map(u64::from);
-        let interval = (rate[0] | rate[1] << 16) * u64::from(self.word(2)?);
-        (self.kind == kind::TIMER).then_some(interval)
     }
 
     /// The samples of a channel in a second, of a format.
@@ -52,7 +78,8 @@ impl<'a> Opcode<'a> {
         self.word(1).filter(|_| self.kind == kind::SOUND)
     }
 
-    fn word(&self, number: usize) -> Option<u16> {
+    /// A word of the body, counted from 0.
+    pub fn word(&self, number: usize) -> Option<u16> {
         let bytes = self.body.get(2 * number..)?.first_chunk()?;
         Some(u16::from_le_bytes(*bytes))
     }
@@ -63,18 +90,7 @@ mod tests {
     use super::*;
 
     fn opcode(kind: u8, body: &[u8]) -> Opcode<'_> {
-        Opcode { kind, body }
-    }
-
-    /// Document 003: "DWORD timer rate, WORD timer subdivision"; 0x2095 and 8 are 66728 microseconds.
-    #[test]
-    fn timers() {
-        assert_eq!(opcode(2, &[0x95, 0x20, 0, 0, 8, 0]).interval(), Some(66_728));
-        assert_eq!(opcode(2, &[0, 0, 1, 0, 2, 0, 99]).interval(), Some(131_072));
-        let largest = u64::from(u32::MAX) * 65_535;
-        assert_eq!(opcode(2, &[0xFF; 6]).interval(), Some(largest));
-        assert_eq!(opcode(2, &[1; 5]).interval(), None);
-        assert_eq!(opcode(3, &[1; 6]).interval(), None);
+        Opcode { kind, version: 0, body }
     }
 
     /// An opcode is read as far as its chunk goes.

@@ -2,7 +2,7 @@
 
 use crate::clock::Clock;
 use crate::messages::{Failure, Kept};
-use crate::output::{Cut, Output, Pictures, Wav};
+use crate::output::{Cut, Output, Overwrite, Pictures, Wav};
 use crate::progress::Progress;
 use crate::refusals::Refused;
 use crate::report::stream_numbers;
@@ -28,8 +28,7 @@ pub struct Wanted<'a> {
     pub stops: Option<usize>,
     /// Whether what comes before a refusal is kept.
     pub partial: bool,
-    /// Whether files may be overwritten.
-    pub force: bool,
+    pub overwrite: Overwrite,
 }
 
 impl Wanted<'_> {
@@ -129,7 +128,7 @@ impl<'a> Player<'a> {
 
     fn take(&mut self, passed: &Passed<'_>) -> Result<(), Failure> {
         let Some(opcode) = passed.opcode else { return Ok(()) };
-        self.clock.take(&opcode);
+        self.clock.take(passed.timer);
         self.streams |= opcode.streams().unwrap_or(0);
         if let Some(sound) = &mut self.sound {
             if let Some(format) = Format::of(&opcode, self.walk.state()) {
@@ -181,11 +180,14 @@ impl<'a> Player<'a> {
     fn finish_refused(mut self, refused: Refused) -> Result<(), Failure> {
         let is_sent = matches!(self.wanted.output, Some(Output::Standard));
         let (wanted, chosen) = (self.wanted, self.chosen);
+        let has_sound = self.sound.as_ref().is_some_and(|sound| !sound.is_empty());
+        let has_something = chosen > 0 && wanted.output.is_some() || has_sound;
         if !wanted.partial {
             self.sound = None;
         }
         if !wanted.partial && !is_sent {
-            return Err(wanted.refused(refused, Kept::Nothing));
+            let kept = if has_something { Kept::Nothing } else { Kept::NothingBefore };
+            return Err(wanted.refused(refused, kept));
         }
         if chosen == 0 {
             self.pictures = None;
@@ -196,11 +198,11 @@ impl<'a> Player<'a> {
 
     /// Gives what was written its names, when all of it is complete.
     fn keep(self) -> Result<(), Failure> {
-        let force = self.wanted.force;
+        let overwrite = &self.wanted.overwrite;
         let finished = self.pictures.map(Pictures::finish).transpose()?.unwrap_or_default();
-        let sounds = self.sound.map(|sound| sound.finish(self.cut, force)).transpose()?;
+        let sounds = self.sound.map(|sound| sound.finish(self.cut, overwrite)).transpose()?;
         for part in finished.parts.into_iter().chain(sounds.unwrap_or_default()) {
-            part.keep(force)?;
+            part.keep(overwrite)?;
         }
         if let Some(note) = finished.note {
             tell(note);

@@ -1,6 +1,7 @@
 //! A line of progress on standard error, where that is a terminal.
 
-use std::io::{self, IsTerminal, Write};
+use crate::terminal;
+use std::io::{self, Write};
 use std::time::{Duration, Instant};
 
 /// Characters of the bar.
@@ -10,7 +11,8 @@ const PAUSE: Duration = Duration::from_millis(100);
 
 /// The line.
 pub struct Progress {
-    is_shown: bool,
+    /// The columns of the terminal; none where there is none.
+    width: Option<usize>,
     /// When it was written last.
     written: Option<Instant>,
     /// Its length then.
@@ -19,16 +21,17 @@ pub struct Progress {
 
 impl Progress {
     pub fn new() -> Progress {
-        Progress { is_shown: io::stderr().is_terminal(), written: None, length: 0 }
+        Progress { width: terminal::error_width(), written: None, length: 0 }
     }
 
     /// Shows how much of all is done, with a word.
     pub fn show(&mut self, done: usize, all: usize, word: impl FnOnce() -> String) {
         let is_due = self.written.is_none_or(|written| written.elapsed() >= PAUSE);
-        if self.is_shown && is_due {
-            self.write(&format!("{} {}", bar(done, all), word()));
-            self.written = Some(Instant::now());
-        }
+        let Some(width) = self.width.filter(|_| is_due) else { return };
+        let line = format!("{} {}", bar(done, all), word());
+        // A line that fills its row would begin another.
+        self.write(&line.chars().take(width.saturating_sub(1)).collect::<String>());
+        self.written = Some(Instant::now());
     }
 
     /// Takes the line away, before something else is written.

@@ -1,6 +1,7 @@
 //! What `mve info` finds in a film.
 
 use crate::clock::Clock;
+use crate::readings::Readings;
 use crate::refusals::Refused;
 use crate::sound::Format;
 use crate::walk::{Passed, Rules, Walk};
@@ -24,6 +25,8 @@ pub struct Report {
     pub palette_changes: usize,
     /// None where the film plays to its end.
     pub refused: Option<Refused>,
+    /// Of all of the film.
+    pub readings: Readings,
 }
 
 impl Report {
@@ -34,7 +37,8 @@ impl Report {
 
     /// Walks a film to its end. `watch` is told each position.
     pub fn of(film: &[u8], rules: Rules, mut watch: impl FnMut(usize)) -> Report {
-        let mut report = Report { bytes: film.len() as u64, ..Report::default() };
+        let readings = Readings::of(film, rules.stream);
+        let mut report = Report { bytes: film.len() as u64, readings, ..Report::default() };
         report.refused = report.walk(film, rules, &mut watch).err();
         report
     }
@@ -50,12 +54,15 @@ impl Report {
             self.add(&passed, walk.state());
             watch(walk.state().position);
         }
+        if self.size.is_none() {
+            return Err(Refused::without_size(film));
+        }
         Ok(())
     }
 
     fn add(&mut self, passed: &Passed<'_>, after: &State) {
         let Some(opcode) = passed.opcode else { return };
-        self.clock.take(&opcode);
+        self.clock.take(passed.timer);
         self.size = (after.columns > 0).then_some((after.columns, after.rows));
         if passed.sent {
             self.pictures += 1;
@@ -67,6 +74,12 @@ impl Report {
         }
         self.streams |= opcode.streams().unwrap_or(0);
         self.palette_changes += usize::from(opcode.changes_palette());
+    }
+
+    /// Pictures a second, in thousandths; none where there is no picture.
+    pub fn pictures_a_second(&self) -> Option<u64> {
+        let pictures = self.pictures as u64 * 1_000_000_000;
+        (pictures + self.clock.elapsed() / 2).checked_div(self.clock.elapsed())
     }
 
     /// The numbers of the streams that have sound.

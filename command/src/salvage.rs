@@ -2,14 +2,13 @@
 
 use crate::film::{self, Unread};
 use crate::messages::{name, Failure, REFUSED};
-use crate::output::{self, Part};
+use crate::output::{Overwrite, Part};
 use crate::refusals::Refused;
-use crate::{arguments, json, Subcommand};
+use crate::{arguments, Subcommand};
 use clap::{value_parser, Arg, ArgAction, ArgMatches, Command};
 use mve::{Error, LeftOut, Salvaged, Stop, LOSS_NUMBERS};
-use std::fs;
+use serde_json::json;
 use std::io::{self, Write};
-use std::os::unix::fs::MetadataExt;
 use std::path::{Path, PathBuf};
 
 pub const SUBCOMMAND: Subcommand = Subcommand { name: "salvage", describe, run };
@@ -50,7 +49,7 @@ fn describe(command: Command) -> Command {
     command
         .about(ABOUT)
         .long_about(MORE)
-        .arg(arguments::film().value_name("SCRATCHED.mve").help("An Interplay MVE film"))
+        .arg(arguments::film().value_name("SCRATCHED.mve"))
         .arg(output.help("Write the new film there"))
         .arg(flag("json").help("Write JSON: an object"))
         .arg(flag("force").help("Overwrite a file, but never the scratched film"))
@@ -59,15 +58,17 @@ fn describe(command: Command) -> Command {
 fn run(matches: &ArgMatches) -> Result<u8, Failure> {
     let scratched = arguments::film_path(matches);
     let target = arguments::path(matches, "output").unwrap_or(Path::new(""));
-    let force = matches.get_flag("force");
-    check(scratched, target, force)?;
+    let overwrite = Overwrite::new(scratched, matches.get_flag("force"));
+    overwrite.check(target)?;
     let film = film::read(scratched).map_err(|unread| match unread {
         Unread::Failed(error) => Failure::Read(scratched.into(), error),
-        Unread::Refused(refusal, _) => Failure::NoFilm(scratched.into(), Refused::new(refusal, 0)),
+        Unread::Refused(refusal, _) => {
+            Failure::NoFilm(scratched.into(), Refused::at_header(refusal))
+        }
     })?;
     let saved = Saved::of(&film)
-        .map_err(|refusal| Failure::NoFilm(scratched.into(), Refused::new(refusal, 0)))?;
-    write(target, &saved.film, force)?;
+        .map_err(|refusal| Failure::NoFilm(scratched.into(), Refused::at_header(refusal)))?;
+    write(target, &saved.film, &overwrite)?;
     let text = match matches.get_flag("json") {
         true => saved.object(scratched, target) + "\n",
         false => saved.lines(scratched, target),
@@ -76,25 +77,11 @@ fn run(matches: &ArgMatches) -> Result<u8, Failure> {
     Ok(if saved.is_whole() { 0 } else { REFUSED })
 }
 
-/// Sees to it that nothing is overwritten that must not be, before there is anything to write.
-fn check(scratched: &Path, target: &Path, force: bool) -> Result<(), Failure> {
-    if is_same(scratched, target) {
-        return Err(Failure::IsInput(target.into()));
-    }
-    output::check_file(target, force)
-}
-
-/// Whether both names lead to one file, by whatever links.
-fn is_same(one: &Path, other: &Path) -> bool {
-    let file = |path| fs::metadata(path).map(|found| (found.dev(), found.ino()));
-    matches!((file(one), file(other)), (Ok(one), Ok(other)) if one == other)
-}
-
-fn write(target: &Path, film: &[u8], force: bool) -> Result<(), Failure> {
+fn write(target: &Path, film: &[u8], overwrite: &Overwrite) -> Result<(), Failure> {
     let (part, mut file) = Part::file(target)?;
     file.write_all(film).map_err(|error| Failure::write(target, error))?;
     drop(file);
-    part.keep(force)
+    part.keep(overwrite)
 }
 
 /// What is left of a film.
@@ -137,9 +124,10 @@ impl Saved {
         let Salvaged { bytes, stop, header, kept, lost, rest, .. } = self.told;
         let mut text = String::new();
         for LeftOut { position, length, error } in &self.losses {
-            let (number, why) = (error.number(), reason(*error));
-            text +=
-                &format!("left out: chunk at byte {position}, length {length}: {why} ({number})\n");
+            let (number, why) = (error.number(), error.text());
+            text += &format!(
+                "left out: chunk at byte {position}, length {length}: {why} (refusal {number})\n"
+            );
         }
         text += &format!("stopped: {}\n", stop_words(stop));
         let sum = header + kept + lost + rest;
@@ -158,37 +146,23 @@ impl Saved {
 
     fn object(&self, scratched: &Path, target: &Path) -> String {
         let Salvaged { bytes, stop, header, kept, lost, rest, .. } = self.told;
-        let losses = self.losses.iter().map(|loss| {
-            json::object(&[
-                ("byte", loss.position.to_string()),
-                ("length", loss.length.to_string()),
-                ("number", loss.error.number().to_string()),
-                ("words", json::string(reason(loss.error))),
-            ])
+        let left_out = self.losses.iter().map(|LeftOut { position, length, error }| {
+            let (number, words) = (error.number(), error.text());
+            json!({"byte": position, "length": length, "number": number, "words": words})
         });
-        let file = |path: &Path| json::string(&path.to_string_lossy());
-        json::object(&[
-            ("file", file(scratched)),
-            ("bytes", (header + kept + lost + rest).to_string()),
-            ("saved", file(target)),
-            ("saved_bytes", bytes.to_string()),
-            ("left_out", json::array(losses)),
-            ("stop", json::string(stop_name(stop))),
-            ("header", header.to_string()),
-            ("kept", kept.to_string()),
-            ("lost", lost.to_string()),
-            ("rest", rest.to_string()),
-        ])
-    }
-}
-
-/// Why a chunk is left out.
-fn reason(error: Error) -> &'static str {
-    match error {
-        Error::Opcode => "an opcode passes the chunk's end, or bytes follow its last opcode",
-        Error::Type => "the type of an opcode, or its version, is not one of an 8-bit film",
-        Error::BodyLength => "an opcode is longer or shorter than it can be",
-        _ => "a reason that this program does not know",
+        let object = json!({
+            "file": scratched.to_string_lossy(),
+            "bytes": header + kept + lost + rest,
+            "saved": target.to_string_lossy(),
+            "saved_bytes": bytes,
+            "left_out": left_out.collect::<Vec<_>>(),
+            "stop": stop_name(stop),
+            "header": header,
+            "kept": kept,
+            "lost": lost,
+            "rest": rest,
+        });
+        object.to_string()
     }
 }
 
@@ -196,7 +170,9 @@ fn stop_words(stop: Stop) -> &'static str {
     match stop {
         Stop::FilmEnd => "at the end of the film",
         Stop::BehindEnd => "behind the chunk that ends the film",
-        Stop::PastEnd => "where the film breaks off: a chunk or its head passes the end (2)",
+        Stop::PastEnd => {
+            "where the film breaks off: a chunk or its head passes the end (refusal 2)"
+        }
     }
 }
 

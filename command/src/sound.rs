@@ -3,7 +3,7 @@
 use crate::opcodes::Opcode;
 use mve::{Sound, State};
 
-/// A format, as opcode 03 gives it.
+/// A format, as opcode 0x03 gives it.
 #[derive(Clone, Copy, Debug, PartialEq, Eq)]
 pub struct Format {
     /// Samples of a channel in a second.

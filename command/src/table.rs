@@ -1,18 +1,21 @@
 //! Tables of aligned columns.
 
-/// No table is wider.
-pub const WIDTH: usize = 100;
+use crate::terminal::tail;
+
 /// Between two columns.
 const GAP: &str = "  ";
+/// The first column keeps so many characters, however narrow the terminal is.
+const LEAST: usize = 8;
 
-/// A table. The first column is aligned left and is cut where the table would be too wide, the others
-/// right.
-pub fn table<const COLUMNS: usize>(rows: &[[String; COLUMNS]]) -> String {
+/// A table. The first column is aligned left and is cut where the table would be wider than this; the
+/// others are aligned right.
+pub fn table<const COLUMNS: usize>(rows: &[[String; COLUMNS]], widest: Option<usize>) -> String {
     let width =
         |column: usize| rows.iter().map(|row| row[column].chars().count()).max().unwrap_or(0);
     let mut widths: [usize; COLUMNS] = std::array::from_fn(width);
     let others: usize = widths[1..].iter().map(|width| GAP.len() + width).sum();
-    widths[0] = widths[0].min(WIDTH.saturating_sub(others));
+    let room = widest.map_or(usize::MAX, |widest| widest.saturating_sub(others).max(LEAST));
+    widths[0] = widths[0].min(room);
     rows.iter().map(|row| line(row, &widths)).collect()
 }
 
@@ -23,16 +26,6 @@ fn line(row: &[String], widths: &[usize]) -> String {
         line.push_str(&format!("{GAP}{cell:>width$}"));
     }
     line + "\n"
-}
-
-/// The end of a text that is too long: of a path that is what tells films apart.
-fn tail(text: &str, width: usize) -> String {
-    let count = text.chars().count();
-    if count <= width {
-        return text.into();
-    }
-    let kept = text.chars().skip(count + 1 - width);
-    Some('…').into_iter().chain(kept).take(width).collect()
 }
 
 #[cfg(test)]
@@ -46,18 +39,19 @@ mod tests {
     #[test]
     fn aligned() {
         let rows = [row(["FILM", "N", "WHAT"]), row(["é", "100", "a b"])];
-        assert_eq!(table(&rows), "FILM    N  WHAT\né     100   a b\n");
-        assert_eq!(table::<3>(&[]), "");
+        assert_eq!(table(&rows, None), "FILM    N  WHAT\né     100   a b\n");
+        assert_eq!(table::<3>(&[], Some(80)), "");
     }
 
-    /// 100 columns are full: 95 letters, two gaps and a letter in each of the other columns.
+    /// 60 columns are full: 54 letters, two gaps and a letter in each of the other columns. Without a
+    /// terminal nothing is cut, and a narrow one leaves 8 letters.
     #[test]
     fn cut() {
-        let long = "x".repeat(94);
-        let fits = table(&[row([&long, "a", "b"])]);
-        assert_eq!(fits, format!("{long}  a  b\n"));
-        let cut = table(&[row([&format!("yz{long}"), "a", "b"])]);
-        assert_eq!(cut, format!("…{}  a  b\n", &long[..93]));
-        assert_eq!(cut.trim_end().chars().count(), WIDTH);
+        let long = "x".repeat(54);
+        let rows = [row([&format!("yz{long}"), "a", "b"])];
+        assert_eq!(table(&[row([&long, "a", "b"])], Some(60)), format!("{long}  a  b\n"));
+        assert_eq!(table(&rows, Some(60)), format!("…{}  a  b\n", &long[..53]));
+        assert_eq!(table(&rows, None), format!("yz{long}  a  b\n"));
+        assert_eq!(table(&rows, Some(3)), "…xxxxxxx  a  b\n");
     }
 }

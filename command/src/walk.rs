@@ -34,6 +34,10 @@ pub struct Walk<'a> {
 pub struct Passed<'a> {
     /// The opcode; none of a chunk's head.
     pub opcode: Option<Opcode<'a>>,
+    /// Where it stands in the film.
+    pub position: usize,
+    /// The microseconds that pictures stay from now on, where it is a timer.
+    pub timer: Option<u64>,
     /// Whether a picture was sent to the display.
     pub sent: bool,
     /// Bytes of samples; see [`Walk::samples`].
@@ -63,7 +67,7 @@ impl Picture<'_> {
 impl<'a> Walk<'a> {
     /// Opens a film.
     pub fn open(film: &'a [u8], rules: Rules) -> Result<Walk<'a>, Refused> {
-        let state = mve::open(film, rules.stream).map_err(|refusal| Refused::new(refusal, 0))?;
+        let state = mve::open(film, rules.stream).map_err(Refused::at_header)?;
         Ok(Walk {
             film,
             rules,
@@ -97,14 +101,16 @@ impl<'a> Walk<'a> {
         };
         self.state = after;
         let sent = mve::is_sent(&before, &after);
-        Ok(Some(Passed { opcode: Opcode::at(self.film, &before), sent, bytes }))
+        let opcode = Opcode::at(self.film, &before);
+        let timer = mve::timer(self.film, &before);
+        Ok(Some(Passed { opcode, position: before.position, timer, sent, bytes }))
     }
 
     fn step(&mut self, allowed: usize) -> Result<Step, Refused> {
         let Walk { film, rules, state, palette, a, b, place, room, .. } = self;
         let form = rules.form;
         let step = mve::step(film, *state, palette, a, b, place, room, allowed, form);
-        step.map_err(|refusal| Refused::new(refusal, state.position))
+        step.map_err(|refusal| Refused::new(refusal, film, state))
     }
 
     /// The samples of what was passed last.
@@ -114,8 +120,17 @@ impl<'a> Walk<'a> {
 
     /// The picture that is shown; of no pixel before the film has told its size.
     pub fn picture(&self) -> Picture<'_> {
-        let Walk { state, palette, a, b, .. } = self;
-        let [width, height] = [state.columns, state.rows].map(|blocks| 8 * blocks as u16);
+        self.shown_at(&self.state)
+    }
+
+    /// The picture that is drawn on.
+    pub fn drawn(&self) -> Picture<'_> {
+        self.shown_at(&State { front: 1 - self.state.front, ..self.state })
+    }
+
+    fn shown_at(&self, state: &State) -> Picture<'_> {
+        let Walk { palette, a, b, .. } = self;
+        let [width, height] = [state.width() as u16, state.height() as u16];
         Picture { width, height, pixels: mve::shown(state, a, b), palette }
     }
 

@@ -24,14 +24,22 @@ fn help_and_version() {
         let expected = format!("mve {} (MVE_VERSION {})\n", env!("CARGO_PKG_VERSION"), interface());
         assert_eq!(ran.text(), expected);
     }
-    let all: [(&[&str], &[&str]); 8] = [
-        (&["--help"], &["info", "play", "why", "blocks", "salvage", "--version"]),
+    let all: [(&[&str], &[&str]); 10] = [
+        (
+            &["--help"],
+            &["info", "list", "play", "why", "blocks", "salvage", "completions", "--version"],
+        ),
         (&["-h"], &["info", "play"]),
-        (&["info", "--help"], &["opcode 02", "rate times its subdivision", "--json", "--strict"]),
+        (&["info", "--help"], &["opcode 0x02", "rate times its subdivision", "--json", "--strict"]),
         (&["play", "--help"], &["BT.601", "4:4:4", "(v << 2) | (v >> 4)", "--stops", "1/100 s"]),
         (&["help", "play"], &["--partial", "--force", "--sound", "--stream", "--from"]),
-        (&["help", "why"], &["<FILM> <PICTURE> <X> <Y>", "ORIGIN", "counted from 0"]),
+        (
+            &["help", "why"],
+            &["<FILM> <PICTURE> <X> <Y>", "--page <OUT.html>", "ORIGIN", "counted from 0"],
+        ),
         (&["help", "blocks"], &["OUT.png", "--force", "  E  one colour"]),
+        (&["help", "list"], &["hex", "VERSION", "- is standard input"]),
+        (&["help", "completions"], &["bash", "zsh", "fish"]),
         (&["help", "salvage"], &["SAVED.mve", "--json", "--force", "is never overwritten"]),
     ];
     for (words, expected) in all {
@@ -49,9 +57,9 @@ fn help_and_version() {
 #[test]
 fn wrong_use() {
     let folder = with_film("wrong", &demo::beginning(2).bytes());
-    let cases: [(&[&str], &str); 20] = [
+    let cases: [(&[&str], &str); 22] = [
         (&[], "Usage: mve <COMMAND>"),
-        (&["list"], "'list' wasn't recognized"),
+        (&["watch"], "'watch' wasn't recognized"),
         (&["info"], "<FILM>"),
         (&["info", "--loud", "film.mve"], "'--loud'"),
         (&["info", "--stream", "16", "film.mve"], "16 is not in 0..=15"),
@@ -65,12 +73,14 @@ fn wrong_use() {
         ),
         (&["play", "film.mve", "-o", ""], "give a name"),
         (&["play", "film.mve", "-o", "x.png"], "PNG pictures go to a folder"),
-        (&["play", "film.mve", "--sound", "x.mp3"], "give a name that ends in .wav"),
-        (&["play", "film.mve", "--sound", "wav"], "give a name that ends in .wav"),
+        (&["play", "film.mve", "--sound", "x.mp3"], "give a name that ends in .wav, or give -"),
+        (&["play", "film.mve", "--sound", "wav"], "give a name that ends in .wav, or give -"),
         (&["play", "film.mve", "-o", "x.gif", "--stops", "0"], "give a number, 1 or more"),
         (&["play", "film.mve", "-o", "x.gif", "--pictures", "0"], "give a number, 1 or more"),
         (&["play", "film.mve", "-o", "x.gif", "--from", "-1"], "'-1'"),
         (&["play", "film.mve", "-o", "x.gif", "--stream", "16"], "16 is not in 0..=15"),
+        (&["play", "film.mve", "-o", "-", "--sound", "-"], "pictures or sound, not both"),
+        (&["completions", "cmd"], "'cmd'"),
         (&["salvage", "film.mve"], "--output <SAVED.mve>"),
         (&["salvage", "-o", "x.mve"], "<SCRATCHED.mve>"),
     ];

@@ -9,6 +9,7 @@ use maker::film::{Chunk, Film, Opcode};
 use maker::film_damage::{self, Damage};
 use maker::sound_damage::{self, Damage as SoundDamage};
 use maker::{demo, film, sound, Seeded, Size};
+use reference::Refusal;
 use std::collections::BTreeSet;
 use std::fs::{self, File};
 use std::process::{Command, Stdio};
@@ -18,7 +19,7 @@ const DEMO: &str = "\
 film.mve
   size      128x96 pixels, 16x12 blocks
   pictures  40 sent
-  duration  4.000 s by the timer
+  duration  4.000 s by the timer, 10.000 pictures a second
   sound     22050 Hz mono 16-bit uncompressed; stream 0
   palette   10 changes
   bytes     194987
@@ -47,22 +48,22 @@ fn many_films() {
     let lines: Vec<_> = ran.text().lines().collect();
     let [heads, plays, refused, text, no, "", below @ ..] = &lines[..] else { panic!("{lines:?}") };
     for line in [heads, plays, refused, text, no] {
-        assert_eq!(line.chars().count(), 100, "{line}");
+        assert_eq!(line.chars().count(), refused.chars().count(), "{line}");
     }
     let words =
         |line: &str| line.split_whitespace().map(String::from).collect::<Vec<_>>().join(" ");
     assert_eq!(words(heads), "FILM SIZE BLOCKS SENT SECONDS SOUND PALETTE BYTES RESULT");
     assert_eq!(words(plays), format!("film.mve 128x96 16x12 3 0.30 22050 1x16 0 4 {length} plays"));
-    assert!(refused.starts_with('…') && refused.ends_with("refused 2"), "{refused}");
-    assert_eq!(words(text), "text.mve - - 0 0.00 - 0 9 refused 1");
+    assert!(refused.starts_with(&name) && refused.ends_with("  refusal 2"), "{refused}");
+    assert_eq!(words(text), "text.mve - - 0 0.00 - 0 9 refusal 1");
     assert_eq!(words(no), "no.mve - - - - - - - not read");
     // The last chunk is 8 bytes: a head, and a 00.
     let at = length - 8;
     let expected = [
-        format!("{name}: refused by number 2 at byte {at}"),
-        "    The film breaks off: the file ends before the chunk that begins here.".into(),
-        "text.mve: refused by number 1 at byte 0".into(),
-        "    The file does not begin as an Interplay MVE film does.".into(),
+        format!("{name}: refusal 2 at byte {at}"),
+        "    the film breaks off inside the head of this chunk".into(),
+        "text.mve: refusal 1 at byte 0".into(),
+        "    the film does not begin with the header of an MVE film".into(),
     ];
     assert_eq!(below, expected);
 }
@@ -101,9 +102,12 @@ fn json_of_the_demonstration() {
     assert_eq!(ran.code, Some(2));
     let expected = format!(
         r#"[{{"file": "film.mve", "bytes": {}, "size": {{"width": 128, "height": 96, "columns": 16,
-        "rows": 12}}, "pictures": 40, "duration_us": 4000000, "timer_assumed": false, "sound":
+        "rows": 12}}, "pictures": 40, "duration_us": 4000000, "pictures_a_second": 10.0,
+        "timer_assumed": false, "sound":
         [{{"rate": 22050, "channels": 1, "bits": 16, "compressed": false}}], "streams": [0], "stream":
-        0, "palette_changes": 10, "plays": true, "refused": null}},
+        0, "palette_changes": 10, "plays": true, "refused": null, "readings": {{"sound_packets": 40,
+        "left_over": {{"none": 40, "one": 0, "more": 0, "most": 0}}, "not_sent": 0, "sound":
+        {{"first_samples": 40, "every_samples": 40, "first_bytes": 0, "every_bytes": 0}}}}}},
         {{"file": "n\"o", "error": "No such file or directory"}}]"#,
         film.len()
     );
@@ -119,12 +123,14 @@ fn assert_found(found: &Json, film: &[u8], stream: usize, case: &str) -> Option<
     assert_eq!(number("duration_us"), Json::number(second.duration as usize), "{case}");
     assert_eq!(number("palette_changes"), Json::number(second.palette_changes), "{case}");
     assert_eq!(found["timer_assumed"], Json::Bool(second.assumed), "{case}");
-    assert_eq!(found["plays"], Json::Bool(second.refused.is_none()), "{case}");
+    let unsized_film = (Refusal { number: 21, block: 0 }, film.len());
+    let refused = second.refused.or(second.size.is_none().then_some(unsized_film));
+    assert_eq!(found["plays"], Json::Bool(refused.is_none()), "{case}");
     let streams: Vec<_> = second.streams.iter().map(|&stream| Json::number(stream)).collect();
     assert_eq!(found["streams"], Json::Array(streams), "{case}");
     assert_size(&found["size"], second.size, case);
     assert_formats(&found["sound"], &second.formats, case);
-    let Some((refusal, position)) = second.refused else {
+    let Some((refusal, position)) = refused else {
         assert_eq!(found["refused"], Json::Null, "{case}");
         return None;
     };
@@ -187,7 +193,8 @@ fn is_clear(film: &[u8], stream: usize) -> bool {
 fn good_films() {
     let rng = &mut Seeded::new(20);
     let films: Vec<_> = (0..150).map(|_| sound::valid(rng, 3).bytes()).collect();
-    assert_eq!(assert_films("good", 3, &films), BTreeSet::new());
+    // Some have no size, and so none that plays.
+    assert!(assert_films("good", 3, &films).iter().all(|&number| number == 21));
 }
 
 #[test]
@@ -202,7 +209,7 @@ fn damaged_films() {
     }
     films.retain(|film| is_clear(film, 3));
     let numbers = assert_films("damaged", 3, &films);
-    assert_eq!(numbers, [1, 2, 3, 4, 5, 6, 7, 9, 10, 12, 13, 14, 17, 18].into());
+    assert_eq!(numbers, [1, 2, 3, 4, 5, 6, 7, 9, 10, 12, 13, 14, 17, 18, 21].into());
 }
 
 /// Rate and subdivision of a timer.
@@ -228,12 +235,19 @@ fn durations() {
     let (usual, tenth) = (Some((8341, 8)), Some((50_000, 2)));
     let cases: [(&[Timer], &str); 7] = [
         (&[], "0.000 s by the timer"),
-        (&[usual], "0.067 s by the timer"),
-        (&[usual, None, None], "0.200 s by the timer"), // 200,184 us
-        (&[tenth, usual, None], "0.233 s by the timer"), // 233,456 us
-        (&[tenth, Some((0, 9)), Some((600_000_001, 1))], "0.300 s by the timer"),
-        (&[Some((60_000_000, 10)), None], "1200.000 s by the timer"),
-        (&[None, tenth], "0.167 s by the usual timer, as it has none at first"), // 166,728 us
+        (&[usual], "0.067 s by the timer, 14.986 pictures a second"),
+        (&[usual, None, None], "0.200 s by the timer, 14.986 pictures a second"), // 200,184 us
+        (&[tenth, usual, None], "0.233 s by the timer, 12.850 pictures a second"), // 233,456 us
+        (
+            &[tenth, Some((0, 9)), Some((600_000_001, 1))],
+            "0.300 s by the timer, 10.000 pictures a second",
+        ),
+        (&[Some((60_000_000, 10)), None], "1200.000 s by the timer, 0.002 pictures a second"),
+        // 166,728 us
+        (
+            &[None, tenth],
+            "0.167 s by the usual timer, as it has none at first, 11.996 pictures a second",
+        ),
     ];
     for (timers, duration) in cases {
         let folder = with_film("durations", &timed(timers));
@@ -283,10 +297,16 @@ fn piped() {
     let folder = with_film("piped", &film);
     let mut command = Command::new("sh");
     let program = common::program();
-    command.args(["-c", "cat film.mve | \"$0\" info --json /dev/stdin"]).arg(program);
+    command.args(["-c", "cat film.mve | \"$0\" info --json -"]).arg(program);
     let ran = run(&folder, command);
     ran.assert_silent();
     assert_eq!(assert_found(&json(&ran).items()[0], &film, 0, "piped"), None);
+
+    let mut command = Command::new("sh");
+    command.args(["-c", "\"$0\" info - <film.mve"]).arg(common::program());
+    let ran = run(&folder, command);
+    ran.assert_silent();
+    assert!(ran.text().starts_with("standard input\n  size      128x96 pixels"), "{}", ran.text());
 }
 
 /// Whoever reads the output may go: nothing is said. 400 films are more text than a pipe holds.
@@ -329,7 +349,7 @@ fn strict() {
             assert_eq!((ran.code, &*ran.err), (Some(i32::from(number.is_some())), ""), "{bytes}");
             let result = match number {
                 None => "  pictures  1 sent\n",
-                Some(_) => "  result    refused by number 15 at byte 43\n",
+                Some(_) => "  result    does not play: refusal 15 at byte 43\n",
             };
             assert!(ran.text().contains(result), "{bytes} {options:?}: {}", ran.text());
         }
@@ -348,22 +368,25 @@ fn blocks() {
     let chunks = vec![Chunk { kind: 3, opcodes, ..Chunk::default() }];
     let film = Film { size, stream: 16, chunks, tail: Vec::new() }.bytes();
     let ran = mve(&with_film("blocks", &film), &["info", "film.mve"]);
-    let result = "  result    refused by number 12 at byte 43, block 1\n            \
-                  The block has code 6, which 8-bit films do not use.\n";
+    let result = "  result    does not play: refusal 12 at byte 43, block 1\n            \
+                  the block has code 6, which 8-bit films do not have\n";
     assert_eq!((ran.code, &*ran.err), (Some(1), ""));
-    assert!(ran.text().ends_with(result), "{}", ran.text());
+    assert!(ran.text().contains(result), "{}", ran.text());
 }
 
-/// A film of no picture, but one change of the palette.
+/// A film of no picture and no size, but one change of the palette: it does not play.
 #[test]
 fn one_change() {
     let opcodes = vec![Opcode::new(0x0C, 0, vec![0; 4])];
     let chunks = vec![Chunk { kind: 2, opcodes, ..Chunk::default() }];
     let film = Film { size: Size::new(1, 1), stream: 16, chunks, tail: Vec::new() }.bytes();
     let ran = mve(&with_film("one_change", &film), &["info", "film.mve"]);
-    ran.assert_silent();
-    let expected = "film.mve\n  size      not told\n  pictures  0 sent\n  duration  0.000 s by the timer\n  \
-                    sound     none\n  palette   1 change\n  bytes     38\n  result    plays to its end\n";
+    assert_eq!((ran.code, &*ran.err), (Some(1), ""));
+    let expected =
+        "film.mve\n  size      not told\n  pictures  0 sent\n  duration  0.000 s by the timer\n  \
+                    sound     none\n  palette   1 change\n  bytes     38\n  \
+                    result    does not play: refusal 21 at byte 38\n            \
+                    the film ends without a frame size\n";
     assert_eq!(ran.text(), expected);
 }
 

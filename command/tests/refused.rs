@@ -20,8 +20,8 @@ fn message(film: &[u8], block: usize, end: &str) -> String {
     let (refusal, byte) = Second::of(film, 0).refused.expect("a refused film");
     assert_eq!((refusal.number, refusal.block), (12, block));
     format!(
-        "mve: film.mve: refused by number 12 at byte {byte}, block {block}: \
-         The block has code 6, which 8-bit films do not use. {end}\n"
+        "mve: film.mve: refusal 12 at byte {byte}, block {block}: \
+         the block has code 6, which 8-bit films do not have. {end}\n"
     )
 }
 
@@ -35,6 +35,29 @@ fn nothing_left() {
         let ran = mve(&folder, &["play", "film.mve", "-o", output, "--sound", "out.wav"]);
         assert_eq!((ran.code, &*ran.err), (Some(1), &*message(&film, block, end)), "{output}");
         assert_eq!(names(&folder), ["film.mve"], "{output}");
+    }
+}
+
+/// --partial is offered only where something comes before that was asked for. The broken picture is the
+/// fourth, and its sound comes before its packet.
+#[test]
+fn nothing_before() {
+    let (film, _) = broken();
+    let folder = with_film("nothing_before", &film);
+    let (offered, nothing) =
+        ("; --partial keeps what comes before it.\n", " Nothing comes before it.\n");
+    let cases: [(&[&str], &str); 5] = [
+        (&["-o", "out.gif"], offered),
+        (&["-o", "out.gif", "--from", "3"], nothing),
+        (&["-o", "out.gif", "--from", "3", "--sound", "out.wav"], offered),
+        (&["--sound", "out.wav"], offered),
+        (&["--sound", "out.wav", "--stream", "5", "--from", "3"], offered), // silence is sound, too
+    ];
+    for (words, end) in cases {
+        let ran = mve(&folder, &[&["play", "film.mve"], words].concat());
+        assert_eq!(ran.code, Some(1), "{words:?}");
+        assert!(ran.err.ends_with(end), "{words:?}: {}", ran.err);
+        assert_eq!(names(&folder), ["film.mve"]);
     }
 }
 
@@ -96,8 +119,9 @@ fn behind_the_wanted() {
 fn no_picture() {
     let folder = with_film("no_picture_before", b"RIFF....AVI LIST");
     let ran = mve(&folder, &["play", "film.mve", "-o", "out.gif", "--partial"]);
-    let message = "mve: film.mve: refused by number 1 at byte 0: \
-                   The file does not begin as an Interplay MVE film does. No picture is written.\n";
+    let message =
+        "mve: film.mve: refusal 1 at byte 0: the film does not begin with the header of an \
+                   MVE film. No picture is written.\n";
     assert_eq!((ran.code, &*ran.err), (Some(1), message));
     assert_eq!(names(&folder), ["film.mve"]);
 
@@ -127,8 +151,7 @@ fn damaged() {
             12..=14 => format!(", block {}", refusal.block),
             _ => String::new(),
         };
-        let begin =
-            format!("mve: film.mve: refused by number {} at byte {byte}{block}: ", refusal.number);
+        let begin = format!("mve: film.mve: refusal {} at byte {byte}{block}: ", refusal.number);
         assert!(ran.code == Some(1) && ran.err.starts_with(&begin), "{damage:?}: {ran:?}");
         let pictures = files(&folder).into_keys().filter(|name| name.ends_with(".png")).count();
         assert_eq!(pictures, second.sent.len(), "{damage:?}");

@@ -61,17 +61,17 @@ impl Expected {
         let mut text = String::new();
         for (position, length, number) in &self.losses {
             let why = match number {
-                3 => "an opcode passes the chunk's end, or bytes follow its last opcode",
-                4 => "the type of an opcode, or its version, is not one of an 8-bit film",
-                _ => "an opcode is longer or shorter than it can be",
+                3 => "an opcode or its head passes its chunk, or bytes follow the chunk's last opcode",
+                4 => "this type or version of opcode is not one of an 8-bit film",
+                _ => "the opcode's body has a wrong length",
             };
-            text +=
-                &format!("left out: chunk at byte {position}, length {length}: {why} ({number})\n");
+            let chunk = format!("chunk at byte {position}, length {length}");
+            text += &format!("left out: {chunk}: {why} (refusal {number})\n");
         }
         text += match self.stop {
             "film_end" => "stopped: at the end of the film\n",
             "behind_end" => "stopped: behind the chunk that ends the film\n",
-            _ => "stopped: where the film breaks off: a chunk or its head passes the end (2)\n",
+            _ => "stopped: where the film breaks off: a chunk or its head passes the end (refusal 2)\n",
         };
         let [header, kept, lost, rest] = self.sums;
         text += &format!("{header:>12} header\n{kept:>12} chunks kept, with their heads\n");
@@ -179,12 +179,12 @@ fn plays_as_far_as_its_packets_go() {
         ran.err
     };
     let message = play("film.mve", " The picture before it is written.\n");
-    assert!(message.starts_with("mve: film.mve: refused by number 4 "), "{message}");
+    assert!(message.starts_with("mve: film.mve: refusal 4 "), "{message}");
     let ran = mve(&folder, &SALVAGE);
     assert_eq!((ran.code, &*ran.err), (Some(1), ""));
     assert_eq!(ran.text().lines().filter(|line| line.starts_with("left out: ")).count(), 1);
     let message = play("saved.mve", " The 3 pictures before it are written.\n");
-    assert!(message.starts_with("mve: saved.mve: refused by number 12 "), "{message}");
+    assert!(message.starts_with("mve: saved.mve: refusal 12 "), "{message}");
 }
 
 /// More chunks are left out than the list has room for at first.
@@ -222,8 +222,7 @@ fn overwriting() {
         for force in [&[][..], &["--force"]] {
             let words = [&["salvage", input, "-o", output], force].concat();
             let ran = mve(&folder, &words);
-            let message =
-                format!("mve: {output}: is the scratched film itself: give another name\n");
+            let message = format!("mve: {output}: is the film itself: give another name\n");
             assert_eq!((ran.code, ran.err), (Some(2), message), "{words:?}");
             assert!(ran.out.is_empty(), "{words:?}");
             assert!(files(&folder)["film.mve"] == film && names(&folder) == before, "{words:?}");
@@ -249,8 +248,8 @@ fn not_read() {
         fs::write(folder.join("film.mve"), text).expect("a file");
         let ran = mve(&folder, &SALVAGE);
         let message =
-            "mve: film.mve: refused by number 1 at byte 0: The file does not begin as an \
-                       Interplay MVE film does. Nothing is written.\n";
+            "mve: film.mve: refusal 1 at byte 0: the film does not begin with the header \
+                       of an MVE film. Nothing is written.\n";
         assert_eq!((ran.code, &*ran.err, ran.text()), (Some(2), message, ""));
         assert_eq!(names(&folder), ["film.mve"]);
     }

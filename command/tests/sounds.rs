@@ -193,7 +193,7 @@ fn passed_over() {
     for more in [&["--stream", "0"][..], &["--sound", "out.wav"]] {
         let ran = mve(&folder, &[&["play", "film.mve", "-o", "two.gif"], more].concat());
         assert_eq!(ran.code, Some(1), "{more:?}");
-        assert!(ran.err.starts_with("mve: film.mve: refused by number 17 at byte "), "{}", ran.err);
+        assert!(ran.err.starts_with("mve: film.mve: refusal 17 at byte "), "{}", ran.err);
         assert_eq!(names(&folder), ["film.mve", "out.gif"]);
     }
 }

@@ -5,17 +5,23 @@ mod common;
 
 use common::{names, program, run, say, with_film, Ran};
 use maker::demo;
+use std::fs;
 use std::path::Path;
 use std::process::Command;
 
 /// Runs the command on a terminal; what it shows is standard output then.
 fn on_terminal(folder: &Path, words: &str) -> Option<Ran> {
+    on_terminal_after(folder, "", words)
+}
+
+/// The same behind these words of a shell.
+fn on_terminal_after(folder: &Path, before: &str, words: &str) -> Option<Ran> {
     if Command::new("script").arg("--version").output().is_err() {
         say("script is not there (Debian: bsdutils): progress on a terminal is not tested");
         return None;
     }
     let mut command = Command::new("script");
-    let line = format!("'{}' {words}", program().display());
+    let line = format!("{before} '{}' {words}", program().display());
     command.args(["-q", "-e", "-c", &line, "/dev/null"]);
     Some(run(folder, command))
 }
@@ -40,11 +46,32 @@ fn progress() {
     assert!(ran.text().starts_with("\r[") && ran.text().contains(" pictures\r") && is_blank);
 }
 
-/// Pictures as bytes are not for a terminal.
+/// Pictures and sound as bytes are not for a terminal.
 #[test]
-fn pictures_on_a_terminal() {
+fn bytes_on_a_terminal() {
     let folder = with_film("on_terminal", &demo::beginning(3).bytes());
-    let Some(ran) = on_terminal(&folder, "play film.mve -o -") else { return };
-    let message = "mve: Y4M is not for a terminal: send it to a player (| ffplay -) or a file\r\n";
-    assert_eq!((ran.code, ran.text()), (Some(2), message));
+    for (option, what) in [("-o", "Y4M"), ("--sound", "WAV")] {
+        let Some(ran) = on_terminal(&folder, &format!("play film.mve {option} -")) else { return };
+        let message = "is not for a terminal: send it to a player (| ffplay -) or a file";
+        assert_eq!((ran.code, ran.text()), (Some(2), &*format!("mve: {what} {message}\r\n")));
+    }
+}
+
+/// The names of films are cut where the terminal ends: by the width that it tells, or by COLUMNS.
+#[test]
+fn widths() {
+    let folder = with_film("widths", &demo::beginning(1).bytes());
+    let name = format!("{}.mve", "long".repeat(30));
+    fs::copy(folder.join("film.mve"), folder.join(&name)).expect("a film");
+    let words = format!("info {name} film.mve");
+    let told = on_terminal_after(&folder, "stty cols 90;", &words);
+    let given = on_terminal_after(&folder, "COLUMNS=110", &words);
+    for (ran, width) in [(told, 90), (given, 110)] {
+        let Some(ran) = ran else { return };
+        assert_eq!(ran.code, Some(0));
+        let table = ran.text().split("FILM").nth(1).expect("a table");
+        let lines: Vec<_> = table.lines().skip(1).take(2).map(|line| line.trim_end()).collect();
+        assert!(lines.iter().all(|line| line.chars().count() == width), "{width}: {lines:?}");
+        assert!(lines[0].starts_with('…') && lines[1].starts_with("film.mve "), "{lines:?}");
+    }
 }

@@ -40,7 +40,7 @@ static void tell_end(void) {
         text_line("ended, pictures ", kept_record()->sent);
         return;
     }
-    text("refused ");
+    text("refusal ");
     text_number(answer.number);
     if (mve_is_of_block(answer.number)) {
         text(" in block ");

@@ -1,6 +1,7 @@
 //! What a film is played to.
 
 mod gif;
+mod overwrite;
 mod part;
 mod png;
 mod wav;
@@ -8,11 +9,12 @@ mod y4m;
 
 use crate::messages::Failure;
 use crate::walk::Picture;
+pub use overwrite::Overwrite;
 pub use part::Part;
 pub use png::write_canvas as write_png;
 use std::ffi::OsStr;
 use std::io::{self, IsTerminal};
-use std::path::{Path, PathBuf};
+use std::path::PathBuf;
 pub use wav::{Cut, Wav};
 
 /// Where pictures go, by the ending of a name.
@@ -64,12 +66,12 @@ impl Output {
     }
 
     /// Sees to it that nothing is overwritten that must not be, before there is anything to write.
-    pub fn check(&self, force: bool) -> Result<(), Failure> {
+    pub fn check(&self, overwrite: &Overwrite) -> Result<(), Failure> {
         match self {
-            Output::Folder(path) if path.is_dir() && !force => png::check(path),
+            Output::Folder(path) if path.is_dir() && !overwrite.force => png::check(path),
             Output::Folder(path) if path.is_file() => Err(Failure::IsFile(path.into())),
-            Output::Gif(path) | Output::Y4m(path) => check_file(path, force),
-            Output::Standard if io::stdout().is_terminal() => Err(Failure::Terminal),
+            Output::Gif(path) | Output::Y4m(path) => overwrite.check(path),
+            Output::Standard if io::stdout().is_terminal() => Err(Failure::Terminal("Y4M")),
             _ => Ok(()),
         }
     }
@@ -82,14 +84,5 @@ impl Output {
             Output::Y4m(path) => Box::new(y4m::Y4m::begin(path)?),
             Output::Standard => Box::new(y4m::Y4m::standard()),
         })
-    }
-}
-
-/// Sees to it that there is no such file, unless it may be overwritten, and no such folder.
-pub fn check_file(path: &Path, force: bool) -> Result<(), Failure> {
-    match path.symlink_metadata() {
-        Ok(found) if found.is_dir() => Err(Failure::IsFolder(path.into())),
-        Ok(_) if !force => Err(Failure::Exists(path.into())),
-        _ => Ok(()),
     }
 }

@@ -1,13 +1,15 @@
 //! Files and folders that have a temporary name until they are complete.
 
+use super::Overwrite;
 use crate::messages::Failure;
+use crate::signals::{self, Held};
 use std::ffi::OsString;
 use std::fs::{self, DirBuilder, File};
-use std::io::{self, ErrorKind};
+use std::io::{self, ErrorKind, Write};
 use std::path::{Path, PathBuf};
 use std::process;
 
-/// A file or folder that is being written. It is removed unless it is kept.
+/// A file or folder that is being written. It is removed unless it is kept, also by a signal.
 #[derive(Debug)]
 pub struct Part {
     temporary: PathBuf,
@@ -20,9 +22,8 @@ pub struct Part {
 impl Part {
     /// A new file, which is to be at the target.
     pub fn file(target: &Path) -> Result<(Part, File), Failure> {
-        let create =
-            |path: &Path| File::options().read(true).write(true).create_new(true).open(path);
-        let made = made(&beside(target), create).map_err(|error| Failure::write(target, error))?;
+        let made =
+            made(&beside(target), new_file).map_err(|error| Failure::write(target, error))?;
         let (temporary, file) = made;
         Ok((Part { temporary, target: target.into(), joins: false }, file))
     }
@@ -36,20 +37,28 @@ impl Part {
         Ok(Part { temporary, target: target.into(), joins })
     }
 
-    /// Of a folder: the place of a file in it.
-    pub fn inside(&self, name: &str) -> PathBuf {
-        self.temporary.join(name)
+    /// A new file in a folder.
+    pub fn inside(&self, name: &str) -> io::Result<File> {
+        let _held = signals::hold(); // a folder that is being removed gets no file
+        new_file(&self.temporary.join(name))
     }
 
-    /// Gives it its own name. Only with `force` in place of another file.
-    pub fn keep(self, force: bool) -> Result<(), Failure> {
+    /// Of a file: sends what is in it, and keeps nothing.
+    pub fn send(&self, mut to: impl Write) -> io::Result<()> {
+        io::copy(&mut File::open(&self.temporary)?, &mut to)?;
+        to.flush()
+    }
+
+    /// Gives it its own name, unless something may not be overwritten.
+    pub fn keep(self, overwrite: &Overwrite) -> Result<(), Failure> {
+        let held = signals::hold();
         if !self.joins {
-            return keep(&self.temporary, &self.target, force);
+            return keep(&held, &self.temporary, &self.target, overwrite);
         }
         let failed = |error| Failure::write(&self.target, error);
         for entry in fs::read_dir(&self.temporary).map_err(failed)? {
             let entry = entry.map_err(failed)?;
-            keep(&entry.path(), &self.target.join(entry.file_name()), force)?;
+            keep(&held, &entry.path(), &self.target.join(entry.file_name()), overwrite)?;
         }
         Ok(())
     }
@@ -57,16 +66,17 @@ impl Part {
 
 impl Drop for Part {
     fn drop(&mut self) {
-        // What was kept is not there any longer.
-        let _ = fs::remove_file(&self.temporary).or_else(|_| fs::remove_dir_all(&self.temporary));
+        signals::hold().remove(&self.temporary);
     }
 }
 
-fn keep(temporary: &Path, target: &Path, force: bool) -> Result<(), Failure> {
-    if !force && target.symlink_metadata().is_ok() {
-        return Err(Failure::Exists(target.into()));
-    }
+fn keep(_: &Held, temporary: &Path, target: &Path, overwrite: &Overwrite) -> Result<(), Failure> {
+    overwrite.check(target)?;
     fs::rename(temporary, target).map_err(|error| Failure::write(target, error))
+}
+
+fn new_file(path: &Path) -> io::Result<File> {
+    File::options().read(true).write(true).create_new(true).open(path)
 }
 
 /// A hidden name in the folder of the target.
@@ -82,9 +92,15 @@ fn made<T>(like: &Path, make: impl Fn(&Path) -> io::Result<T>) -> io::Result<(Pa
     loop {
         let mut path = OsString::from(like);
         path.push(format!(".{}-{number}.part", process::id()));
-        match make(Path::new(&path)) {
+        let path = PathBuf::from(path);
+        let mut held = signals::hold();
+        match make(&path) {
             Err(error) if error.kind() == ErrorKind::AlreadyExists => number += 1,
-            made => return made.map(|made| (path.into(), made)),
+            Err(error) => return Err(error),
+            Ok(made) => {
+                held.add(&path);
+                return Ok((path, made));
+            }
         }
     }
 }

@@ -1,6 +1,6 @@
 //! PNG pictures in a folder: their indices and their palette as in the film.
 
-use super::{Finished, Part, Pictures};
+use super::{Finished, Overwrite, Part, Pictures};
 use crate::canvas::Canvas;
 use crate::colours::widened;
 use crate::messages::Failure;
@@ -24,7 +24,8 @@ impl Png {
 impl Pictures for Png {
     fn add(&mut self, number: usize, picture: &Picture<'_>, _: u32) -> Result<(), Failure> {
         let name = format!("{number:06}.png");
-        let written = write(&self.part.inside(&name), picture);
+        let file = self.part.inside(&name).map_err(EncodingError::from);
+        let written = file.and_then(|file| write(file, picture));
         written.map_err(|error| Failure::write(&self.part.target.join(name), error.into()))
     }
 
@@ -33,8 +34,8 @@ impl Pictures for Png {
     }
 }
 
-fn write(path: &Path, picture: &Picture<'_>) -> Result<(), EncodingError> {
-    let mut file = BufWriter::new(File::create_new(path)?);
+fn write(file: File, picture: &Picture<'_>) -> Result<(), EncodingError> {
+    let mut file = BufWriter::new(file);
     let mut encoder = Encoder::new(&mut file, picture.width.into(), picture.height.into());
     encoder.set_color(ColorType::Indexed);
     encoder.set_depth(BitDepth::Eight);
@@ -47,10 +48,10 @@ fn write(path: &Path, picture: &Picture<'_>) -> Result<(), EncodingError> {
 }
 
 /// Writes one picture of red, green and blue, under a temporary name until it is complete.
-pub fn write_canvas(target: &Path, canvas: &Canvas, force: bool) -> Result<(), Failure> {
+pub fn write_canvas(target: &Path, canvas: &Canvas, overwrite: &Overwrite) -> Result<(), Failure> {
     let (part, file) = Part::file(target)?;
     encode(file, canvas).map_err(|error| Failure::write(target, error.into()))?;
-    part.keep(force)
+    part.keep(overwrite)
 }
 
 fn encode(file: File, canvas: &Canvas) -> Result<(), EncodingError> {

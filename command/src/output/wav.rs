@@ -1,8 +1,10 @@
 //! WAV files. A file has one format, so where the film's changes the next file begins.
 
-use super::{check_file, Part};
+use super::{Overwrite, Part};
+use crate::film::STANDARD;
 use crate::messages::Failure;
 use crate::sound::Format;
+use std::env;
 use std::fs::File;
 use std::io::{self, BufWriter, Read, Seek, SeekFrom, Write};
 use std::ops::Range;
@@ -16,6 +18,7 @@ const SECOND: u64 = 1_000_000;
 
 /// The sound of a film.
 pub struct Wav {
+    /// A file, or [`STANDARD`].
     target: PathBuf,
     /// Of the next samples.
     format: Option<Format>,
@@ -53,7 +56,11 @@ impl Wav {
         let Some(format) = self.format.filter(|_| !samples.is_empty()) else { return Ok(()) };
         let goes_on = self.recordings.last().is_some_and(|last| last.has_header_of(&format));
         if !goes_on {
-            self.recordings.push(Recording::begin(&self.target, format)?);
+            // What goes to standard output is complete before its first byte goes: its header, which is in
+            // front, has the length.
+            let standard = || env::temp_dir().join("mve.wav");
+            let target = if self.is_standard() { standard() } else { self.target.clone() };
+            self.recordings.push(Recording::begin(&target, format)?);
         }
         let Some(last) = self.recordings.last_mut() else { return Ok(()) };
         last.bytes += samples.len() as u64;
@@ -74,10 +81,10 @@ impl Wav {
     }
 
     /// Completes the files of what is wanted. Where that is nothing, one is empty.
-    pub fn finish(self, cut: Cut, force: bool) -> Result<Vec<Part>, Failure> {
+    pub fn finish(self, cut: Cut, overwrite: &Overwrite) -> Result<Vec<Part>, Failure> {
+        let (is_standard, count) = (self.is_standard(), self.recordings.len());
         let mut start = 0;
         let mut parts = Vec::new();
-        let count = self.recordings.len();
         for (number, recording) in self.recordings.into_iter().enumerate() {
             let wanted = recording.wanted(start, cut);
             start += recording.duration();
@@ -85,10 +92,22 @@ impl Wav {
                 continue;
             }
             let target = numbered(&self.target, parts.len());
-            check_file(&target, force)?;
+            if !is_standard {
+                overwrite.check(&target)?;
+            }
             parts.push(recording.finish(wanted, target)?);
         }
-        Ok(parts)
+        match &parts[..] {
+            [only] if is_standard => {
+                only.send(io::stdout()).map_err(Failure::standard_output).map(|()| Vec::new())
+            }
+            [_, _, ..] if is_standard => Err(Failure::ManyFormats),
+            _ => Ok(parts),
+        }
+    }
+
+    fn is_standard(&self) -> bool {
+        self.target == Path::new(STANDARD)
     }
 }
 

@@ -89,11 +89,14 @@ impl Reader<'_> {
         }
     }
 
-    /// Whole numbers are all that is written here: none begins with a 0 but 0.
+    /// Numbers without a sign and an exponent are all that is written here: none begins with a 0 but 0
+    /// and 0 with a point.
     fn number(&mut self) -> Option<Json> {
-        let end = self.rest.find(|c: char| !c.is_ascii_digit()).unwrap_or(self.rest.len());
+        let is_of_number = |c: char| c.is_ascii_digit() || c == '.';
+        let end = self.rest.find(|c: char| !is_of_number(c)).unwrap_or(self.rest.len());
         let (digits, rest) = self.rest.split_at(end);
-        let is_right = digits == "0" || !digits.starts_with('0');
+        let whole = digits.split('.').next().unwrap_or_default();
+        let is_right = whole == "0" || !whole.starts_with('0') && !digits.ends_with('.');
         self.rest = if is_right { rest } else { self.rest };
         digits.parse().ok().filter(|_| is_right).map(Json::Number)
     }

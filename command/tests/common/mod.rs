@@ -2,6 +2,8 @@
 
 #![allow(dead_code)] // each test file uses a part of it
 
+pub mod browser;
+pub mod chains;
 pub mod drawings;
 pub mod json;
 pub mod second;

@@ -93,6 +93,6 @@ fn end_of(line: &str) -> Option<End> {
     if let Some(pictures) = line.strip_prefix("ended, pictures ") {
         return pictures.parse().ok().map(End::Ended);
     }
-    let halts = ["refused ", "fault ", "the film is "];
+    let halts = ["refusal ", "fault ", "the film is "];
     halts.iter().any(|start| line.starts_with(start)).then(|| End::Told(line.to_string()))
 }

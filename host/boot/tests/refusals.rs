@@ -18,7 +18,7 @@ fn line(expected: &Expected) -> String {
         12..=14 => format!(" in block {}", refusal.block),
         _ => String::new(),
     };
-    format!("refused {}{block} at byte {}: ", refusal.number, expected.position)
+    format!("refusal {}{block} at byte {}: ", refusal.number, expected.position)
 }
 
 /// Plays a film that is refused, and resets the machine then: it tells the same again and shows the last
@@ -67,7 +67,7 @@ fn damages() {
 /// No film at all, and a film without a size.
 #[test]
 fn nothing_to_play() {
-    assert_eq!(line(&expected(&[])), "refused 1 at byte 0: ");
+    assert_eq!(line(&expected(&[])), "refusal 1 at byte 0: ");
     let mut film = films::all_codes(3, 0);
     film.chunks[0].opcodes.clear();
     assert_eq!(expected(&film.bytes()).refusal.map(|refusal| refusal.number), Some(21));

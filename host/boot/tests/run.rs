@@ -68,7 +68,7 @@ fn failed() {
     );
     film.chunks[3].opcodes.insert(0, Opcode::new(0x0E, 0, Vec::new()));
     let (status, lines, _) = run("refused", &STAGE, &film, None).expect("qemu is there");
-    assert!(status == Some(1) && lines.contains("\nrefused 4 at byte "), "{status:?}: {lines}");
+    assert!(status == Some(1) && lines.contains("\nrefusal 4 at byte "), "{status:?}: {lines}");
 }
 
 /// Without QEMU the script says so.

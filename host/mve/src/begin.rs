@@ -10,7 +10,7 @@ use core::fmt;
 /// ```
 /// let film = b"Interplay MVE File\x1A\0\x1A\0\0\x01\x33\x11\0\0\x05\0";
 /// let unbegun = mve::begin(film, mve::NO_STREAM, &mut [0; 768], &mut 0).unwrap_err();
-/// let message = "refused 21: the film ends without a frame size, at byte 30";
+/// let message = "refusal 21: the film ends without a frame size, at byte 30";
 /// assert_eq!(unbegun.to_string(), message);
 /// ```
 #[derive(Clone, Copy, Debug, PartialEq, Eq, Hash)]
@@ -32,12 +32,12 @@ impl fmt::Display for Unbegun {
 impl core::error::Error for Unbegun {}
 
 /// Opens a film for a stream of its sound and steps until a size appears: the state just after opcode
-/// 05. The palette and the place are as the steps up to there leave them.
+/// 0x05. The palette and the place are as the steps up to there leave them.
 ///
 /// Then lend pictures of 64 bytes a block, and go on with [`step`](crate::step) and this palette and
 /// place. Sound before the size is decoded for the state and its samples are dropped, so 19 is not
-/// met. Whoever wants those samples, or reads opcodes 02 and 03 for timing and rate, uses
-/// [`open`](crate::open) and [`step`](crate::step).
+/// met. Whoever wants those samples, or reads opcodes 0x02 ([`timer`](crate::timer())) and 0x03 for timing and
+/// rate, uses [`open`](crate::open) and [`step`](crate::step).
 ///
 /// # Errors
 ///

@@ -14,7 +14,7 @@ pub const PICTURE_BYTES: usize = 307_200;
 /// bytes at most.
 pub const ROOM_BYTES: usize = 131_070;
 
-/// A stream number that no film has: opcodes 03, 08 and 09 are passed over, as with every larger
+/// A stream number that no film has: opcodes 0x03, 0x08 and 0x09 are passed over, as with every larger
 /// number.
 pub const NO_STREAM: usize = 16;
 
@@ -29,9 +29,9 @@ pub struct State {
     pub position: usize,
     /// The end of the chunk that is being read.
     pub chunk_end: usize,
-    /// Blocks in a row of the frame, each 8x8 pixels; 0 before opcode 05.
+    /// Blocks in a row of the frame, each 8x8 pixels; 0 before opcode 0x05.
     pub columns: usize,
-    /// Rows of blocks of the frame; 0 before opcode 05.
+    /// Rows of blocks of the frame; 0 before opcode 0x05.
     pub rows: usize,
     /// Which lent picture is the shown one: 0 the first, 1 the second. The other one is drawn on.
     pub front: usize,
@@ -45,13 +45,13 @@ pub struct State {
 
 /// The sound in a state.
 ///
-/// Before an opcode 03 nothing reads the fields behind `has_format`. A step that moves the state then
+/// Before an opcode 0x03 nothing reads the fields behind `has_format`. A step that moves the state then
 /// makes them 0 and false.
 #[derive(Clone, Copy, Debug, Default, PartialEq, Eq, Hash)]
 pub struct Sound {
     /// The stream that the film was opened with; above 15 its sound is passed over.
     pub stream: usize,
-    /// Whether an opcode 03 was taken, which gives the format.
+    /// Whether an opcode 0x03 was taken, which gives the format.
     pub has_format: bool,
     /// Two channels, left and right in turn; else one.
     pub stereo: bool,
@@ -59,12 +59,24 @@ pub struct Sound {
     pub wide: bool,
     /// Whether data comes compressed, as steps from sample to sample.
     pub compressed: bool,
-    /// Whether a compressed packet was taken since the last 03.
+    /// Whether a compressed packet was taken since the last 0x03.
     pub begun: bool,
     /// The last sample of the left channel, or of the only one, of compressed sound.
     pub left: u16,
     /// The last sample of the right channel.
     pub right: u16,
+}
+
+impl State {
+    /// The width of the pictures in pixels; 0 before opcode 0x05.
+    pub const fn width(&self) -> usize {
+        8 * self.columns
+    }
+
+    /// The height of the pictures in pixels; 0 before opcode 0x05.
+    pub const fn height(&self) -> usize {
+        8 * self.rows
+    }
 }
 
 /// How a step went that was not refused. The fields are named as in C's `struct mve_stepped`.
@@ -74,13 +86,13 @@ pub enum Step {
     Taken {
         /// The state for the next step.
         state: State,
-        /// Stores that the step made: bytes of the palette, or the place, which opcode 0F sets to 0.
+        /// Stores that the step made: bytes of the palette, or the place, which opcode 0x0F sets to 0.
         stores: usize,
-        /// The bytes of samples that the step wrote to the room's front. Only opcodes 08 and 09 of the
+        /// The bytes of samples that the step wrote to the room's front. Only opcodes 0x08 and 0x09 of the
         /// stream write any.
         bytes: usize,
     },
-    /// Opcode 11 is taken and its frame drawn.
+    /// Opcode 0x11 is taken and its frame drawn.
     Whole {
         /// The state for the next step.
         state: State,
@@ -89,8 +101,8 @@ pub enum Step {
         /// The rows of blocks that the whole packet touches.
         rows: Option<Rows>,
     },
-    /// The stores allowed were made, and more are due. The next step goes on with the frame of opcode 11;
-    /// a palette or opcode 0F it begins again.
+    /// The stores allowed were made, and more are due. The next step goes on with the frame of opcode 0x11;
+    /// a palette or opcode 0x0F it begins again.
     Unfinished {
         /// The state for the next step: the one that went in.
         state: State,
@@ -140,7 +152,7 @@ impl Step {
 /// Whether the step from one state to the next sent a picture, which is to be shown now.
 ///
 /// A picture is sent by the step that leaves no frame unsent where one was finished and unsent: opcode
-/// 07. It is C's `mve_is_sent`.
+/// 0x07. It is C's `mve_is_sent`.
 pub const fn is_sent(before: &State, after: &State) -> bool {
     before.unsent && !after.unsent
 }
@@ -190,16 +202,16 @@ pub fn open(film: &[u8], stream: usize) -> Result<State, Refusal> {
 /// other drawn on, and [`State::front`] tells which. They may be longer than the frame: what lies
 /// beyond it is never touched. The place is that of [`draw`](crate::draw); start with 0.
 ///
-/// Opcodes 08 and 09 of the stream write their samples to the room's front: of 16 bits low byte
+/// Opcodes 0x08 and 0x09 of the stream write their samples to the room's front: of 16 bits low byte
 /// first, or of 8 bits, left and right in turn; [`State::sound`] tells which. The rest of the room
 /// stays as it is. A room of [`ROOM_BYTES`] is always enough; after 19 the step can be taken again
 /// with more, since nothing has changed.
 ///
-/// `allowed` limits the stores of a step: the pixels and places of opcode 11, the bytes of a palette, and
-/// the place of opcode 0F. Every other step makes none; the room is not counted. A step that runs short
-/// makes the first of its stores and keeps its state. Taken again, opcode 11 goes on from the place, and
+/// `allowed` limits the stores of a step: the pixels and places of opcode 0x11, the bytes of a palette, and
+/// the place of opcode 0x0F. Every other step makes none; the room is not counted. A step that runs short
+/// makes the first of its stores and keeps its state. Taken again, opcode 0x11 goes on from the place, and
 /// any other begins with its first store. No frame has more than 312,000 stores, and no palette more than
-/// [`PALETTE_STORES`](crate::PALETTE_STORES). The step over opcode 11 tells the rows of blocks that its
+/// [`PALETTE_STORES`](crate::PALETTE_STORES). The step over opcode 0x11 tells the rows of blocks that its
 /// packet touches in the picture that is drawn on; both pictures stay as they are outside them.
 ///
 /// `form` says how many bytes a packet may leave over. The two forms give the same, except at an opcode
@@ -214,8 +226,8 @@ pub fn open(film: &[u8], stream: usize) -> Result<State, Refusal> {
 ///
 /// # Examples
 ///
-/// A film of one frame of one block. Its opcodes are 05, the size in blocks; 01, the chunk's end; 0F,
-/// a map of code E; 11, that block's colour; 07, which sends the frame to the display; 01.
+/// A film of one frame of one block. Its opcodes are 0x05, the size in blocks; 0x01, the chunk's end; 0x0F,
+/// a map of code E; 0x11, that block's colour; 0x07, which sends the frame to the display; 0x01.
 ///
 /// ```
 /// use mve::{open, shown, step, Error, Form, Refusal, Rows, State, Step, NO_STREAM};
@@ -259,7 +271,7 @@ pub fn open(film: &[u8], stream: usize) -> Result<State, Refusal> {
 /// # Ok::<(), Refusal>(())
 /// ```
 ///
-/// A film with sound for stream 0: opcode 03 says 16-bit, stereo and compressed; opcode 08 has a
+/// A film with sound for stream 0: opcode 0x03 says 16-bit, stereo and compressed; opcode 0x08 has a
 /// start word for each channel and a byte for the sample behind each of them.
 ///
 /// ```
@@ -293,7 +305,7 @@ pub fn open(film: &[u8], stream: usize) -> Result<State, Refusal> {
 /// # Ok::<(), Refusal>(())
 /// ```
 ///
-/// A film of one frame of one block, whose opcode 11 has 14 bytes that are skipped, the block's colour
+/// A film of one frame of one block, whose opcode 0x11 has 14 bytes that are skipped, the block's colour
 /// and a byte that pads it to an even length.
 ///
 /// ```

@@ -11,10 +11,13 @@
 //! ```
 //! use mve::{Event, Memory, Player, PALETTE_BYTES, PICTURE_BYTES, ROOM_BYTES};
 //!
-//! // A film of one frame of one block: its size, a map, the block's colour, and 07, which sends it.
+//! // A film of one frame of one block: a timer, a colour, the size, a map, the block's colour, and 07,
+//! // which sends it.
 //! let film = [
 //!     &b"Interplay MVE File\x1A\0\x1A\0\0\x01\x33\x11"[..],
-//!     &[0x0c, 0, 2, 0, 4, 0, 0x05, 0, 1, 0, 1, 0, 0, 0, 0x01, 0],
+//!     &[33, 0, 2, 0, 6, 0, 0x02, 0, 0x50, 0xC3, 0, 0, 2, 0],
+//!     &[7, 0, 0x0c, 0, 0x2a, 0, 1, 0, 0, 32, 63],
+//!     &[4, 0, 0x05, 0, 1, 0, 1, 0, 0, 0, 0x01, 0],
 //!     &[0x24, 0, 3, 0, 1, 0, 0x0f, 0, 0x0e, 15, 0, 0x11, 0],
 //!     &[0; 14],
 //!     &[0x2a, 4, 0, 0x07, 0, 0, 0, 0, 0, 0, 0, 0x01, 0],
@@ -30,27 +33,30 @@
 //!     place: &mut place,
 //!     room: &mut room,
 //! };
-//! let mut player = Player::begin(&film, 0, memory)?;
-//! let mut pictures = 0;
+//! let mut player = Player::open(&film, 0, memory)?; // not `begin`: a timer may come before the size
+//! let (mut pictures, mut now, mut stays) = (0, 0, 66_728); // in microseconds; the usual time at first
 //! while let Some(event) = player.step()? {
 //!     match event {
+//!         Event::Timer(microseconds) => stays = microseconds,
 //!         Event::Picture(picture) => {
-//!             assert_eq!((picture.columns, picture.rows), (1, 1));
-//!             assert_eq!(picture.pixels, [0x2a; 64]); // show them in the palette's colours
+//!             assert_eq!((picture.width(), picture.height()), (8, 8));
+//!             assert!(picture.rgb().eq([[0, 130, 255]; 64])); // show these pixels, when `now` has come
+//!             now += stays;
 //!             pictures += 1;
 //!         }
 //!         Event::Samples(samples) => println!("{} bytes to play", samples.bytes.len()),
 //!         Event::Taken | Event::Drawn(_) | Event::Unfinished => {}
 //!     }
 //! }
-//! assert_eq!(pictures, 1);
+//! assert_eq!((pictures, now), (1, 100_000));
 //! # Ok::<(), Box<dyn std::error::Error>>(())
 //! ```
 //!
 //! Below the player are the library's calls: [`begin`] opens a film and steps until its size is known,
 //! [`open`] only opens it, [`step`] takes it chunk by chunk and opcode by opcode, keeping the palette,
 //! drawing the pictures and writing the samples to what is lent to it, [`is_sent`] tells whether a step
-//! sent a picture, and [`shown`] is the picture to show.
+//! sent a picture, and [`shown`] is the picture to show. [`timer`] reads how long a picture stays, and
+//! [`widened`] and [`colour`] give colours of 8 bits; these three are not proved.
 //!
 //! A frame comes as a packet: a map with a code for each 8x8 block, and the blocks' data. [`check`]
 //! tells whether a packet is valid, [`draw`] draws it, at once or in pieces. Both, and [`step`], tell
@@ -88,8 +94,14 @@
 #[cfg(test)]
 extern crate std;
 
+/// The example of the README is compiled with the others.
+#[cfg(doctest)]
+#[doc = include_str!("../README.md")]
+struct Readme;
+
 mod answer;
 mod begin;
+mod colour;
 mod ffi;
 mod film;
 mod form;
@@ -100,18 +112,21 @@ mod player;
 mod refusal;
 mod rows;
 mod salvage;
+mod timer;
 
 pub use begin::{begin, Unbegun};
+pub use colour::{colour, widened};
 pub use film::{is_sent, open, shown, step, Sound, State, Step};
 pub use film::{NO_STREAM, PALETTE_BYTES, PICTURE_BYTES, ROOM_BYTES};
 pub use form::Form;
 pub use origin::{origin, Origin, Traced};
 pub use packet::{check, check_strict, draw, draw_strict, Drawn};
 pub use packet::{ALL_STORES, BLOCK_STORES, PALETTE_STORES};
-pub use player::{Event, Memory, Picture, Player, Samples};
+pub use player::{Event, Memory, Picture, Player, RefusedAt, Samples};
 pub use refusal::{Error, Refusal};
 pub use rows::Rows;
 pub use salvage::{salvage, LeftOut, Salvaged, Stop, LOSS_NUMBERS};
+pub use timer::timer;
 
 /// The version of the interface that this crate is written for: C's `MVE_VERSION`.
 pub const VERSION: usize = 12;

@@ -52,7 +52,7 @@ pub const STATE: Range<usize> = STEPPED_NUMBERS - STATE_NUMBERS..STEPPED_NUMBERS
 pub mod kind {
     /// Of an opening, and of a step that does not draw: done.
     pub const TAKEN: usize = 0;
-    /// Opcode 11's frame is drawn to its end.
+    /// Opcode 0x11's frame is drawn to its end.
     pub const WHOLE: usize = 1;
     /// The stores allowed were made before that.
     pub const UNFINISHED: usize = 2;

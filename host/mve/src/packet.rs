@@ -111,7 +111,7 @@ fn checked(
 /// The stores of the largest picture: a call or a step that is allowed so many is never unfinished.
 pub const ALL_STORES: usize = 312_000;
 
-/// The stores of the longest palette, opcode 0B with 256 entries in both of its gradients: a step over a
+/// The stores of the longest palette, opcode 0x0B with 256 entries in both of its gradients: a step over a
 /// palette that is allowed so many is never unfinished. One that is cut begins again with its first
 /// store, so it is never done by steps that are all allowed fewer than it has.
 pub const PALETTE_STORES: usize = 1_536;

@@ -1,8 +1,11 @@
 //! A loop over a film: one step at a time, told as an event.
 
 use crate::begin::{begin, Unbegun};
+use crate::colour::colour;
 use crate::film::{is_sent, open, shown, step, State, Step};
+use crate::timer::timer;
 use crate::{Form, Refusal, Rows, ALL_STORES};
+use core::fmt;
 
 /// The memory that a film is played in. The library allocates none, so the host lends it.
 ///
@@ -41,11 +44,39 @@ pub struct Player<'f, 'm> {
     form: Form,
 }
 
+/// Why a step of a player was refused, and where in the film.
+///
+/// ```
+/// use mve::{Error, Refusal, RefusedAt};
+///
+/// let refused = RefusedAt { refusal: Refusal { error: Error::Code6, block: 1 }, position: 51 };
+/// let message = "refusal 12 in block 1: the block has code 6, which 8-bit films do not have, at byte 51";
+/// assert_eq!(refused.to_string(), message);
+/// ```
+#[derive(Clone, Copy, Debug, PartialEq, Eq, Hash)]
+pub struct RefusedAt {
+    /// What is wrong.
+    pub refusal: Refusal,
+    /// The head of the chunk or opcode that is refused, counted from the film's first byte.
+    pub position: usize,
+}
+
+impl fmt::Display for RefusedAt {
+    fn fmt(&self, f: &mut fmt::Formatter<'_>) -> fmt::Result {
+        write!(f, "{}, at byte {}", self.refusal, self.position)
+    }
+}
+
+impl core::error::Error for RefusedAt {}
+
 /// What a step gave.
 #[derive(Clone, Copy, Debug, PartialEq, Eq)]
 pub enum Event<'p> {
-    /// A chunk's head or an opcode was taken that gives neither a picture nor samples.
+    /// A chunk's head or an opcode was taken that gives nothing of what follows.
     Taken,
+    /// An opcode 0x02 was passed: from now on a picture stays for so many microseconds. See
+    /// [`timer`](crate::timer()).
+    Timer(u64),
     /// A frame was drawn to its end; it is not sent yet. With the rows of blocks that it touches.
     Drawn(Option<Rows>),
     /// A picture was sent: it is to be shown.
@@ -81,10 +112,34 @@ pub struct Samples<'p> {
     pub bytes: &'p [u8],
 }
 
+impl Picture<'_> {
+    /// The width in pixels.
+    pub const fn width(&self) -> usize {
+        8 * self.columns
+    }
+
+    /// The height in pixels.
+    pub const fn height(&self) -> usize {
+        8 * self.rows
+    }
+
+    /// Red, green and blue of each pixel, 8 bits each, row by row; see [`widened`](crate::widened).
+    ///
+    /// ```
+    /// let palette = [0, 0, 0, 63, 0, 32];
+    /// let picture = mve::Picture { columns: 1, rows: 1, pixels: &[1; 64], palette: &palette };
+    /// assert_eq!((picture.width(), picture.height()), (8, 8));
+    /// assert!(picture.rgb().eq([[255, 0, 130]; 64]));
+    /// ```
+    pub fn rgb(&self) -> impl Iterator<Item = [u8; 3]> + '_ {
+        self.pixels.iter().map(|&entry| colour(self.palette, entry))
+    }
+}
+
 impl<'f, 'm> Player<'f, 'm> {
     /// Opens a film for a stream of its sound and steps until its size is known, as
-    /// [`begin`](crate::begin()) does. Samples before the size are dropped; [`open`](Player::open) is for
-    /// those who want them.
+    /// [`begin`](crate::begin()) does. Samples and timers before the size are dropped;
+    /// [`open`](Player::open) is for those who want them.
     ///
     /// # Errors
     ///
@@ -133,11 +188,13 @@ impl<'f, 'm> Player<'f, 'm> {
     ///
     /// # Errors
     ///
-    /// Those of [`step`](crate::step). Nothing has changed, so the same step is refused again.
-    pub fn step(&mut self) -> Result<Option<Event<'_>>, Refusal> {
+    /// Those of [`step`](crate::step), with the byte of the film. Nothing has changed, so the same step is
+    /// refused again.
+    pub fn step(&mut self) -> Result<Option<Event<'_>>, RefusedAt> {
         let Memory { palette, a, b, place, room } = &mut self.memory;
         let (before, allowed, form) = (self.state, self.allowed, self.form);
-        let stepped = step(self.film, before, palette, a, b, place, room, allowed, form)?;
+        let stepped = step(self.film, before, palette, a, b, place, room, allowed, form)
+            .map_err(|refusal| RefusedAt { refusal, position: before.position })?;
         self.state = stepped.state();
         Ok(match stepped {
             Step::Ended { .. } => None,
@@ -147,7 +204,9 @@ impl<'f, 'm> Player<'f, 'm> {
             Step::Taken { .. } if is_sent(&before, &self.state) => {
                 Some(Event::Picture(self.picture()))
             }
-            Step::Taken { .. } => Some(Event::Taken),
+            Step::Taken { .. } => {
+                Some(timer(self.film, &before).map_or(Event::Taken, Event::Timer))
+            }
         })
     }
 

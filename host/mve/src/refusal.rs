@@ -13,7 +13,7 @@ use core::fmt;
 /// assert_eq!(refusal.number(), 12);
 /// assert_eq!(
 ///     refusal.to_string(),
-///     "refused 12 in block 1: the block has code 6, which 8-bit films do not have"
+///     "refusal 12 in block 1: the block has code 6, which 8-bit films do not have"
 /// );
 /// ```
 #[derive(Clone, Copy, Debug, PartialEq, Eq, Hash)]
@@ -33,7 +33,7 @@ impl Refusal {
 
 impl fmt::Display for Refusal {
     fn fmt(&self, f: &mut fmt::Formatter<'_>) -> fmt::Result {
-        write!(f, "refused {}", self.number())?;
+        write!(f, "refusal {}", self.number())?;
         if self.error.is_of_block() {
             write!(f, " in block {}", self.block)?;
         }
@@ -92,7 +92,7 @@ errors! {
     Header = 1, "the film does not begin with the header of an MVE film";
     /// A chunk or its head passes the end of the film.
     Chunk = 2, "a chunk or its head passes the end of the film";
-    /// An opcode or its head passes its chunk, or bytes follow opcode 00 or 01.
+    /// An opcode or its head passes its chunk, or bytes follow opcode 0x00 or 0x01.
     Opcode = 3, "an opcode or its head passes its chunk, or bytes follow the chunk's last opcode";
     /// A type or version of opcode that is not taken.
     Type = 4, "this type or version of opcode is not one of an 8-bit film";
@@ -104,7 +104,7 @@ errors! {
     Palette = 7, "a palette range or a colour component is too large";
     /// A palette that has not 768 bytes, or a picture shorter than the frame.
     LentLength = 8, "the palette or a picture that was lent has a wrong length";
-    /// Opcode 11 without a frame size or a map.
+    /// Opcode 0x11 without a frame size or a map.
     NoFrame = 9, "video data comes before a frame size or without a map";
     /// A map whose length does not fit the frame size.
     MapLength = 10, "the map's length does not fit the frame size";
@@ -177,9 +177,9 @@ mod tests {
         for &error in Error::ALL {
             let number = error.number();
             let message = Refusal { error, block: 3 }.to_string();
-            let named = message.starts_with(&format!("refused {number} in block 3: "));
+            let named = message.starts_with(&format!("refusal {number} in block 3: "));
             assert_eq!(named, (12..=14).contains(&number), "{message}");
-            assert!(named || message.starts_with(&format!("refused {number}: ")), "{message}");
+            assert!(named || message.starts_with(&format!("refusal {number}: ")), "{message}");
         }
     }
 }

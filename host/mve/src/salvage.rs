@@ -29,7 +29,7 @@ pub struct Salvaged {
 pub enum Stop {
     /// At the end of the film.
     FilmEnd,
-    /// Behind a kept chunk with opcode 00, which ends the film.
+    /// Behind a kept chunk with opcode 0x00, which ends the film.
     BehindEnd,
     /// Where a chunk or its head passes the end of the film (refusal 2).
     PastEnd,
@@ -68,7 +68,7 @@ mod stop {
 }
 
 /// Writes what is left of a scratched film to the room: its header and each chunk whose opcodes are not
-/// refused by 3, 4 or 5, with the same bytes in the same order; then a chunk with opcode 00, unless the
+/// refused by 3, 4 or 5, with the same bytes in the same order; then a chunk with opcode 0x00, unless the
 /// last kept chunk has one. Three numbers for each chunk left out go to the list ([`Salvaged::losses`]).
 ///
 /// No other refusal is tested, so the new film may be refused where it is played. Saved again it is kept
@@ -84,7 +84,7 @@ mod stop {
 /// # Examples
 ///
 /// Three chunks: one without opcodes, one whose opcode has a type that films do not have, and one with an
-/// opcode 07 that is a byte too short. Nothing ends the film, so a chunk with opcode 00 is added.
+/// opcode 0x07 that is a byte too short. Nothing ends the film, so a chunk with opcode 0x00 is added.
 ///
 /// ```
 /// use mve::{salvage, Error, LeftOut, Refusal, Stop};

@@ -1,6 +1,7 @@
 //! The pages: every link leads to a file, a folder or a heading that is there, every definition,
-//! function, theorem, test and edit that docs/TRACE.md and docs/DECISIONS.md name is there, and the
-//! figures in README.md are those of the pages that they are taken from.
+//! function, theorem, test and edit that docs/TRACE.md and the pages of decisions name is there, the
+//! index of docs/TRACE.md has its sections, and the figures in README.md are those of the pages that they
+//! are taken from.
 
 use std::fs;
 use std::path::{Path, PathBuf};
@@ -15,7 +16,7 @@ fn read(path: &Path) -> String {
 
 /// All pages of the repository.
 fn pages() -> Vec<PathBuf> {
-    let folders = [".", "docs", "docs/landings", "command", "examples/boot"];
+    let folders = [".", "docs", "docs/landings", "command", "examples/boot", "host/mve"];
     let folders = folders.map(|folder| root().join(folder));
     let mut pages = Vec::new();
     for folder in folders {
@@ -130,7 +131,7 @@ fn is_there(name: &str) -> Option<bool> {
 #[test]
 fn names_are_there() {
     let mut found = 0;
-    for page in ["docs/TRACE.md", "docs/DECISIONS.md"] {
+    for page in ["docs/TRACE.md", "docs/DECISIONS.md", "docs/DECISIONS-CODE.md"] {
         let text = read(&root().join(page));
         for name in text.split('`').skip(1).step_by(2) {
             let Some(there) = is_there(name) else { continue };
@@ -143,6 +144,20 @@ fn names_are_there() {
         assert_eq!(is_there(gone), Some(false), "{gone}");
     }
     assert_eq!(is_there("compare/tests/films.rs::gone"), Some(false));
+}
+
+/// The index of docs/TRACE.md leads to each of its sections, in their order.
+#[test]
+fn index_of_trace() {
+    let page = read(&root().join("docs/TRACE.md"));
+    let (_, behind) = page.split_once("\n## Index\n").expect("an index");
+    let (index, sections) = behind.split_once("\n## ").expect("sections");
+    let sections = format!("## {sections}");
+    let headings = sections.lines().filter(|line| line.starts_with("##")).map(anchor);
+    let listed: Vec<_> =
+        links(index).into_iter().map(|link| link.trim_start_matches('#')).collect();
+    assert_eq!(listed, headings.collect::<Vec<_>>());
+    assert!(listed.len() >= 30, "{} sections", listed.len());
 }
 
 /// The cells of the first row of a table that begins so.
@@ -176,10 +191,26 @@ fn figures_of_the_readme() {
         bytes.max().expect("the stack of a call")
     });
     let told = format!(
-        "at most {library} bytes a call; with the least player's loop and arguments {}",
+        "a call at most {library} bytes; a least player, with its loop, its arguments and the deepest \
+         call, {}",
         grouped(stage)
     );
     assert_eq!(row(&readme, "Stack")[2], told);
+
+    let code = header.lines().find_map(|line| line.trim().strip_prefix("code "));
+    let code = code.and_then(|code| code.trim().split(',').next()).expect("thousands of bytes");
+    assert!(row(&readme, "Code")[2].starts_with(&format!("{code} KB, ")), "{code}");
+
+    let picture = |codes: &str| {
+        let nanoseconds: f64 = row(&times, codes)[5].parse().expect("nanoseconds a pixel");
+        (nanoseconds * mve::PICTURE_BYTES as f64 / 1000.0).round()
+    };
+    let told = format!(
+        "{} us for a picture of 640x480 that stays as it is, to {} us for one with all codes; ",
+        picture("1 "),
+        picture("mix ")
+    );
+    assert!(row(&readme, "Time ")[2].starts_with(&told), "{told}");
 
     // What a player lends: palette, two pictures, room, place and two answers.
     let answers = 2 * mve::numbers::STEPPED_NUMBERS * size_of::<usize>();
@@ -188,8 +219,8 @@ fn figures_of_the_readme() {
         + mve::ROOM_BYTES
         + size_of::<usize>()
         + answers;
-    let told = format!("the caller lends it, {} bytes at most beside the film", grouped(lent));
-    assert!(row(&readme, "Memory")[2].ends_with(&told), "{told}");
+    let told = format!("{} bytes at most beside the film", grouped(lent));
+    assert!(row(&readme, "Memory that you lend")[2].starts_with(&told), "{told}");
     let in_all = header.lines().find_map(|line| line.trim().strip_prefix("in all "));
     assert_eq!(in_all.map(str::trim), Some(&*format!("{} bytes", grouped(lent))));
 }

@@ -3,9 +3,6 @@
 use crate::played::{Picture, Played, Recording, PALETTE_BYTES};
 use mve::{Event, Memory, Picture as Shown, Player, Refusal, Samples, PICTURE_BYTES, ROOM_BYTES};
 
-/// Pixels of the side of a block.
-const BLOCK_SIDE: usize = 8;
-
 /// What the library makes of a film.
 #[derive(Clone, Debug, PartialEq, Eq)]
 pub struct Account {
@@ -30,11 +27,11 @@ fn walk(film: &[u8], stream: usize, played: &mut Played) -> Result<(), Refusal> 
     let memory =
         Memory { palette: &mut palette, a: &mut a, b: &mut b, place: &mut place, room: &mut room };
     let mut player = Player::begin(film, stream, memory).map_err(|unbegun| unbegun.refusal)?;
-    while let Some(event) = player.step()? {
+    while let Some(event) = player.step().map_err(|refused| refused.refusal)? {
         match event {
             Event::Picture(shown) => played.pictures.push(picture(shown)),
             Event::Samples(samples) => played.hear(recording(samples)),
-            Event::Taken | Event::Drawn(_) | Event::Unfinished => (),
+            Event::Taken | Event::Timer(_) | Event::Drawn(_) | Event::Unfinished => (),
         }
     }
     Ok(())
@@ -42,8 +39,8 @@ fn walk(film: &[u8], stream: usize, played: &mut Played) -> Result<(), Refusal> 
 
 fn picture(shown: Shown<'_>) -> Picture {
     Picture {
-        width: BLOCK_SIDE * shown.columns,
-        height: BLOCK_SIDE * shown.rows,
+        width: shown.width(),
+        height: shown.height(),
         pixels: shown.pixels.to_vec(),
         colours: shown.palette.to_vec(),
     }

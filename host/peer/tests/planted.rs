@@ -73,5 +73,5 @@ fn ends() {
     let (mut ours, theirs) = alike();
     ours.refusal = Some(mve::Refusal { error: mve::Error::DataShort, block: 4 });
     let found = compare(&ours, &theirs).expect_err("a difference");
-    assert_begins(&found, "refused 13 in block 4");
+    assert_begins(&found, "refusal 13 in block 4");
 }

@@ -5,7 +5,8 @@
 //! given; above 15 none) as 000000.wav; where format or rate changes 000001.wav begins, and so on.
 //! The heading of each picture says, in a line like "# rows 3 to 5" or "# rows none", which rows of
 //! blocks were touched since this one of the two pictures was last sent: all that a display with a
-//! copy of each needs to be sent.
+//! copy of each needs to be sent. A second line, like "# at 400000 us", says when to show it: so many
+//! microseconds after the film's begin, by its timer (opcode 0x02).
 //! FOLDER must be there and hold no name that ends in .ppm or .wav. Every step is allowed ALLOWANCE
 //! stores; when they do not suffice, the player is stopped as a watchdog would stop it, and goes on. A
 //! drawing goes on from its place. A palette begins again with its first store; so a step that came no
@@ -40,6 +41,26 @@ struct Saved {
     sound: Sound,
     /// A stop may fall between drawing and sending.
     unsent: Unsent,
+    clock: Clock,
+}
+
+/// When to show a picture, in microseconds: the time of the next one, and how long it stays.
+#[derive(Clone, Copy)]
+struct Clock {
+    now: u64,
+    stays: u64,
+}
+
+impl Clock {
+    /// Where the film has no timer yet, a picture stays for the usual time.
+    const FIRST: Clock = Clock { now: 0, stays: 66_728 };
+
+    /// The time of a picture that is sent; the next one is shown when it has stayed.
+    fn show(&mut self) -> u64 {
+        let at = self.now;
+        self.now = at.wrapping_add(self.stays);
+        at
+    }
 }
 
 /// All that a stop leaves, beside the files. In a real player it lies in memory that outlives the
@@ -111,7 +132,12 @@ impl From<Failed> for Failure {
 impl Kept {
     fn new(first: State) -> Kept {
         Kept {
-            records: [Saved { state: first, sound: Sound::NONE, unsent: Unsent::NONE }; 2],
+            records: [Saved {
+                state: first,
+                sound: Sound::NONE,
+                unsent: Unsent::NONE,
+                clock: Clock::FIRST,
+            }; 2],
             holds: AtomicUsize::new(0),
             palette: [0; PALETTE_BYTES],
             a: vec![0; PICTURE_BYTES],
@@ -196,7 +222,7 @@ fn run(kept: &mut Kept, arguments: &Arguments, watchdog: &mut Watchdog) -> Resul
     let mut room = vec![0; ROOM_BYTES]; // need not outlive a stop
     let form = Form::Default;
     loop {
-        let Saved { state, sound, mut unsent } = kept.load();
+        let Saved { state, sound, mut unsent, mut clock } = kept.load();
         let found = kept.place;
         let Kept { palette, a, b, place, .. } = kept;
         let step = mve::step(&film, state, palette, a, b, place, &mut room, watchdog.allowed, form);
@@ -223,16 +249,17 @@ fn run(kept: &mut Kept, arguments: &Arguments, watchdog: &mut Watchdog) -> Resul
                 (next, 0)
             }
         };
+        clock.stays = mve::timer(&film, &state).unwrap_or(clock.stays);
         let format = format_of(&film, &state, &next);
         let sound = write_sound(sound, format, &room[..bytes], &arguments.folder)?;
         if mve::is_sent(&state, &next) {
-            let rows = unsent.send(next.front);
-            write_picture(kept, &next, rows, arguments, film.len())?;
+            let picture = ppm(kept, &next, unsent.send(next.front), clock.show());
+            write_picture(&picture, next.position, arguments, film.len())?;
         }
         if (format.is_some() || bytes > 0) && watchdog.stops_at_sound(arguments.every) {
             return Ok(Run::Stopped);
         }
-        kept.save(Saved { state: next, sound, unsent });
+        kept.save(Saved { state: next, sound, unsent, clock });
         watchdog.allowed = arguments.allowance;
     }
 }
@@ -263,46 +290,42 @@ fn write_sound(
     }
 }
 
-/// Writes the shown picture under the first free number, with the rows touched since it was last sent.
-/// It gets its number when it is written in full, so that a stop leaves no half picture that counts.
+/// Writes a picture under the first free number. It gets its number when it is written in full, so that
+/// a stop leaves no half picture that counts.
 fn write_picture(
-    kept: &Kept,
-    state: &State,
-    rows: Option<Rows>,
+    picture: &[u8],
+    position: usize,
     arguments: &Arguments,
     film_length: usize,
 ) -> Result<(), Failure> {
     let number = count_pictures(&arguments.folder);
     let path = picture_path(&arguments.folder, number);
     let part = arguments.folder.join("picture.part");
-    let written = fs::write(&part, ppm(kept, state, rows)).and_then(|()| fs::rename(&part, &path));
+    let written = fs::write(&part, picture).and_then(|()| fs::rename(&part, &path));
     if let Err(error) = written {
         let _ = fs::remove_file(&part); // it is the first error that is told
         return Err(Failure::Output(path, error));
     }
-    let (position, pictures) = (state.position, number + 1);
+    let pictures = number + 1;
     tell(arguments, format_args!("byte {position} of {film_length}, pictures: {pictures}"));
     Ok(())
 }
 
-/// The shown picture as a PPM file, whose heading has the rows, as a comment, and the size in pixels.
-fn ppm(kept: &Kept, state: &State, rows: Option<Rows>) -> Vec<u8> {
+/// The shown picture as a PPM file, whose heading has the rows touched since it was last sent and the
+/// time when it is to be shown, as comments, and the size in pixels.
+fn ppm(kept: &Kept, state: &State, rows: Option<Rows>, at: u64) -> Vec<u8> {
     let rows = match rows {
         Some(Rows { first, last }) => format!("{first} to {last}"),
         None => "none".to_string(),
     };
-    let (width, height) = (8 * state.columns, 8 * state.rows);
-    let mut bytes = format!("P6\n# rows {rows}\n{width} {height}\n255\n").into_bytes();
-    for &pixel in mve::shown(state, &kept.a, &kept.b) {
-        let colour = &kept.palette[3 * usize::from(pixel)..][..3];
-        bytes.extend(colour.iter().copied().map(scaled));
-    }
-    bytes
-}
-
-/// A component of the palette, 0 to 63, as the nearest of 0 to 255.
-fn scaled(component: u8) -> u8 {
-    ((u16::from(component) * 255 + 31) / 63) as u8
+    let (width, height) = (state.width(), state.height());
+    let heading = format!("P6\n# rows {rows}\n# at {at} us\n{width} {height}\n255\n");
+    let pixels = mve::shown(state, &kept.a, &kept.b).iter();
+    heading
+        .into_bytes()
+        .into_iter()
+        .chain(pixels.flat_map(|&pixel| mve::colour(&kept.palette, pixel)))
+        .collect()
 }
 
 /// Whether the folder holds a name that ends in .ppm or .wav, whatever its number.

@@ -51,7 +51,7 @@ struct Sent<'a> {
 }
 
 fn sent(file: &[u8]) -> Sent<'_> {
-    let mut lines = file.splitn(5, |&byte| byte == b'\n');
+    let mut lines = file.splitn(6, |&byte| byte == b'\n');
     let mut line = || lines.next().expect("a line of the heading");
     assert_eq!(line(), b"P6");
     let told = String::from_utf8_lossy(line()).into_owned();
@@ -59,6 +59,7 @@ fn sent(file: &[u8]) -> Sent<'_> {
     let number = |text: &str| text.parse().expect("a number");
     let rows = rows.split_once(" to ").map(|(first, last)| (number(first), number(last)));
     assert!(rows.is_some() || told == "# rows none", "{told}");
+    assert!(line().starts_with(b"# at "));
     let size = String::from_utf8_lossy(line()).into_owned();
     let (width, _) = size.split_once(' ').expect("width and height");
     assert_eq!(line(), b"255");

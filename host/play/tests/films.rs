@@ -66,11 +66,11 @@ fn long_and_large_films() {
         [(long, &ALLOWANCES[..], "128 96"), (large, &ALLOWANCES[2..], "640 480")]
     {
         let played = pictures::play(&film, NO_STREAM);
-        let size = format!("\n{sides}\n255\n");
+        let size = format!("{sides}\n255\n");
         let has_size = |picture: &Vec<u8>| {
-            let rows = picture.strip_prefix(b"P6\n# rows ").expect("a heading");
-            let end = rows.iter().position(|&byte| byte == b'\n').expect("a line");
-            rows[end..].starts_with(size.as_bytes())
+            let mut lines = picture.splitn(4, |&byte| byte == b'\n').skip(1);
+            let is = |begin: &[u8]| lines.next().is_some_and(|line| line.starts_with(begin));
+            [&b"# rows "[..], b"# at ", size.as_bytes()].into_iter().all(is)
         };
         assert!(played.pictures.iter().all(has_size));
         for &allowance in allowances {

@@ -1,5 +1,5 @@
-//! `make install` and `make uninstall`: a C program is built against what was installed, by the flags
-//! that `mve.pc` tells, and plays the demonstration film.
+//! `make install`, `make uninstall` and `make dist`: C programs are built against what was installed or
+//! unpacked, by the flags that `mve.pc` tells, and play the demonstration film.
 
 use maker::demo;
 use std::collections::BTreeMap;
@@ -50,11 +50,19 @@ fn files(folder: &Path) -> Vec<String> {
     found
 }
 
-/// The command is installed where it is built.
+/// The command is installed where it is built, with its pages and completions where they are.
 fn expected_files() -> Vec<String> {
-    let command = root().join("command/target/release/mve").exists().then_some("bin/mve");
-    let others = ["include/mve.h", "lib/libmve.a", "lib/pkgconfig/mve.pc"];
-    command.into_iter().chain(others).map(String::from).collect()
+    let mut expected =
+        ["include/mve.h", "lib/libmve.a", "lib/pkgconfig/mve.pc"].map(String::from).to_vec();
+    let target = root().join("command/target");
+    if target.join("release/mve").exists() {
+        expected.insert(0, "bin/mve".into());
+        if target.join("share").exists() {
+            expected
+                .extend(files(&target.join("share")).iter().map(|name| format!("share/{name}")));
+        }
+    }
+    expected
 }
 
 /// The flags for a compiler that pkg-config reads in `mve.pc`; where it is not there, as they stand in
@@ -62,7 +70,7 @@ fn expected_files() -> Vec<String> {
 fn flags(prefix: &Path) -> Vec<String> {
     let folder = prefix.join("lib/pkgconfig");
     let text = fs::read_to_string(folder.join("mve.pc")).expect("mve.pc");
-    let read = flags_in(&text);
+    let read = flags_in(&text.replace("${pcfiledir}", &folder.to_string_lossy()));
     let mut command = Command::new("pkg-config");
     command.args(["--cflags", "--libs", "mve"]).env("PKG_CONFIG_PATH", &folder);
     let Ok(output) = command.output() else { return read };
@@ -119,6 +127,53 @@ fn a_program_against_what_is_installed() {
     }
     make(&["uninstall".into(), format!("PREFIX={}", prefix.display())]);
     assert_eq!(files(&prefix), Vec::<String>::new());
+}
+
+/// The tarball has what is installed, the documents and the example players. Unpacked elsewhere, it
+/// builds a player, which plays.
+#[test]
+fn a_player_from_the_tarball() {
+    let folder = fresh("tarball");
+    make(&["dist".into(), format!("DIST={}", folder.join("made").display())]);
+    let made = files(&folder.join("made"));
+    let names: Vec<_> = made.iter().filter(|name| name.ends_with("-x86_64.tar.gz")).collect();
+    let [name] = names[..] else { panic!("{made:?}") };
+    let elsewhere = folder.join("elsewhere");
+    fs::create_dir(&elsewhere).expect("a folder");
+    let mut tar = Command::new("tar");
+    tar.arg("-xzf").arg(folder.join("made").join(name)).current_dir(&elsewhere);
+    assert!(tar.status().expect("tar runs").success());
+    fs::remove_dir_all(folder.join("made")).expect("the folder where it was made");
+
+    let tree = elsewhere.join(name.trim_end_matches("-x86_64.tar.gz"));
+    let (documents, others): (Vec<_>, Vec<_>) =
+        files(&tree).into_iter().partition(|name| name.starts_with("share/doc/mve/"));
+    assert_eq!(others, expected_files());
+    for document in ["README.md", "docs/RULES.md", "examples/play.c"] {
+        assert!(documents.contains(&format!("share/doc/mve/{document}")), "{document}");
+    }
+    fs::write(folder.join("film.mve"), demo::film().bytes()).expect("the film");
+    fs::create_dir(folder.join("pictures")).expect("a folder");
+    let compiled = Command::new("cc")
+        .current_dir(&folder)
+        .args(["-std=c11", "-o", "play"])
+        .arg(tree.join("share/doc/mve/examples/play.c"))
+        .args(flags(&tree))
+        .output()
+        .expect("cc runs");
+    assert!(compiled.status.success(), "{}", String::from_utf8_lossy(&compiled.stderr));
+    let mut play = Command::new(folder.join("play"));
+    let played = play.current_dir(&folder).args(["film.mve", "pictures", "1000"]).output();
+    assert!(played.expect("the player runs").status.success());
+    let pictures = files(&folder.join("pictures"));
+    let pictures = pictures.iter().filter(|name| name.ends_with(".ppm")).count();
+    assert_eq!(pictures, demo::FRAMES);
+    if tree.join("bin/mve").exists() {
+        let said =
+            Command::new(tree.join("bin/mve")).arg("info").arg(folder.join("film.mve")).output();
+        let said = String::from_utf8(said.expect("mve runs").stdout).expect("text");
+        assert!(said.contains("plays to its end"), "{said}");
+    }
 }
 
 /// Files go under DESTDIR; `mve.pc` tells where they are without it.

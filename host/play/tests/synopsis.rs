@@ -76,7 +76,7 @@ fn assert_said(program: &Path, film: &[u8]) -> Option<u8> {
             (refusal, played.position)
         }
     };
-    let start = format!("refused by {} at byte {position}: ", refusal.number);
+    let start = format!("refusal {} at byte {position}: ", refusal.number);
     assert_eq!(output.status.code(), Some(1));
     assert!(said.starts_with(&start) && said.len() > start.len() + 10, "{said}, not {start}");
     Some(refusal.number)

@@ -11,12 +11,17 @@ use crate::refusal::Refusal;
 const STORES_A_STEP: usize = 312_000;
 /// Bytes of the longest packet's samples: a word counts them, and each has two bytes at most.
 const ROOM: usize = 2 * 65_535;
+/// The type of the opcode that gives the time of a picture.
+const TIMER: u8 = 0x02;
+/// Microseconds that a picture stays before the first of them (003: a rate of 8341, 8 times).
+const USUAL: u64 = 66_728;
 
 /// What playing a film gives.
 #[derive(Clone, Debug, PartialEq, Eq)]
 pub struct Played {
     /// The pictures sent, in order, each as the bytes of a PPM file. Its heading has the rows of blocks
-    /// touched (02, W2) since the same one of the two lent pictures was last sent.
+    /// touched (02, W2) since the same one of the two lent pictures was last sent, and the microseconds
+    /// after which it is shown.
     pub pictures: Vec<Vec<u8>>,
     /// The sound of the stream. Opcode 03 begins another recording unless channels, bits and rate
     /// stay as they are.
@@ -55,6 +60,7 @@ pub fn play(film: &[u8], stream: usize) -> Played {
     let mut room = vec![0; ROOM];
     // Of each lent picture, what the packets drawn on it touched since it was sent.
     let mut touched = [Vec::new(), Vec::new()];
+    let (mut time, mut stays) = (0_u64, USUAL);
     let refusal = loop {
         let lent = Lent {
             palette: &mut colours,
@@ -68,8 +74,10 @@ pub fn play(film: &[u8], stream: usize) -> Played {
                 // Only a frame that is sent changes the roles (01, opcode 07).
                 if after.front != state.front {
                     let rows = std::mem::take(&mut touched[after.front]);
-                    pictures.push(ppm(&after, film::shown(&after, &a, &b), &colours, &rows));
+                    pictures.push(ppm(&after, film::shown(&after, &a, &b), &colours, &rows, time));
+                    time = time.wrapping_add(stays);
                 }
+                stays = timer(film, &state).unwrap_or(stays);
                 record(&mut recordings, film, &state, &after, &room[..bytes]);
                 state = after;
             }
@@ -115,9 +123,20 @@ fn rate_of_format(film: &[u8], state: &State) -> Option<u16> {
     is_acted_on.then(|| u16::from_le_bytes([rate[0], rate[1]]))
 }
 
-/// A picture as a PPM file: a heading with the first and the last of its touched rows, as a comment, and
-/// with its width and height in pixels, then red, green and blue of each pixel.
-fn ppm(state: &State, picture: &[u8], colours: &[u8], touched: &[Rows]) -> Vec<u8> {
+/// The microseconds that an opcode 02 gives where a step in this state takes one, unless they are 0: a
+/// rate of two words times a subdivision (003).
+fn timer(film: &[u8], state: &State) -> Option<u64> {
+    let head = film::opcode_head(film, state.position, state.chunk_end).ok()?;
+    let body = head.body.of(film)?;
+    let word =
+        |at: usize| body.get(at..at + 2).map(|word| u64::from(word[0]) + 256 * u64::from(word[1]));
+    let time = (word(0)? + 65_536 * word(2)?) * word(4)?;
+    (head.kind == TIMER && time != 0).then_some(time)
+}
+
+/// A picture as a PPM file: a heading with the first and the last of its touched rows and its time, as
+/// comments, and with its width and height in pixels, then red, green and blue of each pixel.
+fn ppm(state: &State, picture: &[u8], colours: &[u8], touched: &[Rows], time: u64) -> Vec<u8> {
     let [width, height] = [state.columns, state.rows].map(|blocks| blocks * BLOCK_SIDE);
     let first = touched.iter().map(|rows| rows.first).min();
     let last = touched.iter().map(|rows| rows.last).max();
@@ -125,12 +144,12 @@ fn ppm(state: &State, picture: &[u8], colours: &[u8], touched: &[Rows]) -> Vec<u
         Some((first, last)) => format!("{first} to {last}"),
         None => "none".to_string(),
     };
-    let heading = format!("P6\n# rows {rows}\n{width} {height}\n255\n");
+    let heading = format!("P6\n# rows {rows}\n# at {time} us\n{width} {height}\n255\n");
     let entry = |&pixel: &u8| colours[usize::from(pixel) * 3..][..3].iter().map(|&c| full_range(c));
     heading.into_bytes().into_iter().chain(picture.iter().flat_map(entry)).collect()
 }
 
-/// A colour component, 0 to 63, as the nearest of 0 to 255.
+/// A colour component, 0 to 63, in 8 bits: 4 times as much, and a 16th of it more.
 fn full_range(component: u8) -> u8 {
-    (f64::from(component) * 255.0 / 63.0).round() as u8
+    component * 4 + component / 16
 }

@@ -21,17 +21,19 @@ fn entry(index: u8, colour: [u8; 3]) -> Vec<u8> {
     opcode(0x0C, 0, &[&[index, 0, 1, 0], &colour[..]].concat())
 }
 
-fn ppm(colour: [u8; 3]) -> Vec<u8> {
-    [&b"P6\n# rows 0 to 0\n8 8\n255\n"[..], &colour.repeat(64)].concat()
+/// The picture of a film without a timer that is sent as this one, counted from 0.
+fn ppm(number: usize, colour: [u8; 3]) -> Vec<u8> {
+    let heading = format!("P6\n# rows 0 to 0\n# at {} us\n8 8\n255\n", number * 66_728);
+    [heading.as_bytes(), &colour.repeat(64)].concat()
 }
 
-/// Components are scaled to the nearest: 63 is 255, 1 is 4.05, 11 is 44.5 and a little.
+/// Components get 8 bits, the high two again as the low ones: 63 is 255, 1 is 4, 44 is 178.
 #[test]
 fn palette_is_scaled() {
     let [map, frame] = solid(7);
-    let opcodes = [entry(7, [63, 1, 11]), size(1, 1), map, frame, send()];
+    let opcodes = [entry(7, [63, 1, 44]), size(1, 1), map, frame, send()];
     let played = play(&film(&[chunk(&opcodes)]));
-    assert_eq!(played.pictures, [ppm([255, 4, 45])]);
+    assert_eq!(played.pictures, [ppm(0, [255, 4, 178])]);
     assert_eq!((played.position, played.refusal), (26 + 4 + 11 + 8 + 5 + 19 + 8, None));
 }
 
@@ -50,7 +52,7 @@ fn one_for_each_sent() {
         three.to_vec(),
     ];
     let played = play(&film(&[chunk(&opcodes.concat())]));
-    assert_eq!(played.pictures, [ppm([255, 0, 0]), ppm([0, 255, 0])]);
+    assert_eq!(played.pictures, [ppm(0, [255, 0, 0]), ppm(1, [0, 255, 0])]);
     assert_eq!(played.refusal, None);
 }
 
@@ -84,11 +86,39 @@ fn rows_since_last_sent() {
     let played = play(&film(&[chunk(&opcodes.concat())]));
     assert_eq!(played.refusal, None);
     let rows = ["1 to 1", "none", "0 to 2", "2 to 2", "0 to 0"];
-    let headings = rows.map(|rows| format!("P6\n# rows {rows}\n8 24\n255\n"));
+    let times = [0, 66_728, 133_456, 200_184, 266_912].into_iter();
+    let headings: Vec<_> = times
+        .zip(rows)
+        .map(|(time, rows)| format!("P6\n# rows {rows}\n# at {time} us\n8 24\n255\n"))
+        .collect();
     assert_eq!(played.pictures.len(), headings.len());
     for (picture, heading) in played.pictures.iter().zip(headings) {
         assert_eq!(picture[..heading.len()], *heading.as_bytes());
         assert_eq!(picture.len(), heading.len() + 3 * 192);
+    }
+}
+
+/// A timer holds from its opcode on to the next; one of 0 says nothing (003).
+#[test]
+fn times() {
+    let frame = |timer: &[u8]| {
+        let timer = (!timer.is_empty()).then(|| opcode(0x02, 0, timer));
+        [timer.into_iter().collect(), solid(1).to_vec(), vec![send()]].concat()
+    };
+    let opcodes = [
+        vec![size(1, 1)],
+        frame(&[]),
+        frame(&[0x10, 0x27, 0, 0, 2, 0]),
+        frame(&[1, 0, 0, 0, 0, 0]),
+        frame(&[0, 0, 1, 0, 1, 0, 9]),
+        frame(&[]),
+    ];
+    let played = play(&film(&[chunk(&opcodes.concat())]));
+    let times = [0, 66_728, 86_728, 106_728, 172_264];
+    assert_eq!(played.pictures.len(), times.len());
+    for (picture, time) in played.pictures.iter().zip(times) {
+        let heading = format!("P6\n# rows 0 to 0\n# at {time} us\n8 8\n");
+        assert!(picture.starts_with(heading.as_bytes()), "{time}");
     }
 }
 
@@ -98,7 +128,7 @@ fn refused() {
     let [map, frame] = solid(0);
     let film = film(&[chunk(&[size(1, 1), map, frame, send(), opcode(0x06, 0, &[])])]);
     let played = play(&film);
-    assert_eq!(played.pictures, [ppm([0; 3])]);
+    assert_eq!(played.pictures, [ppm(0, [0; 3])]);
     assert_eq!((played.position, played.refusal), (film.len() - 4, Some(Refusal::new(4))));
     let played = play(&film[1..]);
     assert_eq!((played.pictures.len(), played.position), (0, 0));

@@ -501,6 +501,46 @@ static int texts(void) {
     return 0;
 }
 
+/* The time of a picture: of an opcode 02 at the state, and of nothing else. */
+static int timers(void) {
+    uint8_t film[] = {9, 9, 6, 0, 2, 0, 0x95, 0x20, 0, 0, 8, 0, 9, 9};
+    struct mve_state state;
+    memset(&state, 0, sizeof state);
+    state.position = 2;
+    state.chunk_end = 12;
+    EXPECT(mve_timer(film, sizeof film, &state) == 66728);
+    EXPECT(mve_timer(film, 12, &state) == 66728 && mve_timer(film, 11, &state) == 0);
+    film[9] = 255; /* all 32 bits of the rate */
+    EXPECT(mve_timer(film, sizeof film, &state) == (UINT64_C(0xFF002095) * 8));
+    for (size_t at = 0; at <= 14; at += 1) {
+        for (size_t end = 0; end <= 14; end += 1) {
+            state.position = at;
+            state.chunk_end = end;
+            EXPECT((mve_timer(film, sizeof film, &state) != 0) == (at == 2 && end >= 12));
+        }
+    }
+    state.position = 2;
+    state.chunk_end = 12;
+    film[2] = 5; /* a body that is too short; one that passes its chunk; another type */
+    EXPECT(mve_timer(film, sizeof film, &state) == 0);
+    film[2] = 7;
+    EXPECT(mve_timer(film, sizeof film, &state) == 0);
+    film[2] = 6;
+    film[4] = 3;
+    EXPECT(mve_timer(film, sizeof film, &state) == 0);
+    return 0;
+}
+
+/* A component's high bits come again: 0 is 0, 63 is 255, and what is above 63 is 63. */
+static int colours(void) {
+    EXPECT(mve_widened(0) == 0 && mve_widened(1) == 4 && mve_widened(16) == 65 && mve_widened(63) == 255);
+    EXPECT(mve_widened(64) == 255 && mve_widened(255) == 255);
+    for (unsigned component = 0; component < 64; component += 1) {
+        EXPECT(mve_widened((uint8_t)component) == component * 4 + component / 16);
+    }
+    return 0;
+}
+
 static int has_rows(struct mve_answer answer, size_t touched, size_t first, size_t last) {
     return answer.touched == touched && answer.first_row == first && answer.last_row == last;
 }
@@ -592,6 +632,6 @@ static int salvages(void) {
 }
 
 int main(void) {
-    return constants() | texts() | pictures() | states() | places() | counts() | sound() | padded_packet() | padded_film() |
-           rows() | origins() | salvages();
+    return constants() | texts() | timers() | colours() | pictures() | states() | places() | counts() | sound() |
+           padded_packet() | padded_film() | rows() | origins() | salvages();
 }

@@ -227,7 +227,7 @@ pub fn assert_refused(folder: &str, film: &[u8], played: &Played, options: &Opti
         12..=14 => format!(" in block {}", refusal.block),
         _ => String::new(),
     };
-    let begin = format!("film.mve: refused {}{block}: ", refusal.number);
+    let begin = format!("film.mve: refusal {}{block}: ", refusal.number);
     let (pictures, sounds) = (played.pictures.len(), played.recordings.len());
     let position = played.position;
     let end = format!(", at byte {position}, pictures: {pictures}, sound files: {sounds}\n");
