@@ -3,7 +3,8 @@
 An input is a byte that chooses a trial, then what the trial reads. Every lent buffer ends right before a page that may not be
 touched. What is tested beside that is what include/mve.h promises of any input: that refused calls change nothing, that steps
 get on, that cuts change no picture, that a check and a drawing agree, that an origin holds the value, that the parts of a
-scratched film add up. No expectation comes from a second decoder here: host/compare has those. */
+scratched film add up, that a stripped film is never longer and stays when it is stripped again. No expectation comes from a
+second decoder here: host/compare has those. */
 
 #define _GNU_SOURCE
 #include "mve.h"
@@ -309,6 +310,31 @@ static void try_salvage(const uint8_t *data, size_t size) {
     }
 }
 
+/* A film without what the player passes over, for the stream that the first byte says: never longer, the same when it is
+   stripped again, and refused by 2 to 5 exactly where mve_salvage leaves something out. */
+static void try_strip(const uint8_t *data, size_t size) {
+    static uint8_t new_film[LONGEST];
+    if (size < 1) {
+        return;
+    }
+    size_t stream = data[0], length = size - 1, losses_numbers = 3 * (length / 5);
+    const uint8_t *film = data + 1;
+    struct mve_stripped told = mve_strip(film, length, stream, last(room, length), length);
+    PROMISE(told.number <= 5 && told.length <= length && (told.number == 0 || told.length == 0));
+    if (told.number == 0) {
+        PROMISE(told.length >= 26);
+        memcpy(new_film, last(room, length), told.length);
+        struct mve_stripped again = mve_strip(new_film, told.length, stream, last(room, told.length), told.length);
+        PROMISE(again.number == 0 && again.length == told.length);
+        PROMISE(memcmp(new_film, last(room, told.length), told.length) == 0);
+        PROMISE(mve_strip(film, length, stream, last(room, told.length - 1), told.length - 1).number == 19);
+    }
+    size_t *losses = (size_t *)(void *)last(list, losses_numbers * sizeof(size_t));
+    struct mve_salvaged saved = mve_salvage(film, length, last(room, length + 8), length + 8, losses, losses_numbers);
+    size_t first = saved.left_out > 0 ? losses[2] : saved.stop == MVE_STOP_PAST_END ? MVE_ERROR_CHUNK : 0;
+    PROMISE(told.number == (saved.number == 0 ? first : saved.number));
+}
+
 int LLVMFuzzerInitialize(int *count, char ***words) {
     (void)count, (void)words;
     input = guarded(LONGEST);
@@ -335,11 +361,12 @@ int LLVMFuzzerTestOneInput(const uint8_t *data, size_t size) {
 #ifdef PLANTED /* a host that lends a byte too many: the guard page must find it */
     lent += length > 26 ? 1 : 0;
 #endif
-    switch (data[0] % 5) {
+    switch (data[0] % 6) {
     case 0: try_film(lent, length); break;
     case 1: try_packet(lent, length); break;
     case 2: try_salvage(lent, length); break;
     case 3: try_begin(lent, length); break;
+    case 4: try_strip(lent, length); break;
     default: try_state(lent, length); break;
     }
     return 0;

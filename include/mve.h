@@ -51,6 +51,7 @@ mve_check   whether a packet is accepted, without drawing it
 mve_draw    the drawing of a packet, without a film
 mve_origin  which byte or pixel gave a pixel of a packet's picture its value
 mve_salvage what is left of a scratched film, as a new film
+mve_strip   a film without what the player passes over, as a new film
 
 mve_step with MVE_STRICT, mve_check_strict and mve_draw_strict are the strict forms: a packet may leave no byte over (THE
 PACKET). mve_is_sent tells whether a step sent a picture to the display. mve_timer reads how long a picture stays (THE TIME
@@ -171,8 +172,8 @@ libmve.a is one object for x86-64 and the System V ABI. It needs no operating sy
 undefined below. Every function has a section of its own, so that the linker's --gc-sections leaves out those that are not
 called. All relocations are relative: code and constants may be loaded at any address, as long as they stay together.
 
-    code                        42,294 bytes
-    constants                   1,317 bytes
+    code                        44,480 bytes
+    constants                   1,333 bytes
     memory of its own           0 bytes
     undefined symbols           memset
     relocations                 R_X86_64_PC32, R_X86_64_PLT32
@@ -185,9 +186,10 @@ called. All relocations are relative: code and constants may be loaded at any ad
     stack of mve_draw_strict    664 bytes
     stack of mve_open           8 bytes
     stack of mve_origin         288 bytes
-    stack of mve_salvage        552 bytes
+    stack of mve_salvage        536 bytes
     stack of mve_shown          8 bytes
     stack of mve_step           744 bytes
+    stack of mve_strip          632 bytes
 
 The stack of a call is the most that it takes, together with all that it calls: return addresses, pushed registers and
 arguments, locals with the copies of constant tables, and what is used below the stack pointer. Each call takes less than
@@ -205,9 +207,10 @@ A boot stage has one stack for all of this. A whole stage is a least caller in C
     whole stage of mve_draw_strict  872 bytes
     whole stage of mve_open         24 bytes
     whole stage of mve_origin       432 bytes
-    whole stage of mve_salvage      648 bytes
+    whole stage of mve_salvage      632 bytes
     whole stage of mve_shown        24 bytes
     whole stage of mve_step         904 bytes
+    whole stage of mve_strip        648 bytes
 
 The least caller of mve_step is main of examples/synopsis.c. It keeps all its variables out of the stack, and opens the film
 in a function of its own that is not inlined, so that the steps do not stand on the frame of the opening. The others are
@@ -390,6 +393,30 @@ A room of film_length + 8 bytes is always enough, and so is a list of 3 * (film_
 has five bytes or more. Where room or list is too short, nothing is written. The film is walked twice, once to measure and
 once to write. The new film saved again is kept whole, with nothing left out: that is proved, too. A call that is stopped in
 the middle leaves any part of both written; call it anew.
+
+A FILM WITHOUT WHAT THE PLAYER PASSES OVER
+
+mve_strip writes a film to the room that takes less memory and plays the same, for one stream of its sound or for none:
+
+    the header;
+    the opcodes that are acted on, with the same bytes in the same order. Of sound, where the stream is 0 to 15, these are
+    0x03 and those of 0x08 and 0x09 whose mask has the stream's bit; where it is above 15, none of the three. 0x01 is kept.
+    All others go;
+    around them their chunks, with the same types; each length is that of what is left. A chunk without an opcode goes;
+    nothing of what follows the chunk with 0x00.
+
+Opcode 0x02 goes, too: a host that needs the time of a picture must keep it elsewhere (THE TIME OF A PICTURE).
+
+It is proved that both films, played from equal lent memory with 312,000 stores a step, send the same pictures with the same
+palettes, give the same samples of the stream, and end alike: both come to their end, or both are refused by the same number.
+
+Refused by 1 for the header; then by the first of 2 to 5 that the film meets, tested as mve_salvage tests them: sound whatever
+the stream, nothing behind the chunk with 0x00; then by 19 where the room is too short. A scratched film is for mve_salvage
+first. Other refusals are not tested: a film that is refused by them where it is played is stripped, and so is the new one.
+
+The new film is never longer, so a room of film_length bytes is always enough. Stripped again for the same stream it stays as
+it is. Both are proved. The film is walked twice, once to measure and once to write. A call that is stopped in the middle
+leaves any part of the room written; call it anew.
 */
 
 #ifndef MVE_H
@@ -404,7 +431,7 @@ extern "C" {
 
 /* The version of this interface. It changes with every change of the calls, of the structs, of the names, of the packets
    that are accepted and of the pictures that they give. CHANGELOG.md says what changed in each. */
-#define MVE_VERSION 12
+#define MVE_VERSION 13
 
 /* The bytes of the palette: 256 entries of red, green and blue. */
 #define MVE_PALETTE_BYTES 768
@@ -458,13 +485,14 @@ enum mve_kind {
        mve_draw, mve_draw_strict       6, 8, 10, 11, the blocks, 15
        mve_origin                      6, 8, 10, the blocks, 15, 22
        mve_salvage                     1, 19
+       mve_strip                       1, the first of 2 to 5 in the order of the film, 19
 
    Of several blocks with a fault, the one with the lowest number is given, with its first fault in the order 12, 13, 14. */
 enum mve_refusal {
     MVE_ERROR_STATE = 16,        /* from is no state (MEMORY), or one with position, chunk end, map, front, size or sound
                                     format out of bounds */
     MVE_ERROR_LENT_LENGTH = 8,   /* palette not 768 bytes, or a picture shorter than the frame */
-    MVE_ERROR_HEADER = 1,        /* film header wrong or short (mve_open, mve_begin and mve_salvage alone) */
+    MVE_ERROR_HEADER = 1,        /* film header wrong or short (not mve_step) */
     MVE_ERROR_CHUNK = 2,         /* a chunk or its head passes the end of the film */
     MVE_ERROR_OPCODE = 3,        /* an opcode or its head passes its chunk, or bytes follow 0x00 or 0x01 */
     MVE_ERROR_TYPE = 4,          /* opcode type or version not taken */
@@ -481,7 +509,7 @@ enum mve_refusal {
     MVE_ERROR_SOUND_FORMAT = 17, /* 0x08 or 0x09 of the stream before a 0x03, or a 0x03 both 8-bit and compressed */
     MVE_ERROR_SOUND_LENGTH = 18, /* data not as long as the count of samples says, a count that is odd in stereo, or
                                     below the channels in the first compressed 0x08 */
-    MVE_ERROR_ROOM = 19,         /* room too small for the samples; of mve_salvage, for the new film or the list */
+    MVE_ERROR_ROOM = 19,         /* room too small for the samples or for a new film, or list for what it lacks */
     MVE_ERROR_NO_SIZE = 21,      /* the film ends without a frame size (mve_begin alone) */
     MVE_ERROR_POSITION = 22      /* a position outside the picture (mve_origin alone) */
 };
@@ -653,6 +681,13 @@ struct mve_salvaged {
     size_t rest;   /* not walked */
 };
 
+/* A film without what the player passes over. number: of a refusal, and length is 0 then; else 0. length: how many bytes the
+   new film has, at the room's front. */
+struct mve_stripped {
+    size_t number;
+    size_t length;
+};
+
 /* The first state of a film, for this stream of its sound: MVE_TAKEN, or MVE_REFUSED by MVE_ERROR_HEADER with a state of
    zeros. Reads the film alone. out_numbers is MVE_STEPPED_NUMBERS, here and below; MEMORY says what other counts get. */
 size_t mve_open(const uint8_t *film, size_t film_length, size_t stream, struct mve_stepped *out, size_t out_numbers);
@@ -721,6 +756,12 @@ struct mve_traced mve_origin(size_t columns, size_t rows, const uint8_t *map, si
    are then as they were. What lies in them behind what is written stays. */
 struct mve_salvaged mve_salvage(const uint8_t *film, size_t film_length, uint8_t *room, size_t room_length,
                                 size_t *list, size_t list_numbers);
+
+/* Writes a film without what a player of this stream passes over to the room (A FILM WITHOUT WHAT THE PLAYER PASSES OVER).
+   Refused by 1 for the header, by the first of 2 to 5 that is met, then by 19 where the room is too short; the room is then as
+   it was. What lies in it behind what is written stays. */
+struct mve_stripped mve_strip(const uint8_t *film, size_t film_length, size_t stream, uint8_t *room,
+                              size_t room_length);
 
 #ifdef __cplusplus
 }

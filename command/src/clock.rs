@@ -3,7 +3,7 @@
 /// Where a film does not say it: the usual timer of document 003, 8341 times 8.
 pub const USUAL: u32 = 66_728;
 /// Ten minutes. A timer of more than this is taken as none: no player can follow it. Nor is one of 0.
-const LONGEST: u64 = 600_000_000;
+pub const LONGEST: u64 = 600_000_000;
 
 /// The time that has passed.
 #[derive(Clone, Copy, Debug, Default)]

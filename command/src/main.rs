@@ -7,10 +7,12 @@ mod blocks;
 mod canvas;
 mod causes;
 mod chain;
+mod chunks;
 mod clock;
 mod colours;
 mod completions;
 mod drawings;
+mod dropped;
 mod film;
 mod info;
 mod legend;
@@ -27,8 +29,10 @@ mod readings;
 mod refusals;
 mod report;
 mod salvage;
+mod scratch;
 mod signals;
 mod sound;
+mod strip;
 mod table;
 mod terminal;
 mod walk;
@@ -41,13 +45,14 @@ use std::io::{self, Write};
 use std::process::ExitCode;
 
 /// All subcommands, in the order of the help.
-const SUBCOMMANDS: [Subcommand; 7] = [
+const SUBCOMMANDS: [Subcommand; 8] = [
     info::SUBCOMMAND,
     list::SUBCOMMAND,
     play::SUBCOMMAND,
     why::SUBCOMMAND,
     blocks::SUBCOMMAND,
     salvage::SUBCOMMAND,
+    strip::SUBCOMMAND,
     completions::SUBCOMMAND,
 ];
 

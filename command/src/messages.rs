@@ -3,6 +3,7 @@
 
 use crate::film::STANDARD;
 use crate::refusals::Refused;
+use mve::Error;
 use std::fmt;
 use std::io::{self, ErrorKind};
 use std::path::{Path, PathBuf};
@@ -37,6 +38,8 @@ pub enum Failure {
     BothStandard,
     /// A file that is no film, so that there is nothing to save.
     NoFilm(PathBuf, Refused),
+    /// A film that is not to be stripped, since it is scratched or none.
+    Scratched(PathBuf, Refused),
     /// A film that is refused, and what becomes of its pictures.
     Refused(PathBuf, Refused, Kept),
     /// A film that sends too few pictures: so many.
@@ -95,6 +98,7 @@ impl Failure {
     pub fn status(&self) -> u8 {
         match self {
             Failure::Refused(..)
+            | Failure::Scratched(..)
             | Failure::NoPicture(..)
             | Failure::NotSent(..)
             | Failure::NoSound(..) => REFUSED,
@@ -121,6 +125,13 @@ impl fmt::Display for Failure {
             }
             Failure::NoFilm(path, refused) => {
                 write!(f, "{}: {refused} Nothing is written.", name(path))
+            }
+            Failure::Scratched(path, refused) => {
+                let saves = match refused.error {
+                    Error::Header => ".",
+                    _ => "; mve salvage saves what is left of it.",
+                };
+                write!(f, "{}: {refused} Nothing is written{saves}", name(path))
             }
             Failure::IsFolder(path) => write!(f, "{}: is a folder: give another name", name(path)),
             Failure::IsFile(path) => write!(f, "{}: is no folder: give another name", name(path)),

@@ -68,20 +68,13 @@ fn run(matches: &ArgMatches) -> Result<u8, Failure> {
     })?;
     let saved = Saved::of(&film)
         .map_err(|refusal| Failure::NoFilm(scratched.into(), Refused::at_header(refusal)))?;
-    write(target, &saved.film, &overwrite)?;
+    Part::whole(target, &saved.film, &overwrite)?;
     let text = match matches.get_flag("json") {
         true => saved.object(scratched, target) + "\n",
         false => saved.lines(scratched, target),
     };
     io::stdout().write_all(text.as_bytes()).map_err(Failure::standard_output)?;
     Ok(if saved.is_whole() { 0 } else { REFUSED })
-}
-
-fn write(target: &Path, film: &[u8], overwrite: &Overwrite) -> Result<(), Failure> {
-    let (part, mut file) = Part::file(target)?;
-    file.write_all(film).map_err(|error| Failure::write(target, error))?;
-    drop(file);
-    part.keep(overwrite)
 }
 
 /// What is left of a film.

@@ -24,10 +24,20 @@ fn help_and_version() {
         let expected = format!("mve {} (MVE_VERSION {})\n", env!("CARGO_PKG_VERSION"), interface());
         assert_eq!(ran.text(), expected);
     }
-    let all: [(&[&str], &[&str]); 10] = [
+    let all: [(&[&str], &[&str]); 11] = [
         (
             &["--help"],
-            &["info", "list", "play", "why", "blocks", "salvage", "completions", "--version"],
+            &[
+                "info",
+                "list",
+                "play",
+                "why",
+                "blocks",
+                "salvage",
+                "strip",
+                "completions",
+                "--version",
+            ],
         ),
         (&["-h"], &["info", "play"]),
         (&["info", "--help"], &["opcode 0x02", "rate times its subdivision", "--json", "--strict"]),
@@ -41,6 +51,10 @@ fn help_and_version() {
         (&["help", "list"], &["hex", "VERSION", "- is standard input"]),
         (&["help", "completions"], &["bash", "zsh", "fish"]),
         (&["help", "salvage"], &["SAVED.mve", "--json", "--force", "is never overwritten"]),
+        (
+            &["help", "strip"],
+            &["OUT.mve", "--no-sound", "--stream", "--json", "is never overwritten"],
+        ),
     ];
     for (words, expected) in all {
         let ran = mve(&folder, words);
@@ -57,7 +71,7 @@ fn help_and_version() {
 #[test]
 fn wrong_use() {
     let folder = with_film("wrong", &demo::beginning(2).bytes());
-    let cases: [(&[&str], &str); 22] = [
+    let cases: [(&[&str], &str); 25] = [
         (&[], "Usage: mve <COMMAND>"),
         (&["watch"], "'watch' wasn't recognized"),
         (&["info"], "<FILM>"),
@@ -83,6 +97,12 @@ fn wrong_use() {
         (&["completions", "cmd"], "'cmd'"),
         (&["salvage", "film.mve"], "--output <SAVED.mve>"),
         (&["salvage", "-o", "x.mve"], "<SCRATCHED.mve>"),
+        (&["strip", "film.mve"], "--output <OUT.mve>"),
+        (&["strip", "film.mve", "-o", "x.mve", "--stream", "16"], "16 is not in 0..=15"),
+        (
+            &["strip", "film.mve", "-o", "x.mve", "--stream", "1", "--no-sound"],
+            "cannot be used with",
+        ),
     ];
     for (words, message) in cases {
         let ran = mve(&folder, words);

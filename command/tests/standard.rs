@@ -81,13 +81,14 @@ fn two_formats() {
 #[test]
 fn never_overwritten() {
     let film = demo::beginning(2).bytes();
-    let cases: [(&str, &[&str]); 6] = [
+    let cases: [(&str, &[&str]); 7] = [
         ("film.gif", &["play", "film.gif", "-o", "film.gif"]),
         ("film.y4m", &["play", "./film.y4m", "-o", "film.y4m"]),
         ("film.wav", &["play", "film.wav", "--sound", "film.wav"]),
         ("film.png", &["blocks", "film.png", "0", "-o", "film.png"]),
         ("000001.png", &["play", "000001.png", "-o", "./"]),
         ("film.mve", &["salvage", "film.mve", "-o", "film.mve"]),
+        ("film.mve", &["strip", "film.mve", "-o", "film.mve"]),
     ];
     for (name, words) in cases {
         let folder = fresh("never_overwritten");

@@ -28,6 +28,14 @@ impl Part {
         Ok((Part { temporary, target: target.into(), joins: false }, file))
     }
 
+    /// A whole file at the target.
+    pub fn whole(target: &Path, bytes: &[u8], overwrite: &Overwrite) -> Result<(), Failure> {
+        let (part, mut file) = Part::file(target)?;
+        file.write_all(bytes).map_err(|error| Failure::write(target, error))?;
+        drop(file);
+        part.keep(overwrite)
+    }
+
     /// A new folder, which is to be at the target, or whose files are to be there.
     pub fn folder(target: &Path) -> Result<Part, Failure> {
         let joins = target.is_dir();

@@ -1,22 +1,21 @@
 -- `moved-chunk`: an intact chunk is intact in another film where the same bytes stand.
 -- Assumes nothing.
-use mathlib.Core.Path.{_≡_, refl, sym, ap, ap₂, _∙_, subst}
-use mathlib.Core.Bool.{Bool, true, false}
-use mathlib.Core.List.{List, _++_}
-use Prim.Native.Nat.{ℕ, suc, _+_, _-_, _*_, _≤_, _<_}
+use mathlib.Core.Path.{_≡_, sym, ap, ap₂, _∙_, subst}
+use mathlib.Core.Bool.{Bool, false}
+use mathlib.Core.List.{List}
+use Prim.Native.Nat.{ℕ, suc, _+_, _-_, _*_, _≤_}
 use native.Mathlib.Omega.{arith}
 use lib.ListN.{length, getD}
 use Rattle.words.specs.Word.{wordAt}
 use Rattle.parts.specs.Parts.{part}
-use Rattle.parts.proofs.Parts.{Same, same-within, same-part}
-use Rattle.refusal.specs.Number.{accept}
+use Rattle.parts.proofs.Parts.{Same, same-within, same-front, same-part}
 use Rattle.state.specs.Moves.{cursor}
 use Rattle.heads.specs.declared.Opcode.{Opcode}
-use Rattle.heads.specs.Heads.{gives, opcode, opcodeAt, takenVerdict}
-use Rattle.chunks.specs.Chunks.{endOf, isExact, Condition, intact, chunk-to, conditionOf, followingAt}
+use Rattle.heads.specs.Heads.{opcode, opcodeAt}
+use Rattle.chunks.specs.Chunks.{endOf, isExact, Condition, intact, chunk-to, followingAt}
 use Rattle.chunks.specs.Holds.{Stands, Passes, chunk-over, last-is-00, passes-on, Holds}
-use Rattle.chunks.proofs.Heads.{Taken, takes, head-taken, head-ends, There, there, following-chunk}
-use Rattle.chunks.proofs.Holding.{condition-holds, passes-told, stands-ends}
+use Rattle.chunks.proofs.Heads.{Taken, takes, head-taken, there, following-chunk}
+use Rattle.chunks.proofs.Holding.{condition-holds, passes-told}
 
 -- ---- words and opcodes
 
@@ -29,36 +28,43 @@ module _ (film : List ℕ) (p : ℕ) (film′ : List ℕ) (p′ n : ℕ) (m : Sa
       let b : getD film p 0 ≡ getD film′ p′ 0 = rw (z, z′) at (m .byte 0 (omega arith)) in
       ap₂ (λ (x y : ℕ). x + 256 * y) b (m .byte 1 (omega arith))
 
-  module _ (o : Opcode) (s : Stands film (cursor p (p + n)) o) where
-    abbrev there′ : Opcode
-    there′ = opcode (o .kind) (o .version) (p′ + 4) (o .long)
+-- an opcode that stands in a chunk
+module _ (film : List ℕ) (p e : ℕ) (o : Opcode) (s : Stands film (cursor p e) o) where
+  known : Taken p e (wordAt film p) (getD film (p + 2) 0) (getD film (p + 3) 0) o
+  known = head-taken film (cursor p e) o (s .head)
 
-    known : Taken p (p + n) (wordAt film p) (getD film (p + 2) 0) (getD film (p + 3) 0) o
-    known = head-taken film (cursor p (p + n)) o (s .head)
+  long-is : o .long ≡ wordAt film p
+  long-is = ap (λ (x : Opcode). x .long) (known .is)
 
-    pub moved-start : o .start ≡ p + 4
-    moved-start = ap (λ (x : Opcode). x .start) (known .is)
+  kind-is : o .kind ≡ getD film (p + 2) 0
+  kind-is = ap (λ (x : Opcode). x .kind) (known .is)
 
-    pub moved-fits : 4 + o .long ≤ n
-    moved-fits = let l : o .long ≡ wordAt film p = ap (λ (x : Opcode). x .long) (known .is) in omega (arith, known .fits)
+  pub stands-start : o .start ≡ p + 4
+  stands-start = ap (λ (x : Opcode). x .start) (known .is)
 
-    pub moved-stands : Stands film′ (cursor p′ (p′ + n)) (opcode (o .kind) (o .version) (p′ + 4) (o .long))
+  pub stands-fits : p + (4 + o .long) ≤ e
+  stands-fits = omega (arith, known .fits, long-is)
+
+  -- 00 and 01 are the last of it
+  pub stands-last : o .kind ≤ 1 → p + (4 + o .long) ≡ e
+  stands-last l = omega (arith, known .last (subst (λ (x : ℕ). x ≤ 1) kind-is l), long-is)
+
+  -- where the same bytes stand in a chunk of another film, which may end elsewhere
+  module _ (film′ : List ℕ) (p′ e′ : ℕ) (m : Same film p film′ p′ (4 + o .long)) where
+    pub moved-body : part film (o .start) (endOf o) ≡ part film′ (p′ + 4) (p′ + 4 + o .long)
+    moved-body = ap (λ (x : ℕ). part film x (x + o .long)) stands-start ∙ same-part film (p + 4) film′ (p′ + 4) (o .long) (same-within film p film′ p′ (4 + o .long) m 4 (o .long) (omega arith))
+
+    pub moved-stands : p′ + (4 + o .long) ≤ e′ → (o .kind ≤ 1 → p′ + (4 + o .long) ≡ e′) → Stands film′ (cursor p′ e′) (opcode (o .kind) (o .version) (p′ + 4) (o .long))
     unfolding opcodeAt
-    moved-stands =
-        let few = moved-fits in
-        let l : o .long ≡ wordAt film p = ap (λ (x : Opcode). x .long) (known .is) in
-        let w : wordAt film′ p′ ≡ o .long = sym (same-word (omega arith)) ∙ sym l in
-        let k : getD film′ (p′ + 2) 0 ≡ o .kind = sym (m .byte 2 (omega arith)) ∙ sym (ap (λ (x : Opcode). x .kind) (known .is)) in
+    moved-stands h f =
+        let w : wordAt film′ p′ ≡ o .long = sym (same-word film p film′ p′ (4 + o .long) m (omega arith)) ∙ sym long-is in
+        let k : getD film′ (p′ + 2) 0 ≡ o .kind = sym (m .byte 2 (omega arith)) ∙ sym kind-is in
         let v : getD film′ (p′ + 3) 0 ≡ o .version = sym (m .byte 3 (omega arith)) ∙ sym (ap (λ (x : Opcode). x .version) (known .is)) in
-        let f : o .kind ≤ 1 → p′ + 4 + o .long ≡ p′ + n = λ z. omega (arith, known .last (subst (λ (x : ℕ). x ≤ 1) (ap (λ (x : Opcode). x .kind) (known .is)) z)) in
         record {
-          head = rw (w, k, v) (takes p′ (p′ + n) (o .long) (o .kind) (o .version) (omega arith) f);
+          head = rw (w, k, v) (takes p′ e′ (o .long) (o .kind) (o .version) (omega arith) (λ z. omega (arith, f z)));
           shape = s .shape;
-          exact = ap (isExact (o .kind)) (sym body) ∙ s .exact;
+          exact = ap (isExact (o .kind)) (sym moved-body) ∙ s .exact;
         }
-      where
-        body : part film (o .start) (endOf o) ≡ part film′ (p′ + 4) (p′ + 4 + o .long)
-        body = ap (λ (x : ℕ). part film x (x + o .long)) moved-start ∙ same-part (film) (p + 4) film′ (p′ + 4) (o .long) (same-within film p film′ p′ n m 4 (o .long) moved-fits)
 
 -- ---- the opcodes of a chunk
 
@@ -66,17 +72,17 @@ module _ (film film′ : List ℕ) where
   pub moved-passes : {p e : ℕ} {b : Bool} → Passes film p e b → (p′ n e′ : ℕ) → e ≡ p + n → e′ ≡ p′ + n → Same film p film′ p′ n → Passes film′ p′ e′ b
   moved-passes (chunk-over {e = e}) p′ n e′ q q′ m = let z : p′ ≡ e′ = omega arith in subst (λ (x : ℕ). Passes film′ p′ x false) z chunk-over
   moved-passes {p} {e} (last-is-00 o s k) p′ n e′ q q′ m =
-      let s₁ : Stands film (cursor p (p + n)) o = rw q at s in
-      last-is-00 {p = p′} {e = e′} (opcode (o .kind) (o .version) (p′ + 4) (o .long)) (rw q′ (moved-stands film p film′ p′ n m o s₁)) k
+      last-is-00 {p = p′} {e = e′} (opcode (o .kind) (o .version) (p′ + 4) (o .long))
+      (moved-stands film p e o s film′ p′ e′ (same-front film p film′ p′ n m (4 + o .long) (omega (arith, stands-fits film p e o s))) (omega (arith, stands-fits film p e o s)) (λ z. omega (arith, stands-last film p e o s z))) k
   moved-passes {p} {e} (passes-on o s k r) p′ n e′ q q′ m =
-      let s₁ : Stands film (cursor p (p + n)) o = rw q at s in
-      let few = moved-fits film p film′ p′ n m o s₁ in
-      let st = moved-start film p film′ p′ n m o s₁ in
+      let few = stands-fits film p e o s in
+      let st = stands-start film p e o s in
       let i = 4 + o .long in
       let a : p + i ≡ endOf o = omega arith in
       let a′ : p′ + i ≡ p′ + 4 + o .long = omega arith in
       let m₁ : Same film (endOf o) film′ (p′ + 4 + o .long) (n - i) = rw (a, a′) at (same-within film p film′ p′ n m i (n - i) (omega arith)) in
-      passes-on {p = p′} {e = e′} (opcode (o .kind) (o .version) (p′ + 4) (o .long)) (rw q′ (moved-stands film p film′ p′ n m o s₁)) k
+      passes-on {p = p′} {e = e′} (opcode (o .kind) (o .version) (p′ + 4) (o .long))
+      (moved-stands film p e o s film′ p′ e′ (same-front film p film′ p′ n m i (omega arith)) (omega arith) (λ z. omega (arith, stands-last film p e o s z))) k
       (moved-passes r (p′ + 4 + o .long) (n - i) e′ (omega arith) (omega arith) m₁)
 
 -- ---- a chunk

@@ -16,6 +16,8 @@ use mve_steps::put_opened;
 use mve_steps::put_step;
 use mve_steps::put_unread;
 use mve_steps::spare_of;
+use mve_strips::MveStripped;
+use mve_strips::of_stripped;
 ghost use mathlib.Core.Path.{_≡_};
 ghost use lib.ListN.{length};
 ghost use Rattle.packet.specs.Packet.{packet};
@@ -26,9 +28,11 @@ ghost use Rattle.draw.specs.Call.{within, request, pictures, leaves, report, sa
 ghost use Rattle.origin.specs.Trace.{traceOf};
 ghost use Rattle.film.specs.Film.{lent};
 ghost use Rattle.salvage.specs.Salvage.{answerOf, bytesAfter, numbersAfter};
+ghost use Rattle.strip.specs.Strip.{stripAnswer, stripRoom};
 ghost use Rattle.mve_answers.specs.Answer.{ofFound, ofReport};
 ghost use Rattle.mve_answers.specs.Trace.{ofTrace};
 ghost use Rattle.mve_salvages.specs.Salvages.{ofSalvage};
+ghost use Rattle.mve_strips.specs.Strips.{ofStrip};
 ghost use Rattle.exports.specs.Calls.{exit, mveOpen, mveStep, mveBegin, mveShown};
 
 // Whether a packet is accepted for a picture of columns by rows blocks.
@@ -213,4 +217,13 @@ pub extern "C" fn mve_salvage(film: &[u8], room: &mut [u8], list: &mut [usize]) 
     ensures { λ _. ⌜ now (list .exit) ≡ numbersAfter (now (film .entry)) (length (now (room .entry))) (now (list .entry)) ⌝ }
 {
     of_salvaged(salvage::salvage(film, room, list))
+}
+
+// What is left of a film without what a player of a stream passes over, to the room. A refusal leaves it as it was.
+#[no_mangle]
+pub extern "C" fn mve_strip(film: &[u8], stream: usize, room: &mut [u8]) -> MveStripped
+    ensures { λ r. ⌜ r ≡ ofStrip (stripAnswer (now (film .entry)) stream (length (now (room .entry)))) ⌝ }
+    ensures { λ _. ⌜ now (room .exit) ≡ stripRoom (now (film .entry)) stream (now (room .entry)) ⌝ }
+{
+    of_stripped(strip::strip(film, stream, room))
 }

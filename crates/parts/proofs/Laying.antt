@@ -1,6 +1,7 @@
 -- Bytes written behind others in a room.
 -- Assumes nothing.
 use mathlib.Core.Path.{_≡_, refl, sym, ap, _∙_}
+use mathlib.Core.Bool.{Bool, true, false, cond}
 use mathlib.Core.List.{List, [], _++_, append-nil, append-assoc}
 use Prim.Native.Nat.{ℕ, _+_, _-_, _≤_}
 use native.Mathlib.Omega.{arith}
@@ -44,3 +45,25 @@ laid-then at a b room h =
     laid-behind (take at room ++ a) b room (laid at a room) (at + length a) (laid-written at a room h)
     (sym (length-append (take at room) a ∙ ap (λ (k : ℕ). k + length a) (length-take-le at room h)))
     ∙ ap (λ (l : List ℕ). written l room) (append-assoc (take at room) a b) ∙ sym (laid-written at (a ++ b) room h)
+
+-- ---- what is stored, or not
+
+pub stored : {A : Type 0} (b : Bool) (x y r : A) → b ≡ true → r ≡ x → r ≡ cond b x y
+stored b x y r h e = rw h e
+
+pub not-stored : {A : Type 0} (b : Bool) (x y : A) → b ≡ false → y ≡ cond b x y
+not-stored b x y h = rw h
+
+-- of a room in which some bytes stand from index at on, or not
+pub stored-none : (b : Bool) (at : ℕ) (room : List ℕ) → room ≡ cond b (laid at [] room) room
+stored-none true at room = laid-none at room
+stored-none false at room = refl
+
+pub stored-length : (b : Bool) (at : ℕ) (a room : List ℕ) → (b ≡ true → at + length a ≤ length room) → length (cond b (laid at a room) room) ≡ length room
+stored-length true at a room h = laid-length at a room (h refl)
+stored-length false at a room h = refl
+
+pub stored-then : (b : Bool) (at : ℕ) (a c room : List ℕ) (n : ℕ) → n ≡ at + length a → (b ≡ true → at ≤ length room)
+    → cond b (laid n c (cond b (laid at a room) room)) (cond b (laid at a room) room) ≡ cond b (laid at (a ++ c) room) room
+stored-then true at a c room n e h = rw e (laid-then at a c room (h refl))
+stored-then false at a c room n e h = refl

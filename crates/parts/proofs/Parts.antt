@@ -1,11 +1,11 @@
 -- Parts of bytes, and the same bytes in two places.
 -- Assumes nothing.
 use mathlib.Core.Path.{_≡_, refl, sym, ap, _∙_}
-use mathlib.Core.List.{List, _++_}
-use Prim.Native.Nat.{ℕ, _+_, _-_, _≤_, _<_}
+use mathlib.Core.List.{List, [], _∷_, _++_}
+use Prim.Native.Nat.{ℕ, suc, _+_, _-_, _≤_, _<_}
 use native.Mathlib.Omega.{arith}
 use lib.ListN.{length, take, drop, getD, length-append, length-drop, List·getD-append}
-use lib.Seq.{getD-take, getD-drop, getD-append-add, ext-getD, length-take-le, take-at, drop-at}
+use lib.Seq.{drop-cons, getD-take, getD-drop, getD-append-add, ext-getD, length-take-le, take-at, drop-at}
 use Rattle.parts.specs.Parts.{part}
 
 pub part-length : (s : List ℕ) (from end : ℕ) → end ≤ length s → length (part s from end) ≡ end - from
@@ -19,6 +19,12 @@ pub part-behind : (whole pre x rest : List ℕ) (at : ℕ) → whole ≡ pre ++ 
 part-behind whole pre x rest at q e =
     let n : at + length x - at ≡ length x = omega arith in
     rw (q, n, e) (ap (take (length x)) (drop-at pre (x ++ rest) (length pre) refl) ∙ take-at x rest (length x) refl)
+
+pub part-two : (s : List ℕ) (from : ℕ) → from + 2 ≤ length s → part s from (from + 2) ≡ getD s from 0 ∷ getD s (from + 1) 0 ∷ []
+part-two s from h =
+    let n : from + 2 - from ≡ 2 = omega arith in
+    let b : drop (suc from) s ≡ getD s (from + 1) 0 ∷ drop (suc (suc from)) s = drop-cons s (suc from) 0 (omega arith) ∙ ap (λ (i : ℕ). getD s i 0 ∷ drop (suc (suc from)) s) (omega arith) in
+    ap (λ (i : ℕ). take i (drop from s)) n ∙ ap (take 2) (drop-cons s from 0 (omega arith) ∙ ap (λ (x : List ℕ). getD s from 0 ∷ x) b)
 
 -- the same n bytes stand at p of some bytes and at p′ of others
 pub record Same (s : List ℕ) (p : ℕ) (s′ : List ℕ) (p′ n : ℕ) : Type 0 where
@@ -38,6 +44,10 @@ module _ (s : List ℕ) (p : ℕ) (s′ : List ℕ) (p′ n : ℕ) (m : Same s p
     where
       at : (a b c : ℕ) → a ≡ p + c → b ≡ p′ + c → c < n → getD s a 0 ≡ getD s′ b 0
       at a b c ea eb h = rw (ea, eb) (m .byte c h)
+
+  -- the first of them
+  pub same-front : (k : ℕ) → k ≤ n → Same s p s′ p′ k
+  same-front k h = record { byte = λ i l. m .byte i (omega arith); inside = omega (arith, m .inside); inside′ = omega (arith, m .inside′) }
 
   pub same-part : part s p (p + n) ≡ part s′ p′ (p′ + n)
   same-part =

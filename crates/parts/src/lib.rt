@@ -2,6 +2,7 @@
 use room::put_all;
 use room::put_same;
 ghost use mathlib.Core.Path.{_≡_};
+ghost use mathlib.Core.Bool.{true, cond};
 ghost use Prim.Native.Nat.{_+_, _-_, _≤_, _<_};
 ghost use lib.ListN.{length, set, replicate};
 ghost use Rattle.parts.specs.Parts.{part, laid};
@@ -12,6 +13,16 @@ pub fn copy_part(room: &mut [u8], at: usize, s: &[u8], from: usize, end: usize)
     ensures { λ _. ⌜ now (room .exit) ≡ laid at (part (now (s .entry)) from end) (now (room .entry)) ⌝ }
 {
     put_all(&mut room[at..], &s[from..end]);
+}
+
+// `copy_part`, where it is stored.
+pub fn keep_part(storing: bool, room: &mut [u8], at: usize, s: &[u8], from: usize, end: usize)
+    requires { ⌜ (from ≤ end) × (end ≤ length (now s)) × (storing ≡ true → at + (end - from) ≤ length (now room)) ⌝ }
+    ensures { λ _. ⌜ now (room .exit) ≡ cond storing (laid at (part (now (s .entry)) from end) (now (room .entry))) (now (room .entry)) ⌝ }
+{
+    if storing {
+        copy_part(room, at, s, from, end);
+    }
 }
 
 // One byte n times, to the room from index at on.

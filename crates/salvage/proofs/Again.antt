@@ -2,47 +2,31 @@
 -- Assumes nothing.
 use mathlib.Core.Path.{_≡_, refl, sym, ap, ap₂, _∙_}
 use mathlib.Core.Bool.{Bool, true, false, cond}
-use mathlib.Core.List.{List, [], _∷_, _++_, append-assoc, append-nil}
-use Prim.Native.Nat.{ℕ, zero, suc, _+_, _-_, _*_, _≤_, _<_}
+use mathlib.Core.List.{List, [], _++_, append-assoc, append-nil}
+use Prim.Native.Nat.{ℕ, zero, suc, _+_, _-_, _≤_, _<_}
 use native.Mathlib.Omega.{arith}
 use borrow.Author.Tests.{le-ltb}
-use lib.Dec.{eqb, ltb}
-use lib.ListN.{length, take, drop, getD, length-append, List·getD-append}
-use lib.Seq.{length-take-le, getD-take, take-at}
+use lib.Dec.{ltb}
+use lib.ListN.{length, take, length-append}
+use lib.Seq.{take-at}
 use Rattle.words.specs.Word.{wordAt}
 use Rattle.refusal.specs.Number.{Verdict, accept, refuse}
 use Rattle.parts.specs.Parts.{part}
-use Rattle.parts.proofs.Parts.{part-length, part-behind, Same, same-behind, same-part}
-use Rattle.state.specs.Moves.{cursor, cursorInto, cursorBehind}
+use Rattle.parts.proofs.Parts.{part-length, part-behind, same-behind}
+use Rattle.state.specs.Moves.{cursorInto, cursorBehind}
 use Rattle.heads.specs.Heads as heads
 use Rattle.heads.specs.Heads.{chunkOf, chunkAt, opcodeOf, opcodeAt, shapeVerdict, isSound, hears, takenVerdict}
 use Rattle.next.specs.Next.{on, chunkStanding, opcodeStanding, chunkEnd, standingAt}
 use Rattle.opening.specs.Opening.{Opening, started, refuses, firstState, begins, openingOf}
-use Rattle.chunks.specs.Chunks.{isExact, measuredOpcode, measured, behindOpcode, opcodesFrom, Condition, intact, scratched, Following, chunk-to, following, followingAt}
+use Rattle.opening.proofs.Opens.{header-long, header-opens}
+use Rattle.chunks.specs.Chunks.{isExact, measuredOpcode, measured, behindOpcode, opcodesFrom, intact, scratched, Following, chunk-to, following, followingAt}
 use Rattle.chunks.proofs.Heads.{Ahead, at-film-end, is-past, is-chunk, ahead, There, there}
 use Rattle.chunks.proofs.Moved.{moved-chunk}
-use Rattle.salvage.specs.Salvage.{Stop, at-end, behind-00, by-2, Saved, noMore, keeping, goOn, saveFrom, saved, closing, newFilm, numbersOf, Tally, tally, headed, roomVerdict, verdictOf, writes, answerBy, answerOf}
+use Rattle.salvage.specs.Salvage.{behind-00, Saved, noMore, keeping, goOn, saveFrom, saved, closing, newFilm, numbersOf, Tally, tally, headed, roomVerdict, verdictOf, writes, answerBy, answerOf}
 use Rattle.salvage.proofs.Sums.{has-header}
 use Rattle.salvage.proofs.Writing.{end}
 
 -- ---- it opens
-
-begins-same : (film film′ : List ℕ) (n : ℕ) → ((i : ℕ) → i < n → getD film i 0 ≡ getD film′ i 0) → begins film n ≡ begins film′ n
-unfolding begins
-begins-same film film′ zero h = refl
-begins-same film film′ (suc n) h = rw (h n (omega arith), begins-same film film′ n (λ i l. h i (omega arith)))
-
-module _ (film rest : List ℕ) (h : 26 ≤ length film) where
-  header-long : length (take 26 film) ≡ 26
-  header-long = length-take-le 26 film h
-
-  pub header-opens : (stream : ℕ) → openingOf (take 26 film ++ rest) stream ≡ openingOf film stream
-  unfolding openingOf
-  header-opens stream =
-      let l : 26 ≤ length (take 26 film ++ rest) = omega (arith, length-append (take 26 film) rest, header-long) in
-      let b : begins (take 26 film ++ rest) 26 ≡ begins film 26 =
-      begins-same (take 26 film ++ rest) film 26 (λ i k. List·getD-append (take 26 film) rest 0 i (omega (arith, header-long)) ∙ getD-take 26 film i 0 k) in
-      rw (le-ltb (length (take 26 film ++ rest)) 26 l, le-ltb (length film) 26 h, b)
 
 pub opens : (film : List ℕ) (stream : ℕ) → 26 ≤ length film → openingOf (newFilm film) stream ≡ openingOf film stream
 opens film stream h = header-opens film (saved film .bytes ++ closing (saved film .stop)) h stream

@@ -3,36 +3,27 @@
 use mathlib.Core.Path.{_≡_, refl, sym, ap, _∙_, subst}
 use mathlib.Core.Bool.{Bool, true, false, cond}
 use mathlib.Core.List.{List, [], _∷_, _++_, append-assoc, append-nil}
-use Prim.Native.Nat.{ℕ, zero, suc, _+_, _-_, _*_, _≤_, _<_}
+use Prim.Native.Nat.{ℕ, suc, _+_, _-_, _*_, _≤_, _<_}
 use native.Mathlib.Omega.{arith}
 use lib.ListN.{length, set, length-append, length-set}
-use Rattle.words.specs.Word.{wordAt}
 use Rattle.refusal.specs.declared.Refusal.{Refusal}
 use Rattle.refusal.specs.Number.{number}
 use Rattle.room.specs.Room.{written}
 use Rattle.room.proofs.Written.{written-none, written-length, written-more}
 use Rattle.parts.specs.Parts.{part, laid}
-use Rattle.parts.proofs.Laying.{laid-none, laid-length, laid-then}
+use Rattle.parts.proofs.Laying.{stored-none, stored-length, stored-then}
 use Rattle.parts.proofs.Parts.{part-length}
 use Rattle.chunks.specs.declared.Tested.{Tested}
 use Rattle.chunks.specs.declared.Tested.the-variants.{Intact, Scratched}
 use Rattle.chunks.specs.declared.Ahead.{Ahead}
 use Rattle.chunks.specs.declared.Ahead.the-variants.{FilmEnd, PastEnd, ChunkTo}
-use Rattle.chunks.specs.Chunks.{Condition, intact, scratched, Following, film-end, past-end, chunk-to, followingAs, followingAt, conditionAs}
-use Rattle.chunks.proofs.Heads.{There, there}
+use Rattle.chunks.specs.Chunks.{intact, Following, chunk-to, followingAs, followingAt, conditionAs}
+use Rattle.chunks.proofs.Heads.{there}
 use Rattle.salvage.specs.declared.Stopped.{Stopped}
 use Rattle.salvage.specs.declared.Stopped.the-variants.{AtEnd, Behind00, By2}
 use Rattle.salvage.specs.declared.Walked.{Walked}
-use Rattle.salvage.specs.Salvage.{Stop, at-end, behind-00, by-2, Loss, loss, Saved, noMore, keeping, losing, goOn, saveFrom, saved, numbersOf, stopAs}
+use Rattle.salvage.specs.Salvage.{Stop, behind-00, Loss, loss, Saved, noMore, keeping, losing, goOn, saveFrom, saved, numbersOf, stopAs}
 use Rattle.salvage.specs.Asked.{walkedOf, Roomy, Passed}
-
--- ---- what is stored, or not
-
-pub stored : {A : Type 0} (b : Bool) (x y r : A) → b ≡ true → r ≡ x → r ≡ cond b x y
-stored b x y r h e = rw h e
-
-pub not-stored : {A : Type 0} (b : Bool) (x y : A) → b ≡ false → y ≡ cond b x y
-not-stored b x y h = rw h
 
 -- ---- three numbers
 
@@ -128,7 +119,7 @@ saving-start storing film room₀ list₀ q =
       within = q .header;
       kept-is = refl;
       left-is = refl;
-      room-is = none storing (laid-none 26 room₀);
+      room-is = stored-none storing 26 room₀;
       list-is = none storing (written-none list₀);
       count = refl;
       few = omega arith;
@@ -161,18 +152,9 @@ module _ (storing : Bool) (film room₀ list₀ : List ℕ) (q : Roomy storing f
         list-after = en ∙ ap (λ (x : List Loss). cond storing (written (numbersOf x) list₀) list₀) (sym n);
       })
 
-  long-room : (b : Bool) (w : List ℕ) → (b ≡ true → 26 + length w ≤ length room₀) → length (cond b (laid 26 w room₀) room₀) ≡ length room₀
-  long-room true w h = laid-length 26 w room₀ (h refl)
-  long-room false w h = refl
-
   long-list : (b : Bool) (l : List Loss) → (b ≡ true → 3 * length l ≤ length list₀) → length (cond b (written (numbersOf l) list₀) list₀) ≡ length list₀
   long-list true l h = written-length (numbersOf l) list₀ (omega (arith, numbers-length l, h refl))
   long-list false l h = refl
-
-  -- a part behind the others
-  lay : (b : Bool) (w p : List ℕ) (n : ℕ) → n ≡ 26 + length w → (b ≡ true → 26 ≤ length room₀) → cond b (laid n p (cond b (laid 26 w room₀) room₀)) (cond b (laid 26 w room₀) room₀) ≡ cond b (laid 26 (w ++ p) room₀) room₀
-  lay true w p n e h = rw e (laid-then 26 w p room₀ (h refl))
-  lay false w p n e h = refl
 
   lay-three : (b : Bool) (l : List Loss) (x : Loss) (k : ℕ) → k ≡ 3 * length l → (b ≡ true → k + 3 ≤ length list₀)
       → cond b (set (set (set (cond b (written (numbersOf l) list₀) list₀) k (x .position)) (k + 1) (x .long)) (k + 2) (x .refusal)) (cond b (written (numbersOf l) list₀) list₀)
@@ -187,7 +169,7 @@ module _ (storing : Bool) (film room₀ list₀ : List ℕ) (q : Roomy storing f
     unfolding joined
     room-long =
         ap length (s .room-is)
-        ∙ long-room storing (s .bytes) (λ t. omega (arith, q .film-room t, ap (λ (y : Saved). length (y .bytes)) (s .same), length-append (s .bytes) (saveFrom (s .turns) film e .bytes)))
+        ∙ stored-length storing 26 (s .bytes) room₀ (λ t. omega (arith, q .film-room t, ap (λ (y : Saved). length (y .bytes)) (s .same), length-append (s .bytes) (saveFrom (s .turns) film e .bytes)))
 
     pub list-long : length list ≡ length list₀
     unfolding joined
@@ -287,10 +269,10 @@ module _ (storing : Bool) (film room₀ list₀ : List ℕ) (q : Roomy storing f
           kept-laid : (room′ : List ℕ) → room′ ≡ cond storing (laid (26 + kept) (part film e x) room) room → room′ ≡ cond storing (laid 26 (s .bytes ++ part film e x) room₀) room₀
           kept-laid room′ er =
               er ∙ ap (λ (r : List ℕ). cond storing (laid (26 + kept) (part film e x) r) r) (s .room-is)
-              ∙ lay storing (s .bytes) (part film e x) (26 + kept) (ap (λ (i : ℕ). 26 + i) (s .kept-is)) (λ u. omega (arith, kept-fits u))
+              ∙ stored-then storing 26 (s .bytes) (part film e x) room₀ (26 + kept) (ap (λ (i : ℕ). 26 + i) (s .kept-is)) (λ u. omega (arith, kept-fits u))
 
           pub kept-room-long : (room′ : List ℕ) → room′ ≡ cond storing (laid (26 + kept) (part film e x) room) room → length room′ ≡ length room₀
-          kept-room-long room′ er = ap length (kept-laid room′ er) ∙ long-room storing (s .bytes ++ part film e x) (λ u. omega (arith, kept-fits u, kept-long))
+          kept-room-long room′ er = ap length (kept-laid room′ er) ∙ stored-length storing 26 (s .bytes ++ part film e x) room₀ (λ u. omega (arith, kept-fits u, kept-long))
 
           pub pass-closed : c ≡ true → (room′ : List ℕ) → room′ ≡ cond storing (laid (26 + kept) (part film e x) room) room
               → (r : Walked) → r ≡ walkedOf Behind00 (kept + (x - e)) lost left (length film - x) → Passed storing film room₀ list₀ r room′ list

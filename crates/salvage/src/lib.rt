@@ -5,6 +5,7 @@ use chunks::look_ahead;
 use opening::Opened;
 use opening::open;
 use parts::copy_part;
+use parts::keep_part;
 use parts::put_number;
 use parts::put_run;
 use refusal::Refusal;
@@ -14,7 +15,7 @@ ghost use mathlib.Core.Path.{_≡_};
 ghost use mathlib.Core.Bool.{true, cond};
 ghost use Prim.Native.Nat.{_+_, _-_, _*_, _≤_};
 ghost use lib.ListN.{length, set};
-ghost use Rattle.parts.specs.Parts.{part, laid};
+ghost use Rattle.parts.specs.Parts.{laid};
 ghost use Rattle.salvage.specs.Salvage.{closing, stopAs, answerAs, answerOf, bytesAfter, numbersAfter};
 ghost use Rattle.salvage.specs.Asked.{walkedOf, Roomy, Passed, Wrote};
 
@@ -49,16 +50,6 @@ fn counted(stop: Stopped, kept: usize, lost: usize, left_out: usize, rest: usize
         lost,
         left_out,
         rest,
-    }
-}
-
-// A part of the film to the room, where it is stored.
-fn keep_part(storing: bool, room: &mut [u8], at: usize, film: &[u8], from: usize, end: usize)
-    requires { ⌜ (from ≤ end) × (end ≤ length (now film)) × (storing ≡ true → at + (end - from) ≤ length (now room)) ⌝ }
-    ensures { λ _. ⌜ now (room .exit) ≡ cond storing (laid at (part (now (film .entry)) from end) (now (room .entry))) (now (room .entry)) ⌝ }
-{
-    if storing {
-        copy_part(room, at, film, from, end);
     }
 }
 

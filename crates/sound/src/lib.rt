@@ -107,7 +107,8 @@ pub fn is_chosen(stream: usize) -> bool
     stream < 16
 }
 
-fn is_masked(stream: usize, mask: usize) -> bool
+// Whether a mask has the bit of the chosen stream.
+pub fn is_masked(stream: usize, mask: usize) -> bool
     ensures { λ r. ⌜ r ≡ masked stream mask ⌝ }
 {
     if stream < 16 {

@@ -1,7 +1,7 @@
 //! Times of the proved drawing call beside libavcodec's decoder, the second decoder and a copy of
 //! the picture, all on the same frames, whose pictures are compared; and of the film step on packets
 //! of sound beside the same, with every sample compared; of the film step on palettes; and of saving what
-//! is left of scratched films beside a copy of them.
+//! is left of scratched films, and of dropping what the player passes over, beside a copy of them.
 
 mod allowance;
 mod blocks;
@@ -17,6 +17,7 @@ mod program;
 mod report;
 mod salvages;
 mod sound;
+mod strips;
 mod table;
 
 use allowance::Cuts;
@@ -29,6 +30,7 @@ use program::{programs, Program};
 use salvages::Salvages;
 use std::env;
 use std::process::ExitCode;
+use strips::Strips;
 
 const USAGE: &str = "usage: bench [--quick | --markdown] [SEED [ROUNDS]]
        bench --kinds
@@ -110,6 +112,7 @@ struct Run {
     hearings: Vec<Hearing>,
     colours: Vec<Colours>,
     salvages: Vec<Salvages>,
+    strips: Vec<Strips>,
 }
 
 impl Run {
@@ -122,7 +125,8 @@ impl Run {
         let (benches, cuts) = (benches?, cuts?);
         let (series, hearings) = (Series::all(seed)?, Hearing::all(seed)?);
         let (colours, salvages) = (Colours::all(seed)?, Salvages::all(seed, is_timed)?);
-        let mut run = Run { benches, cuts, series, hearings, colours, salvages };
+        let strips = Strips::all(seed, is_timed)?;
+        let mut run = Run { benches, cuts, series, hearings, colours, salvages, strips };
         for round in 0..rounds {
             run.benches.iter_mut().try_for_each(|bench| bench.round(round))?;
             run.cuts.iter_mut().try_for_each(|cuts| cuts.round(round))?;
@@ -130,6 +134,7 @@ impl Run {
             run.hearings.iter_mut().try_for_each(|hearing| hearing.round(round))?;
             run.colours.iter_mut().try_for_each(|colours| colours.round(round))?;
             run.salvages.iter_mut().try_for_each(|salvages| salvages.round(round))?;
+            run.strips.iter_mut().try_for_each(|strips| strips.round(round))?;
         }
         Ok(run)
     }
@@ -137,7 +142,7 @@ impl Run {
 
 /// Compares the pictures of everything that is measured, and the sound.
 fn quick(seed: u64, rounds: usize) -> Result<(), String> {
-    let Run { benches, cuts, series, hearings: _, colours, salvages } =
+    let Run { benches, cuts, series, hearings: _, colours, salvages, strips } =
         Run::new(seed, rounds, false)?;
     let (kinds, lists, sizes) = (benches.len(), cuts.len() * cuts[0].pieces.len(), series.len());
     println!(
@@ -147,6 +152,7 @@ fn quick(seed: u64, rounds: usize) -> Result<(), String> {
     let opcodes: Vec<&str> = colours.iter().map(|colours| colours.name).collect();
     println!("bench: the palettes of {} are those of the second decoder", opcodes.join(", "));
     println!("bench: what is left of {} scratched films is the second program's", salvages.len());
+    println!("bench: {} films are stripped as by the second program", strips.len());
     match libav::version() {
         Ok(version) => println!("bench: libavcodec {version} draws the same of every kind"),
         Err(why) => println!("bench: not compared with libavcodec: {why}"),
@@ -165,7 +171,8 @@ fn quick(seed: u64, rounds: usize) -> Result<(), String> {
 
 /// Measures everything and prints it.
 fn tables(markdown: bool, seed: u64, rounds: usize) -> Result<(), String> {
-    let Run { benches, cuts, series, hearings, colours, salvages } = Run::new(seed, rounds, true)?;
+    let Run { benches, cuts, series, hearings, colours, salvages, strips } =
+        Run::new(seed, rounds, true)?;
     let measured: Vec<_> = benches.iter().map(Bench::measured).collect();
     let pieces = cuts.into_iter().flat_map(|cuts| cuts.pieces).collect::<Vec<_>>();
     let points: Vec<_> = series.iter().map(Series::point).collect();
@@ -178,6 +185,7 @@ fn tables(markdown: bool, seed: u64, rounds: usize) -> Result<(), String> {
         ("Nanoseconds a sample", report::sounds(&hearings).text(markdown)),
         ("Nanoseconds a store of a palette", report::palettes(&colours).text(markdown)),
         ("Saving scratched films", report::salvages(&salvages).text(markdown)),
+        ("Dropping what the player passes over", report::strips(&strips).text(markdown)),
         ("Targets", format!("The project's targets:\n\n{targets}")),
         ("By the stores that a call is allowed", report::allowances(&pieces).text(markdown)),
         ("By the number of blocks", format!("{blocks}\n\n{}", report::line(&points, line))),

@@ -15,6 +15,8 @@ pub const DRAW: &str = "draw";
 pub const STEP: &str = "step";
 /// The call of the proved library that saves what is left of a film.
 pub const SALVAGE: &str = "salvage";
+/// The call of the proved library that drops what the player passes over.
+pub const STRIP: &str = "strip";
 /// libavcodec's decoder.
 pub const LIBAV: &str = "libavcodec";
 /// The second decoder.

@@ -9,6 +9,7 @@ use crate::libav;
 use crate::measure::Measured;
 use crate::program::{CHECK, DRAW, LIBAV, MEMCPY, STEP};
 use crate::salvages::Salvages;
+use crate::strips::Strips;
 use crate::table::{number, Table};
 use maker::Size;
 use std::fs;
@@ -85,6 +86,29 @@ pub fn salvages(salvages: &[Salvages]) -> Table {
             number(bytes / saved * 1e3, 0),
             number(saved / bytes, 3),
             number(saved / copied, 2),
+        ]);
+    }
+    table
+}
+
+/// Megabytes a second of stripping a film and of copying it, and the time of a byte.
+pub fn strips(strips: &[Strips]) -> Table {
+    let [(copy, _), (strip, _)] = strips[0].measured();
+    let rates = [copy, strip].map(|name| format!("{name} MB/s"));
+    let heading = ["chunks", "bytes", "left"].map(str::to_owned).into_iter().chain(rates);
+    let more = ["ns a byte".to_owned(), format!("{strip}/{copy}")];
+    let mut table = Table::new(heading.chain(more).collect());
+    for film in strips {
+        let [(_, copied), (_, stripped)] = film.measured();
+        let bytes = film.bytes() as f64;
+        table.row(vec![
+            film.chunks.name().to_owned(),
+            film.bytes().to_string(),
+            film.left().to_string(),
+            number(bytes / copied * 1e3, 0),
+            number(bytes / stripped * 1e3, 0),
+            number(stripped / bytes, 3),
+            number(stripped / copied, 2),
         ]);
     }
     table

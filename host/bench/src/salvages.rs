@@ -10,12 +10,12 @@ use std::hint::black_box;
 use std::time::Duration;
 
 /// Bytes of a film, at least: each four times the one before.
-const SIZES: [usize; 9] =
+pub const SIZES: [usize; 9] =
     [1 << 10, 1 << 12, 1 << 14, 1 << 16, 1 << 18, 1 << 20, 1 << 22, 1 << 24, 1 << 26];
 /// Films above this are saved in few rounds, and not at all where times do not count.
-const LONG: usize = 1 << 20;
+pub const LONG: usize = 1 << 20;
 /// Rounds of long films.
-const LONG_ROUNDS: usize = 10;
+pub const LONG_ROUNDS: usize = 10;
 /// One chunk of so many is scratched.
 const SCRATCHED: usize = 8;
 

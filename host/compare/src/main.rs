@@ -1,10 +1,11 @@
 //! A long comparison of the proved library with the second decoder, of its strict form with its default
 //! form, and of its opening call with separate calls, run by hand:
-//! `compare SEED COUNT [packets|lists|films|sounds|openings|cuts|numbers|salvages]`. The cases of `numbers` are
-//! states and answers as numbers of any count, those of `salvages` films that are saved.
+//! `compare SEED COUNT [packets|lists|films|sounds|openings|cuts|numbers|salvages|strips]`. The cases of
+//! `numbers` are states and answers as numbers of any count, those of `salvages` films that are saved, those
+//! of `strips` films that are stripped, and played before and after.
 
 use compare::numbers::{self, Reached};
-use compare::salvages;
+use compare::{salvages, strips};
 use compare::{Comparison, Found, FromDefault, Kind, Proved, Second, Separate};
 use std::collections::BTreeMap;
 use std::env;
@@ -22,9 +23,13 @@ fn main() -> ExitCode {
     if let Some((seed, count)) = parsed_as("salvages", &arguments) {
         return by_salvages(seed, count);
     }
+    if let Some((seed, count)) = parsed_as("strips", &arguments) {
+        return by_strips(seed, count);
+    }
     let Some((seed, count, kinds)) = parsed(&arguments) else {
         eprintln!(
-            "usage: compare SEED COUNT [packets|lists|films|sounds|openings|cuts|numbers|salvages]"
+            "usage: compare SEED COUNT \
+             [packets|lists|films|sounds|openings|cuts|numbers|salvages|strips]"
         );
         return ExitCode::from(2);
     };
@@ -62,6 +67,27 @@ fn by_salvages(seed: u64, count: u64) -> ExitCode {
                 return ExitCode::FAILURE;
             }
             Ok(answers) => salvages::reached(&question, &answers)
+                .into_iter()
+                .for_each(|event| *times.entry(event).or_insert(0_u64) += 1),
+        }
+    }
+    times.iter().for_each(|(event, times)| println!("{times:>9} {event}"));
+    println!("seed {seed}: {count} films: no difference");
+    ExitCode::SUCCESS
+}
+
+/// Strips so many films and plays both, as [`by_salvages`] saves them.
+fn by_strips(seed: u64, count: u64) -> ExitCode {
+    let mut times = BTreeMap::new();
+    for number in 0..count {
+        let question = strips::question((seed << 32) + number);
+        match strips::compare(&Proved, &Second, &Proved, &question) {
+            Err(differs) => {
+                println!("difference in strips, seed {seed}, film {number}: {differs:?}");
+                println!("again: compare {seed} {} strips", number + 1);
+                return ExitCode::FAILURE;
+            }
+            Ok(compared) => strips::reached(&question, &compared)
                 .into_iter()
                 .for_each(|event| *times.entry(event).or_insert(0_u64) += 1),
         }

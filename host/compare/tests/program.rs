@@ -48,6 +48,10 @@ fn runs_one_kind() {
     let text = String::from_utf8(output.stdout).expect("text");
     assert!(text.ends_with("\nseed 7: 60 films: no difference\n"), "{text}");
     assert!(text.contains(" refused 19: list too short\n"), "{text}");
+    let output = run(&["7", "60", "strips"]);
+    let text = String::from_utf8(output.stdout).expect("text");
+    assert!(text.ends_with("\nseed 7: 60 films: no difference\n"), "{text}");
+    assert!(text.contains(" played to the end\n") && text.contains(" refused 19\n"), "{text}");
 }
 
 #[test]

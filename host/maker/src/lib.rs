@@ -26,6 +26,7 @@ pub mod size;
 pub mod sound;
 pub mod sound_damage;
 pub mod states;
+pub mod strips;
 
 pub use form::Form;
 pub use packet::{Packet, Profile};

@@ -3,7 +3,7 @@
 //! The library is proved to answer every call, to read no byte that is not lent to it, to write
 //! none that is not lent for writing, and to keep nothing after it returns. It asks nothing of the
 //! values. What is left to this module is the C ABI: a slice goes as the address of its first element
-//! and its length; answers about packets and about what is left of a film come back by value.
+//! and its length; answers about packets and about new films come back by value.
 
 #![allow(unsafe_code)]
 
@@ -11,6 +11,7 @@ use crate::answer::Answer;
 use crate::form::Form;
 use crate::origin::Numbers as Found;
 use crate::salvage::Numbers as Saved;
+use crate::strip::Numbers as Stripped;
 
 unsafe extern "C" {
     fn mve_check(
@@ -132,6 +133,14 @@ unsafe extern "C" {
         list: *mut usize,
         list_numbers: usize,
     ) -> Saved;
+
+    fn mve_strip(
+        film: *const u8,
+        film_length: usize,
+        stream: usize,
+        room: *mut u8,
+        room_length: usize,
+    ) -> Stripped;
 }
 
 pub(crate) fn check(form: Form, columns: usize, rows: usize, map: &[u8], data: &[u8]) -> Answer {
@@ -303,4 +312,11 @@ pub(crate) fn salvage(film: &[u8], room: &mut [u8], list: &mut [usize]) -> Saved
             list.len(),
         )
     }
+}
+
+pub(crate) fn strip(film: &[u8], stream: usize, room: &mut [u8]) -> Stripped {
+    // SAFETY: each address and length are those of a slice that lives through the call; that of an
+    // empty slice is not null. Only the room is written; it is borrowed mutably, so it does not overlap
+    // the film.
+    unsafe { mve_strip(film.as_ptr(), film.len(), stream, room.as_mut_ptr(), room.len()) }
 }

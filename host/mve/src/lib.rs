@@ -63,7 +63,8 @@
 //! the [`Rows`] of blocks that the packet touches, so that a display with a slow link need not be sent
 //! the others. [`origin`] tells which byte or pixel gave a pixel its value.
 //!
-//! [`salvage`] saves what is left of a scratched film.
+//! [`salvage`] saves what is left of a scratched film. [`strip`] drops what a player of one stream passes
+//! over.
 //!
 //! Many films pad a packet to an even length, so these calls accept one byte left over behind the
 //! blocks' data. [`check_strict`], [`draw_strict`] and [`step`] in [`Form::Strict`] accept none: they are
@@ -112,6 +113,7 @@ mod player;
 mod refusal;
 mod rows;
 mod salvage;
+mod strip;
 mod timer;
 
 pub use begin::{begin, Unbegun};
@@ -126,7 +128,8 @@ pub use player::{Event, Memory, Picture, Player, RefusedAt, Samples};
 pub use refusal::{Error, Refusal};
 pub use rows::Rows;
 pub use salvage::{salvage, LeftOut, Salvaged, Stop, LOSS_NUMBERS};
+pub use strip::strip;
 pub use timer::timer;
 
 /// The version of the interface that this crate is written for: C's `MVE_VERSION`.
-pub const VERSION: usize = 12;
+pub const VERSION: usize = 13;

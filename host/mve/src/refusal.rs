@@ -87,8 +87,8 @@ macro_rules! errors {
 }
 
 errors! {
-    /// The film's header is wrong or short. Only [`open`](crate::open) and [`begin`](crate::begin())
-    /// meet it.
+    /// The film's header is wrong or short. Only [`open`](crate::open), [`begin`](crate::begin()),
+    /// [`salvage`](crate::salvage()) and [`strip`](crate::strip()) meet it.
     Header = 1, "the film does not begin with the header of an MVE film";
     /// A chunk or its head passes the end of the film.
     Chunk = 2, "a chunk or its head passes the end of the film";
@@ -124,7 +124,7 @@ errors! {
     SoundFormat = 17, "sound comes before its format, or a format is both 8-bit and compressed";
     /// Sound whose data is not as long as its count of samples says, or whose count cannot be.
     SoundLength = 18, "the sound's data or its count of samples has a wrong length";
-    /// A room that is too small for the samples, or for what is left of a film or the list of what is not.
+    /// A room that is too small for the samples, for a new film or for the list of what it lacks.
     Room = 19, "a room is too small for what is to be written there";
     /// A film that ends without a frame size. Only [`begin`](crate::begin()) meets it.
     NoSize = 21, "the film ends without a frame size";

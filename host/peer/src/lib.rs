@@ -13,3 +13,4 @@ pub mod film;
 pub mod libav;
 pub mod ours;
 pub mod played;
+pub mod strips;

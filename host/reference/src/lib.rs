@@ -23,6 +23,7 @@
 //! | [`cuts`] | the stores of a step in one list, and films played through cuts |
 //! | [`numbers`] | the film's calls with states and answers as numbers of any count |
 //! | [`salvage`] | what is left of a scratched film |
+//! | [`strip`] | a film without what the player passes over |
 //! | [`listing`] | the text that the listing program writes |
 //! | [`pictures`] | the pictures that a film sends, as the example players write them |
 
@@ -42,6 +43,7 @@ pub mod refusal;
 pub mod salvage;
 pub mod sound;
 pub mod steps;
+pub mod strip;
 
 pub use block::{source, Source};
 pub use origin::{origin, Origin, Traced};

@@ -9,6 +9,7 @@ struct mve_stepped answer;
 struct mve_answer verdict;
 struct mve_traced traced;
 struct mve_salvaged salvaged;
+struct mve_stripped stripped;
 uint8_t new_film[NEW_FILM_BYTES];
 size_t losses[LOSSES * MVE_LOSS_NUMBERS];
 size_t kind, shown;
@@ -54,4 +55,8 @@ void call_mve_origin(void) {
 
 void call_mve_salvage(void) {
     salvaged = mve_salvage(film, film_length, new_film, sizeof new_film, losses, LOSSES * MVE_LOSS_NUMBERS);
+}
+
+void call_mve_strip(void) {
+    stripped = mve_strip(film, film_length, 0, new_film, sizeof new_film);
 }

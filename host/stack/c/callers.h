@@ -14,6 +14,7 @@ extern struct mve_stepped answer;
 extern struct mve_answer verdict;
 extern struct mve_traced traced;
 extern struct mve_salvaged salvaged;
+extern struct mve_stripped stripped;
 extern uint8_t new_film[NEW_FILM_BYTES];
 extern size_t losses[LOSSES * MVE_LOSS_NUMBERS];
 extern size_t kind, shown;
@@ -27,5 +28,6 @@ void call_mve_draw(void);
 void call_mve_draw_strict(void);
 void call_mve_origin(void);
 void call_mve_salvage(void);
+void call_mve_strip(void);
 
 #endif

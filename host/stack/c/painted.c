@@ -4,10 +4,10 @@
     painted CALL ALLOWED PAINT < INPUT
 
 CALL is a call of the library. The caller of mve_step is main of examples/synopsis.c, compiled under the name `stage`, and
-INPUT is the film that it reads. The other callers are those of callers.c. INPUT of open, begin, shown and salvage is a film,
-too; of the others it is packets, each as four numbers of four bytes, columns, rows and the lengths of map and data, then map
-and data. ALLOWED is for the drawing calls. PAINT is the byte that the stack is painted with; a caller may store it, so that
-more than one is to be tried.
+INPUT is the film that it reads. The other callers are those of callers.c. INPUT of open, begin, shown, salvage and strip is
+a film, too; of the others it is packets, each as four numbers of four bytes, columns, rows and the lengths of map and data,
+then map and data. ALLOWED is for the drawing calls. PAINT is the byte that the stack is painted with; a caller may store it,
+so that more than one is to be tried.
 
 Prints the bytes from the end of the stack to the lowest one that is not the paint. Then, of mve_step, the pictures that the
 stage counted and the number of its refusal or 0; of the others how many runs were not refused, and 0.
@@ -106,6 +106,7 @@ static const struct {
     {"mve_draw_strict", call_mve_draw_strict, 1},
     {"mve_origin", call_mve_origin, 1},
     {"mve_salvage", call_mve_salvage, 0},
+    {"mve_strip", call_mve_strip, 0},
 };
 
 static size_t number(const uint8_t *bytes) {
@@ -143,7 +144,8 @@ int main(int count, char **words) {
         place = 0;
         size_t bytes = written(callers[which].caller, (uint8_t)atoi(words[3]));
         deepest = bytes > deepest ? bytes : deepest;
-        runs -= kind == MVE_REFUSED || verdict.kind == MVE_REFUSED || traced.kind == MVE_REFUSED || salvaged.number != 0;
+        runs -= kind == MVE_REFUSED || verdict.kind == MVE_REFUSED || traced.kind == MVE_REFUSED || salvaged.number != 0 ||
+                stripped.number != 0;
     }
     printf("%zu %zu %zu\n", deepest, callers[which].caller == (void (*)(void))stage ? pictures : runs, refusal);
     return 0;

@@ -10,7 +10,7 @@ use crate::archive::{Texts, LIMIT};
 use crate::frames::{deepest, frames, Chain, Frame};
 use crate::listing::Listing;
 use maker::packet::Draft;
-use maker::{demo, scratches, Form, Packet, Profile, Seeded, Size};
+use maker::{demo, scratches, strips, Form, Packet, Profile, Seeded, Size};
 use std::collections::BTreeMap;
 use std::env;
 use std::fs;
@@ -100,7 +100,7 @@ impl Stages {
             stages.calls.insert(call.to_string(), Whole::default());
         }
         let (films, openings, packets) = (films(), openings(), packets());
-        let scratched = scratched(&films);
+        let (scratched, padded) = (scratched(&films), padded(&films));
         let library = Library::new(archive)?;
         for (level, (name, changes)) in LEVELS.iter().flat_map(|level| VARIANTS.map(|v| (level, v)))
         {
@@ -110,7 +110,11 @@ impl Stages {
             stages.calls.entry("mve_step".to_string()).or_default().join(whole);
             let is_first = changes.is_empty(); // the other callers are the same beside each
             for call in calls.iter().filter(|call| is_first && **call != "mve_step") {
-                let films = if *call == "mve_salvage" { &scratched } else { &openings };
+                let films = match *call {
+                    "mve_salvage" => &scratched,
+                    "mve_strip" => &padded,
+                    _ => &openings,
+                };
                 let whole = built.caller(call, films, &packets)?;
                 stages.calls.entry(call.to_string()).or_default().join(whole);
             }
@@ -258,7 +262,8 @@ impl Built<'_> {
 
     /// The whole of another caller.
     fn caller(&self, call: &str, films: &[Vec<u8>], packets: &[u8]) -> Result<Whole, String> {
-        let is_of_film = ["mve_open", "mve_begin", "mve_shown", "mve_salvage"].contains(&call);
+        let of_film = ["mve_open", "mve_begin", "mve_shown", "mve_salvage", "mve_strip"];
+        let is_of_film = of_film.contains(&call);
         let inputs: Vec<(&[u8], usize)> = match is_of_film {
             true => films.iter().map(|film| (&film[..], 0)).collect(),
             false => ALLOWED.map(|allowed| (packets, allowed)).to_vec(),
@@ -330,6 +335,12 @@ impl Built<'_> {
 /// These films, and scratched ones of every kind.
 fn scratched(films: &[Vec<u8>]) -> Vec<Vec<u8>> {
     let made = (0..20).map(|seed| scratches::make(&mut Seeded::new(seed)).bytes());
+    films.iter().cloned().chain(made).collect()
+}
+
+/// These films, and films with much to drop.
+fn padded(films: &[Vec<u8>]) -> Vec<Vec<u8>> {
+    let made = (0..20).map(|seed| strips::make(&mut Seeded::new(seed)).bytes());
     films.iter().cloned().chain(made).collect()
 }
 

@@ -1,9 +1,8 @@
 use Prim.Native.Nat.{_+_}
 use Rattle.salvage.proofs.Passing.{room-1, room-2}
-use mathlib.Core.Path.{_≡_, ap, _∙_}
-use lib.ListN.{length, length-set}
 use native.Mathlib.Omega.{arith}
-use Rattle.salvage.proofs.Passing.{three, not-stored}
+use Rattle.parts.proofs.Laying.{not-stored}
+use Rattle.salvage.proofs.Passing.{three}
 use borrow.Author.Needs.{needs}
 use Rattle.salvage.proofs.leave_out.Statement.{statement}
 use Rattle.salvage.proofs.leave_out.Tie as tie

@@ -12,7 +12,7 @@ use Rattle.salvage.proofs.walk.Lts as lts
 use Rattle.chunks.proofs.look_ahead.Reads as look-ahead-reads
 use Rattle.refusal.proofs.number_of.Reads as number-of-reads
 use Rattle.salvage.proofs.counted.Reads as counted-reads
-use Rattle.salvage.proofs.keep_part.Reads as keep-part-reads
+use Rattle.parts.proofs.keep_part.Reads as keep-part-reads
 use Rattle.salvage.proofs.leave_out.Reads as leave-out-reads
 use Rattle.words.proofs.wide.Reads as wide-reads
 

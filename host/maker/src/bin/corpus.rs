@@ -3,7 +3,7 @@
 
 use maker::film_damage::{self, Damage};
 use maker::packet::Draft;
-use maker::{demo, film, packet_damage, scratches, sound, Profile, Seeded, Size};
+use maker::{demo, film, packet_damage, scratches, sound, strips, Profile, Seeded, Size};
 use std::path::Path;
 use std::{env, fs, process};
 
@@ -11,15 +11,17 @@ const FILM: u8 = 0;
 const PACKET: u8 = 1;
 const SALVAGE: u8 = 2;
 const BEGIN: u8 = 3;
+const STRIP: u8 = 4;
 /// The longest input that the target takes.
 const LONGEST: usize = 65_536;
 
-/// A film as the trials of films read it: played, opened, saved.
+/// A film as the trials of films read it: played, opened, saved, stripped.
 fn of_film(film: &[u8], stream: u8, inputs: &mut Vec<Vec<u8>>) {
     inputs.push([&[FILM, stream, 0, 7], film].concat());
     inputs.push([&[FILM, stream, 1, 200], film].concat());
     inputs.push([&[SALVAGE], film].concat());
     inputs.push([&[BEGIN, stream], film].concat());
+    inputs.push([&[STRIP, stream], film].concat());
 }
 
 fn of_packet(packet: &maker::Packet, inputs: &mut Vec<Vec<u8>>) {
@@ -37,6 +39,7 @@ fn inputs() -> Vec<Vec<u8>> {
         of_film(&sound::with_frames(rng, 3, 2).bytes(), 3, &mut inputs);
         of_film(&film::hostile(rng), 0, &mut inputs);
         of_film(&scratches::make(rng).bytes(), 0, &mut inputs);
+        of_film(&strips::make(rng).bytes(), 3, &mut inputs);
     }
     for damage in Damage::ALL {
         of_film(&film_damage::damaged(rng, damage), 16, &mut inputs);

@@ -475,7 +475,7 @@ static int padded_film(void) {
 /* The constants, from the rules: 256 entries of three bytes; 80 by 60 blocks of 64 pixels; as many blocks of 65 stores; a
    word of samples, two bytes each. */
 static int constants(void) {
-    EXPECT(MVE_VERSION == 12 && MVE_PALETTE_BYTES == 256 * 3 && MVE_PICTURE_BYTES == 80 * 60 * 64);
+    EXPECT(MVE_VERSION == 13 && MVE_PALETTE_BYTES == 256 * 3 && MVE_PICTURE_BYTES == 80 * 60 * 64);
     EXPECT(MVE_BLOCK_STORES == 64 + 1 && MVE_ALL_STORES == 80 * 60 * MVE_BLOCK_STORES);
     EXPECT(MVE_PALETTE_STORES == 2 * 256 * 3);
     EXPECT(MVE_ROOM_BYTES == 2 * 65535 && MVE_NO_STREAM == 16);
@@ -631,7 +631,39 @@ static int salvages(void) {
     return 0;
 }
 
+/* A chunk with a timer, sound for stream 1 and an 07; an empty one; one with a timer alone; one with 00; then a byte. */
+static int strips(void) {
+    static const uint8_t chunks[] = {22, 0, 9, 1, 0, 0, 0x02, 7, 6, 0, 0x08, 0, 1, 0, 2, 0, 0, 0, 4, 0, 0x07, 0, 0, 0, 0, 0,
+                                     0,  0, 2, 0, 4, 0, 3, 0, 0, 0, 0x02, 0, 4, 0, 5, 0, 0, 0, 0, 0, 0x40};
+    static const uint8_t silent[] = {8, 0, 9, 1, 4, 0, 0x07, 0, 0, 0, 0, 0, 4, 0, 5, 0, 0, 0, 0, 0};
+    static const uint8_t heard[] = {18, 0, 9, 1, 6, 0, 0x08, 0, 1, 0, 2, 0, 0, 0, 4, 0,
+                                    0x07, 0, 0, 0, 0, 0, 4, 0, 5, 0, 0, 0, 0, 0};
+    uint8_t padded[26 + sizeof chunks], room[60];
+    const size_t length = sizeof padded, shorter = 26 + sizeof silent, longer = 26 + sizeof heard;
+    memcpy(padded, film, 26);
+    memcpy(padded + 26, chunks, sizeof chunks);
+    memset(room, 0x5a, sizeof room);
+    struct mve_stripped s = mve_strip(padded, length, MVE_NO_STREAM, room, shorter - 1);
+    EXPECT(s.number == MVE_ERROR_ROOM && s.length == 0 && room[0] == 0x5a);
+    s = mve_strip(padded, 25, 0, room, sizeof room);
+    EXPECT(s.number == MVE_ERROR_HEADER && s.length == 0 && room[0] == 0x5a);
+    s = mve_strip(padded, length - 3, 0, room, 0);
+    EXPECT(s.number == MVE_ERROR_CHUNK && s.length == 0 && room[0] == 0x5a);
+    padded[32] = 0x06;
+    s = mve_strip(padded, length, 0, room, sizeof room);
+    EXPECT(s.number == MVE_ERROR_TYPE && s.length == 0 && room[0] == 0x5a);
+    padded[32] = 0x02;
+    s = mve_strip(padded, length, MVE_NO_STREAM, room, sizeof room);
+    EXPECT(s.number == 0 && s.length == shorter && memcmp(room, film, 26) == 0);
+    EXPECT(memcmp(room + 26, silent, sizeof silent) == 0 && room[shorter] == 0x5a);
+    s = mve_strip(padded, length, 0, room, shorter);
+    EXPECT(s.number == 0 && s.length == shorter && memcmp(room + 26, silent, sizeof silent) == 0);
+    s = mve_strip(padded, length, 1, room, sizeof room);
+    EXPECT(s.number == 0 && s.length == longer && memcmp(room + 26, heard, sizeof heard) == 0 && room[longer] == 0x5a);
+    return 0;
+}
+
 int main(void) {
     return constants() | texts() | timers() | colours() | pictures() | states() | places() | counts() | sound() |
-           padded_packet() | padded_film() | rows() | origins() | salvages();
+           padded_packet() | padded_film() | rows() | origins() | salvages() | strips();
 }

@@ -1,11 +1,11 @@
-use Rattle.salvage.proofs.Passing.{stored, not-stored}
+use Rattle.parts.proofs.Laying.{stored, not-stored}
 use Rattle.parts.specs.Parts.{laid}
 use borrow.Author.Needs.{needs}
-use Rattle.salvage.proofs.keep_part.Statement.{statement}
-use Rattle.salvage.proofs.keep_part.Tie as tie
-use Rattle.salvage.proofs.keep_part.Reads as reads
-use Rattle.salvage.proofs.keep_part.Lts as lts
+use Rattle.parts.proofs.keep_part.Statement.{statement}
+use Rattle.parts.proofs.keep_part.Tie as tie
+use Rattle.parts.proofs.keep_part.Reads as reads
+use Rattle.parts.proofs.keep_part.Lts as lts
 use Rattle.parts.proofs.copy_part.Reads as copy-part-reads
 
 copy-part-requires : tie.Need-copy-part-requires
 copy-part-requires c κs = (c .before .before .before .before .pre .0, c .before .before .before .before .pre .1, c .before .before .before .before .pre .2 (c .before .if1 .taken))

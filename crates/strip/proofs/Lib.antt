@@ -1,0 +1,5 @@
+pub mod Keeping
+pub mod Chunking
+pub mod Walking
+pub mod Writing
+pub mod Worked
