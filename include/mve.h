@@ -52,6 +52,7 @@ mve_draw    the drawing of a packet, without a film
 mve_origin  which byte or pixel gave a pixel of a packet's picture its value
 mve_salvage what is left of a scratched film, as a new film
 mve_strip   a film without what the player passes over, as a new film
+mve_encode  map and packet of a picture of your own
 
 mve_step with MVE_STRICT, mve_check_strict and mve_draw_strict are the strict forms: a packet may leave no byte over (THE
 PACKET). mve_is_sent tells whether a step sent a picture to the display. mve_timer reads how long a picture stays (THE TIME
@@ -71,7 +72,7 @@ The library allocates nothing and keeps nothing between calls. The caller lends 
 set lent bytes, and no other function.) The caller must keep three rules:
 
     While a call runs, nobody else writes to lent memory, and nobody else reads what is lent for writing: out, palette,
-    pictures, place, room and list.
+    pictures, place, room and list, and of mve_encode map and body.
     What is lent for writing shares no byte with anything else that is lent. So from and out share no number.
     Every address comes with its length, and is not null even where the length is 0. The addresses of from, out, place
     and list are aligned, as those of size_t are.
@@ -172,8 +173,8 @@ libmve.a is one object for x86-64 and the System V ABI. It needs no operating sy
 undefined below. Every function has a section of its own, so that the linker's --gc-sections leaves out those that are not
 called. All relocations are relative: code and constants may be loaded at any address, as long as they stay together.
 
-    code                        44,480 bytes
-    constants                   1,333 bytes
+    code                        50,138 bytes
+    constants                   1,459 bytes
     memory of its own           0 bytes
     undefined symbols           memset
     relocations                 R_X86_64_PC32, R_X86_64_PLT32
@@ -184,6 +185,7 @@ called. All relocations are relative: code and constants may be loaded at any ad
     stack of mve_check_strict   192 bytes
     stack of mve_draw           664 bytes
     stack of mve_draw_strict    664 bytes
+    stack of mve_encode         424 bytes
     stack of mve_open           8 bytes
     stack of mve_origin         288 bytes
     stack of mve_salvage        536 bytes
@@ -205,6 +207,7 @@ A boot stage has one stack for all of this. A whole stage is a least caller in C
     whole stage of mve_check_strict 288 bytes
     whole stage of mve_draw         872 bytes
     whole stage of mve_draw_strict  872 bytes
+    whole stage of mve_encode       536 bytes
     whole stage of mve_open         24 bytes
     whole stage of mve_origin       432 bytes
     whole stage of mve_salvage      632 bytes
@@ -410,13 +413,36 @@ Opcode 0x02 goes, too: a host that needs the time of a picture must keep it else
 It is proved that both films, played from equal lent memory with 312,000 stores a step, send the same pictures with the same
 palettes, give the same samples of the stream, and end alike: both come to their end, or both are refused by the same number.
 
-Refused by 1 for the header; then by the first of 2 to 5 that the film meets, tested as mve_salvage tests them: sound whatever
-the stream, nothing behind the chunk with 0x00; then by 19 where the room is too short. A scratched film is for mve_salvage
-first. Other refusals are not tested: a film that is refused by them where it is played is stripped, and so is the new one.
+Refused by 1 for the header; then by the first of 2 to 5 that the film meets, tested as mve_salvage tests them: sound
+whatever the stream, nothing behind the chunk with 0x00; then by 19 where the room is too short. A scratched film is for
+mve_salvage first. Other refusals are not tested: a film that is refused by them where it is played is stripped, and so is
+the new one.
 
 The new film is never longer, so a room of film_length bytes is always enough. Stripped again for the same stream it stays as
 it is. Both are proved. The film is walked twice, once to measure and once to write. A call that is stopped in the middle
 leaves any part of the room written; call it anew.
+
+PICTURES OF YOUR OWN
+
+mve_encode writes map and packet that give a wanted picture, from the two pictures that a player has before it: front, the
+one shown, and back, the one that is drawn on. The map is the body of opcode 0x0F. The packet goes to body with 14 zero bytes
+in front of it: that is the body of opcode 0x11.
+
+    mve_check_strict accepts map and packet, and mve_draw_strict from place 0 on back gives the wanted picture exactly. What
+    back has beyond the size stays.
+    For each block no choice among codes 0, 1, 7 and B to F gives its pixels by fewer data bytes, and none by as many has a
+    lower code. So a block that front has is code 0, and one that back has code 1.
+
+Both are proved. The map has half a byte for each block, rounded up, with 0 in a spare nibble: MVE_MAP_BYTES at most. The
+body has at most MVE_BODY_BYTES, the most that an opcode can hold behind its head in a chunk. A picture that needs more is
+refused by MVE_ERROR_PACKET_LENGTH: no choice among these codes is shorter.
+
+Take as front and back what a player has: after 0x07 front and back change roles. So keep two pictures, write the wanted one
+over back when the frame is in the film, and change their roles. Players of other descent change roles only where bit 0 of
+byte 12 of opcode 0x11's body is set; this library skips these bytes. A film for them sets it.
+
+The blocks are measured first and then written, so nothing is written where the call is refused. A call that is stopped in
+the middle leaves any part of map and body written; call it anew.
 */
 
 #ifndef MVE_H
@@ -431,7 +457,7 @@ extern "C" {
 
 /* The version of this interface. It changes with every change of the calls, of the structs, of the names, of the packets
    that are accepted and of the pictures that they give. CHANGELOG.md says what changed in each. */
-#define MVE_VERSION 13
+#define MVE_VERSION 14
 
 /* The bytes of the palette: 256 entries of red, green and blue. */
 #define MVE_PALETTE_BYTES 768
@@ -451,6 +477,10 @@ extern "C" {
 
 /* The stores of a block that has pixels to store, 64 pixels and the place: a call that is allowed fewer finishes none. */
 #define MVE_BLOCK_STORES 65
+
+/* The bytes of the largest map and of the longest body that mve_encode writes. */
+#define MVE_MAP_BYTES 2400
+#define MVE_BODY_BYTES 65531
 
 /* A stream number that no film has: all sound is passed over. So it is with every larger number. */
 #define MVE_NO_STREAM 16
@@ -486,6 +516,7 @@ enum mve_kind {
        mve_origin                      6, 8, 10, the blocks, 15, 22
        mve_salvage                     1, 19
        mve_strip                       1, the first of 2 to 5 in the order of the film, 19
+       mve_encode                      6, 8, 23, 19
 
    Of several blocks with a fault, the one with the lowest number is given, with its first fault in the order 12, 13, 14. */
 enum mve_refusal {
@@ -509,9 +540,10 @@ enum mve_refusal {
     MVE_ERROR_SOUND_FORMAT = 17, /* 0x08 or 0x09 of the stream before a 0x03, or a 0x03 both 8-bit and compressed */
     MVE_ERROR_SOUND_LENGTH = 18, /* data not as long as the count of samples says, a count that is odd in stereo, or
                                     below the channels in the first compressed 0x08 */
-    MVE_ERROR_ROOM = 19,         /* room too small for the samples or for a new film, or list for what it lacks */
+    MVE_ERROR_ROOM = 19,         /* room too small for the samples or for a new film, list for what it lacks, or map or body */
     MVE_ERROR_NO_SIZE = 21,      /* the film ends without a frame size (mve_begin alone) */
-    MVE_ERROR_POSITION = 22      /* a position outside the picture (mve_origin alone) */
+    MVE_ERROR_POSITION = 22,     /* a position outside the picture (mve_origin alone) */
+    MVE_ERROR_PACKET_LENGTH = 23 /* a packet that is longer, with its 14 bytes, than MVE_BODY_BYTES (mve_encode alone) */
 };
 
 /* What a number of refusal means, for messages. */
@@ -538,6 +570,7 @@ static inline const char *mve_refusal_text(size_t number) {
     case MVE_ERROR_ROOM: return "a room is too small for what is to be written there";
     case MVE_ERROR_NO_SIZE: return "the film ends without a frame size";
     case MVE_ERROR_POSITION: return "the position lies outside the picture";
+    case MVE_ERROR_PACKET_LENGTH: return "the picture needs a packet longer than an opcode can be";
     default: return "not a number of refusal";
     }
 }
@@ -688,6 +721,13 @@ struct mve_stripped {
     size_t length;
 };
 
+/* What mve_encode wrote. number: of a refusal, and both lengths are 0 then; else 0. */
+struct mve_encoded {
+    size_t number;
+    size_t map_length;  /* bytes of the map */
+    size_t body_length; /* bytes of the body, with the 14 in front */
+};
+
 /* The first state of a film, for this stream of its sound: MVE_TAKEN, or MVE_REFUSED by MVE_ERROR_HEADER with a state of
    zeros. Reads the film alone. out_numbers is MVE_STEPPED_NUMBERS, here and below; MEMORY says what other counts get. */
 size_t mve_open(const uint8_t *film, size_t film_length, size_t stream, struct mve_stepped *out, size_t out_numbers);
@@ -758,10 +798,17 @@ struct mve_salvaged mve_salvage(const uint8_t *film, size_t film_length, uint8_t
                                 size_t *list, size_t list_numbers);
 
 /* Writes a film without what a player of this stream passes over to the room (A FILM WITHOUT WHAT THE PLAYER PASSES OVER).
-   Refused by 1 for the header, by the first of 2 to 5 that is met, then by 19 where the room is too short; the room is then as
-   it was. What lies in it behind what is written stays. */
+   Refused by 1 for the header, by the first of 2 to 5 that is met, then by 19 where the room is too short; the room is then
+   as it was. What lies in it behind what is written stays. */
 struct mve_stripped mve_strip(const uint8_t *film, size_t film_length, size_t stream, uint8_t *room,
                               size_t room_length);
+
+/* Writes map and body that give the wanted picture (PICTURES OF YOUR OWN). Reads wanted, front and back. Refused by 6 for
+   the size, 8 where one of the three pictures is shorter than it, 23 where the body would be too long, 19 where map or body
+   is too short; both are then as they were. What lies in them behind what is written stays. */
+struct mve_encoded mve_encode(size_t columns, size_t rows, const uint8_t *wanted, size_t wanted_length,
+                              const uint8_t *front, size_t front_length, const uint8_t *back, size_t back_length,
+                              uint8_t *map, size_t map_length, uint8_t *body, size_t body_length);
 
 #ifdef __cplusplus
 }

@@ -160,7 +160,7 @@ fn sound(report: &Report) -> String {
     format!("{}; {streams}", formats.join(", then "))
 }
 
-fn format(format: &Format) -> String {
+pub fn format(format: &Format) -> String {
     let channels = if format.channels == 2 { "stereo" } else { "mono" };
     let compressed = if format.compressed { "compressed" } else { "uncompressed" };
     format!("{} Hz {channels} {}-bit {compressed}", format.rate, format.bits)

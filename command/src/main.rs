@@ -14,14 +14,18 @@ mod completions;
 mod drawings;
 mod dropped;
 mod film;
+mod film_writer;
 mod info;
+mod input;
 mod legend;
 mod list;
 mod listing;
+mod make;
 mod messages;
 mod opcodes;
 mod output;
 mod page;
+mod palette;
 mod play;
 mod player;
 mod progress;
@@ -45,7 +49,7 @@ use std::io::{self, Write};
 use std::process::ExitCode;
 
 /// All subcommands, in the order of the help.
-const SUBCOMMANDS: [Subcommand; 8] = [
+const SUBCOMMANDS: [Subcommand; 9] = [
     info::SUBCOMMAND,
     list::SUBCOMMAND,
     play::SUBCOMMAND,
@@ -53,6 +57,7 @@ const SUBCOMMANDS: [Subcommand; 8] = [
     blocks::SUBCOMMAND,
     salvage::SUBCOMMAND,
     strip::SUBCOMMAND,
+    make::SUBCOMMAND,
     completions::SUBCOMMAND,
 ];
 

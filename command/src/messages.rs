@@ -24,6 +24,8 @@ pub enum Failure {
     Exists(PathBuf),
     /// The film itself, which is never overwritten.
     IsInput(PathBuf),
+    /// A file that a film is made from, likewise.
+    IsSource(PathBuf),
     /// Sound of several formats, which one WAV file cannot hold.
     ManyFormats,
     /// A folder in place of a file.
@@ -52,6 +54,12 @@ pub enum Failure {
     NoSound(PathBuf, usize, Vec<usize>),
     /// More than a WAV file can hold.
     SoundTooLong(PathBuf),
+    /// Something that is read, and what is wrong with it, in words.
+    Input(PathBuf, String),
+    /// There is nothing to make a film from.
+    NoPictures,
+    /// Pictures of which one, by its number, is too large for a film.
+    TooLarge(PathBuf, usize),
     /// Nobody reads standard output any longer.
     Closed,
 }
@@ -82,6 +90,11 @@ impl Kept {
 }
 
 impl Failure {
+    /// Something is wrong with what is read.
+    pub fn input(path: &Path, words: impl Into<String>) -> Failure {
+        Failure::Input(path.into(), words.into())
+    }
+
     /// A write that failed.
     pub fn write(path: &Path, error: io::Error) -> Failure {
         Failure::Write(path.into(), error)
@@ -101,7 +114,8 @@ impl Failure {
             | Failure::Scratched(..)
             | Failure::NoPicture(..)
             | Failure::NotSent(..)
-            | Failure::NoSound(..) => REFUSED,
+            | Failure::NoSound(..)
+            | Failure::TooLarge(..) => REFUSED,
             Failure::Closed => CLOSED,
             _ => FAILED,
         }
@@ -122,6 +136,9 @@ impl fmt::Display for Failure {
             }
             Failure::IsInput(path) => {
                 write!(f, "{}: is the film itself: give another name", name(path))
+            }
+            Failure::IsSource(path) => {
+                write!(f, "{}: is read for the film: give another name", name(path))
             }
             Failure::NoFilm(path, refused) => {
                 write!(f, "{}: {refused} Nothing is written.", name(path))
@@ -184,6 +201,16 @@ impl fmt::Display for Failure {
                     f,
                     "{path}: the sound is too long for a WAV file: choose a part by --pictures"
                 )
+            }
+            Failure::Input(path, words) => write!(f, "{}: {words}", name(path)),
+            Failure::NoPictures => write!(f, "there is no picture to make a film from"),
+            Failure::TooLarge(path, number) => {
+                let path = name(path);
+                write!(
+                    f,
+                    "{path}: picture {number} is too large for a film (refusal 23): give smaller "
+                )?;
+                write!(f, "pictures, or pictures of larger areas of one colour")
             }
             Failure::Closed => Ok(()),
         }

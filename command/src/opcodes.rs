@@ -7,10 +7,14 @@ use mve::State;
 pub mod kind {
     pub const END: u8 = 0x00;
     pub const CHUNK_END: u8 = 0x01;
+    pub const TIMER: u8 = 0x02;
     pub const SOUND_FORMAT: u8 = 0x03;
+    pub const START_SOUND: u8 = 0x04;
     pub const SIZE: u8 = 0x05;
     pub const SEND: u8 = 0x07;
     pub const SOUND: u8 = 0x08;
+    pub const SILENCE: u8 = 0x09;
+    pub const MODE: u8 = 0x0A;
     pub const GRADIENTS: u8 = 0x0B;
     pub const PALETTE: u8 = 0x0C;
     pub const PALETTE_MASKS: u8 = 0x0D;

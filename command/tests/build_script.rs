@@ -30,10 +30,9 @@ fn not_to_be_had() {
         assert_eq!((ran.code, ran.text()), (Some(3), ""), "{words:?}: {ran:?}");
         let last = ran.err.lines().last().expect("a message");
         let begin = "command: not built: these crates are missing: adler-1.0.2 autocfg-1.1.0 ";
-        let end =
-            " (apt-get install librust-clap-dev librust-clap-complete-dev librust-flate2-dev \
-                   librust-gif-dev librust-png-dev librust-serde-json-dev librust-signal-hook-dev, \
-                   or a network)";
+        let end = " (apt-get install librust-clap-dev librust-clap-complete-dev \
+                   librust-color-quant-dev librust-flate2-dev librust-gif-dev librust-png-dev \
+                   librust-serde-json-dev librust-signal-hook-dev, or a network)";
         assert!(last.starts_with(begin) && last.ends_with(end), "{last}");
         assert!(last.contains(" clap-4.0.32 ") && !last.contains(" mve-"), "{last}");
     }

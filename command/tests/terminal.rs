@@ -46,6 +46,18 @@ fn progress() {
     assert!(ran.text().starts_with("\r[") && ran.text().contains(" pictures\r") && is_blank);
 }
 
+/// Pictures that become films show progress, too, which is gone before what is told.
+#[test]
+fn progress_of_making() {
+    let folder = with_film("progress_of_making", &demo::beginning(3).bytes());
+    let play = program().display().to_string() + " play film.mve -o out/ &&";
+    let Some(ran) = on_terminal_after(&folder, &play, "make out -o new.mve") else { return };
+    let (shown, told) = ran.text().split_once("\rnew.mve\r\n").expect("what is told");
+    let bar = format!("\r[{}]   0 % 0 of 3 pictures", " ".repeat(30));
+    assert!(ran.code == Some(0) && shown.contains(&bar), "{shown:?}");
+    assert!(told.contains("  pictures  3\r\n") && !told.contains('['), "{told:?}");
+}
+
 /// Pictures and sound as bytes are not for a terminal.
 #[test]
 fn bytes_on_a_terminal() {

@@ -10,7 +10,7 @@ use native.Mathlib.Decide.{ℕ-discrete}
 use native.Mathlib.Omega.{arith}
 use lib.Dec.{ltb, eqb}
 use lib.ListN.{length, getD, take, drop, length-append, List·getD-append}
-use lib.Seq.{drop-append-seam}
+use lib.Seq.{take-append-seam, drop-append-seam}
 use borrow.Author.Tests.{lt-ltb, eq-eqb, ne-eqb, eqb-true, eqb-false}
 use Rattle.motion.specs.Motion.{rasterIndex}
 use Rattle.pattern.proofs.Agree.{Agree}
@@ -35,11 +35,12 @@ use Rattle.draw.specs.Taken.{DrawAccepts}
 use Rattle.draw.proofs.Exactly.{drawn-exactly}
 use Rattle.book.proofs.Lawful.{few, stores-few, distinct, inside, plan-lawful}
 use Rattle.book.proofs.Picture.{block-below, index-is}
+use Rattle.book.proofs.Demand.{demand-3}
 use Rattle.packet.specs.Accepted.{Legal, CopyInside, Takes, Whole, Accepts}
 use Rattle.choice.specs.declared.Way.{Way}
 use Rattle.choice.specs.Choice.{Chosen, code-0, code-1, code-7, code-B, code-C, code-D, code-E, code-F, Reproduces, Best, codeOf, listed, pixelAt}
 use Rattle.encode.specs.Encode.{Task, blockIn, wayAt, partAt, dataTo, nibble, mapOf, Lent}
-use Rattle.encode.specs.Draws.{packetFor, given, drawing, Draws}
+use Rattle.encode.specs.Draws.{packetFor, bytesOf, given, drawing, Draws}
 use Rattle.choice.proofs.First.{by-bool, listed-length, listed-from}
 use Rattle.choice.proofs.Best.{best, code-few, chosen-few}
 
@@ -176,6 +177,16 @@ module _ (j : Task) where
 
     kind-is : (k : ℕ) → k < n → kind p k ≡ kindOf (codeOf (wayAt j k)) (partAt j k)
     kind-is k h = kind-by k h (starts k (omega arith))
+
+    bytes-are : (k : ℕ) → k < n → bytesOf p k ≡ partAt j k
+    bytes-are k h =
+        let l : dataLength (kind p k) ≡ length (partAt j k) = ap dataLength (kind-is k h) ∙ sym (made k .gives .long) in
+        ap (λ (b : List ℕ). take (dataLength (kind p k)) b) (data-is k h)
+        ∙ ap (λ (m : ℕ). take m (partAt j k ++ behind n k)) l
+        ∙ take-append-seam (partAt j k) (behind n k)
+
+    cheapest : (k : ℕ) → k < n → Best (j .wanted) (j .front) (j .back) (width p) (left p k) (top p k) (code p k) (bytesOf p k)
+    cheapest k h = rw (bytes-are k h, map-code n k h) (made k)
 
     -- ---- it is accepted
 
@@ -334,5 +345,6 @@ module _ (j : Task) (rows : ℕ) (lent : Lent j rows) where
             (record { left-long = omega (arith, given-long, lent .back-long); right-long = lent .wanted-long; same = wanted-at });
         beyond = drop-same (pixels (j .columns) rows) (given j rows) (j .back) given-long beyond-at;
         draws = λ c h. rw (taken c) (ap (pictures (j .front)) (all-drawn c h));
-        cheapest = λ k h. made j k;
+        cuts = λ c es o w. demand-3 (drawing j rows c) (j .back) (record { accepted = accepts; front-long = lent .front-long; back-long = lent .back-long }) es o w;
+        cheapest = cheapest j rows;
       }

@@ -98,6 +98,9 @@ encodeOf j rows map body =
     outcome (encodeVerdict j rows (length map) (length body)) (mapOf j (j .columns * rows)) (bodyOf j (j .columns * rows)) map body
 
 -- the values of each answer of the code
+abbrev pub answerAs : Encoded → Answer
+answerAs (Made m b) = made m b
+answerAs (Refused r) = refused (number r) (block r)
+
 abbrev pub left : Encoded → List ℕ → List ℕ → Outcome
-left (Made m b) map body = record { answer = made m b; map = map; body = body }
-left (Refused r) map body = record { answer = refused (number r) (block r); map = map; body = body }
+left e map body = record { answer = answerAs e; map = map; body = body }

@@ -231,19 +231,19 @@ fn put_block(
     requires { ⌜ Lent (task columns (now wanted) (now front) (now back)) rows × (lengthBy (blockWay (task columns (now wanted) (now front) (now back)) (columns * rows) k) ≤ length (now room)) ⌝ }
     ensures { λ r. ⌜ (r ≡ blockWay (task columns (now (wanted .entry)) (now (front .entry)) (now (back .entry))) (columns * rows) k) × (now (room .exit) ≡ written (dataBy r (blockIn (now (wanted .entry)) columns k)) (now (room .entry))) ⌝ }
 {
-    if k < columns * rows {
-        let way = way_at(wanted, front, back, columns, rows, k);
-        put_part(
-            room,
-            way,
-            wanted,
-            8 * columns,
-            8 * (k % columns),
-            8 * (k / columns),
-        );
-        return way;
+    if columns * rows <= k {
+        return Way::Same;
     }
-    Way::Same
+    let way = way_at(wanted, front, back, columns, rows, k);
+    put_part(
+        room,
+        way,
+        wanted,
+        8 * columns,
+        8 * (k % columns),
+        8 * (k / columns),
+    );
+    way
 }
 
 // Map and data, each from its room's front on: byte i of the map has the codes of blocks 2 i and 2 i + 1, the low nibble first.

@@ -7,6 +7,8 @@ use mve_answers::answered;
 use mve_answers::of_check;
 use mve_answers::of_trace;
 use mve_answers::refused;
+use mve_encodes::MveEncoded;
+use mve_encodes::of_encoded;
 use mve_salvages::MveSalvaged;
 use mve_salvages::of_salvaged;
 use mve_states::is_state;
@@ -29,9 +31,11 @@ ghost use Rattle.origin.specs.Trace.{traceOf};
 ghost use Rattle.film.specs.Film.{lent};
 ghost use Rattle.salvage.specs.Salvage.{answerOf, bytesAfter, numbersAfter};
 ghost use Rattle.strip.specs.Strip.{stripAnswer, stripRoom};
+ghost use Rattle.encode.specs.Encode.{task, encodeOf};
 ghost use Rattle.mve_answers.specs.Answer.{ofFound, ofReport};
 ghost use Rattle.mve_answers.specs.Trace.{ofTrace};
 ghost use Rattle.mve_salvages.specs.Salvages.{ofSalvage};
+ghost use Rattle.mve_encodes.specs.Encodes.{ofAnswer};
 ghost use Rattle.mve_strips.specs.Strips.{ofStrip};
 ghost use Rattle.exports.specs.Calls.{exit, mveOpen, mveStep, mveBegin, mveShown};
 
@@ -226,4 +230,22 @@ pub extern "C" fn mve_strip(film: &[u8], stream: usize, room: &mut [u8]) -> MveS
     ensures { λ _. ⌜ now (room .exit) ≡ stripRoom (now (film .entry)) stream (now (room .entry)) ⌝ }
 {
     of_stripped(strip::strip(film, stream, room))
+}
+
+// Map and body of opcode 11 that give a wanted picture, each to its room. A refusal leaves both as they were.
+#[no_mangle]
+pub extern "C" fn mve_encode(
+    columns: usize,
+    rows: usize,
+    wanted: &[u8],
+    front: &[u8],
+    back: &[u8],
+    map: &mut [u8],
+    body: &mut [u8],
+) -> MveEncoded
+    ensures { λ r. ⌜ r ≡ ofAnswer (encodeOf (task columns (now (wanted .entry)) (now (front .entry)) (now (back .entry))) rows (now (map .entry)) (now (body .entry)) .answer) ⌝ }
+    ensures { λ _. ⌜ now (map .exit) ≡ encodeOf (task columns (now (wanted .entry)) (now (front .entry)) (now (back .entry))) rows (now (map .entry)) (now (body .entry)) .map ⌝ }
+    ensures { λ _. ⌜ now (body .exit) ≡ encodeOf (task columns (now (wanted .entry)) (now (front .entry)) (now (back .entry))) rows (now (map .entry)) (now (body .entry)) .body ⌝ }
+{
+    of_encoded(encode::encode(columns, rows, wanted, front, back, map, body))
 }

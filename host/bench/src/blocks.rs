@@ -8,7 +8,7 @@ use maker::{Packet, Size};
 use std::time::Duration;
 
 /// Columns and rows of blocks.
-const SIZES: [(usize, usize); 10] =
+pub const SIZES: [(usize, usize); 10] =
     [(1, 1), (4, 3), (8, 6), (16, 12), (24, 18), (32, 24), (40, 30), (48, 36), (64, 48), (80, 60)];
 
 /// Packets of a size: enough of the small ones that their codes are a mix, too.

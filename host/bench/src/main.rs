@@ -1,11 +1,13 @@
 //! Times of the proved drawing call beside libavcodec's decoder, the second decoder and a copy of
 //! the picture, all on the same frames, whose pictures are compared; and of the film step on packets
-//! of sound beside the same, with every sample compared; of the film step on palettes; and of saving what
-//! is left of scratched films, and of dropping what the player passes over, beside a copy of them.
+//! of sound beside the same, with every sample compared; of the film step on palettes; of saving what is
+//! left of scratched films, and of dropping what the player passes over, beside a copy of them; and of
+//! encoding pictures beside their drawing.
 
 mod allowance;
 mod blocks;
 mod colours;
+mod encodes;
 mod fault;
 #[cfg(libavcodec)]
 mod ffi;
@@ -23,6 +25,7 @@ mod table;
 use allowance::Cuts;
 use blocks::{Line, Series};
 use colours::Colours;
+use encodes::Encodes;
 use hearing::Hearing;
 use kind::{frames, Kind, KINDS, MIX, PRIMERS, SAME};
 use measure::Bench;
@@ -113,6 +116,8 @@ struct Run {
     colours: Vec<Colours>,
     salvages: Vec<Salvages>,
     strips: Vec<Strips>,
+    encodes: Vec<Encodes>,
+    encode_sizes: Vec<Encodes>,
 }
 
 impl Run {
@@ -126,7 +131,18 @@ impl Run {
         let (series, hearings) = (Series::all(seed)?, Hearing::all(seed)?);
         let (colours, salvages) = (Colours::all(seed)?, Salvages::all(seed, is_timed)?);
         let strips = Strips::all(seed, is_timed)?;
-        let mut run = Run { benches, cuts, series, hearings, colours, salvages, strips };
+        let (encodes, encode_sizes) = (Encodes::all(seed)?, Encodes::sizes(seed)?);
+        let mut run = Run {
+            benches,
+            cuts,
+            series,
+            hearings,
+            colours,
+            salvages,
+            strips,
+            encodes,
+            encode_sizes,
+        };
         for round in 0..rounds {
             run.benches.iter_mut().try_for_each(|bench| bench.round(round))?;
             run.cuts.iter_mut().try_for_each(|cuts| cuts.round(round))?;
@@ -135,6 +151,8 @@ impl Run {
             run.colours.iter_mut().try_for_each(|colours| colours.round(round))?;
             run.salvages.iter_mut().try_for_each(|salvages| salvages.round(round))?;
             run.strips.iter_mut().try_for_each(|strips| strips.round(round))?;
+            run.encodes.iter_mut().try_for_each(Encodes::round)?;
+            run.encode_sizes.iter_mut().try_for_each(Encodes::round)?;
         }
         Ok(run)
     }
@@ -142,7 +160,7 @@ impl Run {
 
 /// Compares the pictures of everything that is measured, and the sound.
 fn quick(seed: u64, rounds: usize) -> Result<(), String> {
-    let Run { benches, cuts, series, hearings: _, colours, salvages, strips } =
+    let Run { benches, cuts, series, colours, salvages, strips, encodes, encode_sizes, .. } =
         Run::new(seed, rounds, false)?;
     let (kinds, lists, sizes) = (benches.len(), cuts.len() * cuts[0].pieces.len(), series.len());
     println!(
@@ -153,6 +171,12 @@ fn quick(seed: u64, rounds: usize) -> Result<(), String> {
     println!("bench: the palettes of {} are those of the second decoder", opcodes.join(", "));
     println!("bench: what is left of {} scratched films is the second program's", salvages.len());
     println!("bench: {} films are stripped as by the second program", strips.len());
+    let kinds: Vec<&str> = encodes.iter().map(|encodes| encodes.kind.name()).collect();
+    println!(
+        "bench: pictures that are {}, and {} sizes of them, are encoded as by the second program",
+        kinds.join(", "),
+        encode_sizes.len()
+    );
     match libav::version() {
         Ok(version) => println!("bench: libavcodec {version} draws the same of every kind"),
         Err(why) => println!("bench: not compared with libavcodec: {why}"),
@@ -171,14 +195,19 @@ fn quick(seed: u64, rounds: usize) -> Result<(), String> {
 
 /// Measures everything and prints it.
 fn tables(markdown: bool, seed: u64, rounds: usize) -> Result<(), String> {
-    let Run { benches, cuts, series, hearings, colours, salvages, strips } =
+    let Run { benches, cuts, series, hearings, colours, salvages, strips, encodes, encode_sizes } =
         Run::new(seed, rounds, true)?;
     let measured: Vec<_> = benches.iter().map(Bench::measured).collect();
     let pieces = cuts.into_iter().flat_map(|cuts| cuts.pieces).collect::<Vec<_>>();
     let points: Vec<_> = series.iter().map(Series::point).collect();
     let line = Line::through(&points);
     let blocks = report::blocks(&points, line).text(markdown);
-    let targets = report::targets(&measured, &hearings).text(markdown);
+    let targets = report::targets(&measured, &hearings, &encodes).text(markdown);
+    let sizes: Vec<_> = encode_sizes.iter().map(Encodes::point).collect();
+    let encode_line = Line::through(&sizes);
+    let encode_sizes = report::blocks(&sizes, encode_line).text(markdown);
+    let encode_line = report::line(&sizes, encode_line);
+    let encodes = report::encodes(&encodes).text(markdown);
     for (title, text) in [
         ("Machine and run", report::run(seed, rounds)),
         ("Nanoseconds a pixel", report::kinds(&measured).text(markdown)),
@@ -186,6 +215,7 @@ fn tables(markdown: bool, seed: u64, rounds: usize) -> Result<(), String> {
         ("Nanoseconds a store of a palette", report::palettes(&colours).text(markdown)),
         ("Saving scratched films", report::salvages(&salvages).text(markdown)),
         ("Dropping what the player passes over", report::strips(&strips).text(markdown)),
+        ("Encoding", format!("{encodes}\n\nTwo colours:\n\n{encode_sizes}\n\n{encode_line}")),
         ("Targets", format!("The project's targets:\n\n{targets}")),
         ("By the stores that a call is allowed", report::allowances(&pieces).text(markdown)),
         ("By the number of blocks", format!("{blocks}\n\n{}", report::line(&points, line))),

@@ -17,6 +17,8 @@ pub const STEP: &str = "step";
 pub const SALVAGE: &str = "salvage";
 /// The call of the proved library that drops what the player passes over.
 pub const STRIP: &str = "strip";
+/// The call of the proved library that encodes a picture.
+pub const ENCODE: &str = "encode";
 /// libavcodec's decoder.
 pub const LIBAV: &str = "libavcodec";
 /// The second decoder.

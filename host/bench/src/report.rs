@@ -3,6 +3,7 @@
 use crate::allowance::Pieces;
 use crate::blocks::{Line, Point};
 use crate::colours::Colours;
+use crate::encodes::{Encodes, Kind};
 use crate::hearing::Hearing;
 use crate::kind::MIX;
 use crate::libav;
@@ -114,6 +115,20 @@ pub fn strips(strips: &[Strips]) -> Table {
     table
 }
 
+/// Nanoseconds a pixel of encoding pictures and of drawing what comes of it.
+pub fn encodes(encodes: &[Encodes]) -> Table {
+    let programs = encodes[0].measured().map(|(name, _)| name.to_owned());
+    let heading = ["pictures", "size", "data bytes"].map(str::to_owned).into_iter();
+    let mut table = Table::new(heading.chain(programs).collect());
+    for encodes in encodes {
+        let mut row = vec![encodes.kind.name().to_owned(), size_text(encodes.size)];
+        row.push(encodes.bytes().to_string());
+        row.extend(encodes.measured().map(|(_, time)| number(time, 3)));
+        table.row(row);
+    }
+    table
+}
+
 fn channels_text(hearing: &Hearing) -> String {
     if hearing.channels == 1 { "mono" } else { "stereo" }.to_owned()
 }
@@ -126,7 +141,7 @@ fn step_ratio(hearing: &Hearing) -> Option<f64> {
 }
 
 /// The targets, what was measured of each, and whether it is met.
-pub fn targets(measured: &[Measured], hearings: &[Hearing]) -> Table {
+pub fn targets(measured: &[Measured], hearings: &[Hearing], encodes: &[Encodes]) -> Table {
     let mix = |found: &&Measured| found.kind.name == MIX.name;
     let below = |found: &&Measured| BELOW.contains(&found.kind.name);
     let mut table = Table::new(["target", "measured", "met"].map(str::to_owned).into());
@@ -153,6 +168,13 @@ pub fn targets(measured: &[Measured], hearings: &[Hearing]) -> Table {
     let sound = sounds.iter().max_by(|a, b| a.0.total_cmp(&b.0));
     let sound = sound.map(|(ratio, channels)| (*ratio, &**channels));
     add("step/libavcodec of sound at most 1", sound, |ratio| ratio <= 1.0);
+    let encoded = encodes.iter().map(|encodes| (encodes.measured()[0].1, encodes.kind));
+    let unchanged = encoded.clone().find(|(_, kind)| *kind == Kind::Unchanged);
+    let unchanged = unchanged.map(|(time, kind)| (time, kind.name()));
+    add("encode of unchanged pictures at most 1 ns a pixel", unchanged, |time| time <= 1.0);
+    let slowest = encoded.max_by(|a, b| a.0.total_cmp(&b.0));
+    let slowest = slowest.map(|(time, kind)| (time, kind.name()));
+    add("encode of every kind at most 3 ns a pixel", slowest, |time| time <= 3.0);
     table
 }
 

@@ -13,8 +13,9 @@
 //!
 //! [`FromDefault`] is the strict form as it follows from the default one: with it the strict form of a
 //! decoder is compared. [`origins`] compares where pixels come from, [`salvages`] what is left of
-//! scratched films, [`strips`] films without what the player passes over, and plays them. [`numbers`]
-//! compares the film's calls with states and answers as numbers of any count, as they cross to C.
+//! scratched films, [`strips`] films without what the player passes over, and plays them, [`encodes`] map
+//! and packet of wanted pictures. [`numbers`] compares the film's calls with states and answers as numbers
+//! of any count, as they cross to C.
 //!
 //! In comments "01" is the scope document, "02" that of the requests; docs/RULES.md has
 //! their rules.
@@ -25,6 +26,7 @@ pub mod comparison;
 pub mod cuts;
 pub mod decoder;
 pub mod difference;
+pub mod encodes;
 mod film;
 pub mod forms;
 pub mod numbers;

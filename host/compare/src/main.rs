@@ -1,11 +1,12 @@
 //! A long comparison of the proved library with the second decoder, of its strict form with its default
 //! form, and of its opening call with separate calls, run by hand:
-//! `compare SEED COUNT [packets|lists|films|sounds|openings|cuts|numbers|salvages|strips]`. The cases of
-//! `numbers` are states and answers as numbers of any count, those of `salvages` films that are saved, those
-//! of `strips` films that are stripped, and played before and after.
+//! `compare SEED COUNT [packets|lists|films|sounds|openings|cuts|numbers|salvages|strips|encodes]`. The
+//! cases of `numbers` are states and answers as numbers of any count, those of `salvages` films that are
+//! saved, those of `strips` films that are stripped, and played before and after, those of `encodes`
+//! pictures that are encoded.
 
 use compare::numbers::{self, Reached};
-use compare::{salvages, strips};
+use compare::{encodes, salvages, strips};
 use compare::{Comparison, Found, FromDefault, Kind, Proved, Second, Separate};
 use std::collections::BTreeMap;
 use std::env;
@@ -26,10 +27,13 @@ fn main() -> ExitCode {
     if let Some((seed, count)) = parsed_as("strips", &arguments) {
         return by_strips(seed, count);
     }
+    if let Some((seed, count)) = parsed_as("encodes", &arguments) {
+        return by_encodes(seed, count);
+    }
     let Some((seed, count, kinds)) = parsed(&arguments) else {
         eprintln!(
             "usage: compare SEED COUNT \
-             [packets|lists|films|sounds|openings|cuts|numbers|salvages|strips]"
+             [packets|lists|films|sounds|openings|cuts|numbers|salvages|strips|encodes]"
         );
         return ExitCode::from(2);
     };
@@ -94,6 +98,34 @@ fn by_strips(seed: u64, count: u64) -> ExitCode {
     }
     times.iter().for_each(|(event, times)| println!("{times:>9} {event}"));
     println!("seed {seed}: {count} films: no difference");
+    ExitCode::SUCCESS
+}
+
+/// Encodes so many pictures; a question's number tells its picture, so each seed has numbers of its own.
+fn by_encodes(seed: u64, count: u64) -> ExitCode {
+    let (mut made, mut refused, mut bytes) = (0_u64, 0_u64, 0);
+    for number in 0..count {
+        let question = encodes::question((seed << 32) + number);
+        match encodes::compare(&Proved, &Second, &question) {
+            Err(differs) => {
+                println!("difference in encodes, seed {seed}, picture {number}: {differs:?}");
+                println!("again: compare {seed} {} encodes", number + 1);
+                return ExitCode::FAILURE;
+            }
+            Ok(answers) => {
+                for answer in answers {
+                    match answer {
+                        Ok(packet) => (made, bytes) = (made + 1, bytes + packet.packet.len()),
+                        Err(_) => refused += 1,
+                    }
+                }
+            }
+        }
+    }
+    println!(
+        "seed {seed}: {count} pictures, {made} times encoded, {refused} times refused, {bytes} data \
+         bytes: no difference"
+    );
     ExitCode::SUCCESS
 }
 

@@ -52,6 +52,13 @@ fn runs_one_kind() {
     let text = String::from_utf8(output.stdout).expect("text");
     assert!(text.ends_with("\nseed 7: 60 films: no difference\n"), "{text}");
     assert!(text.contains(" played to the end\n") && text.contains(" refused 19\n"), "{text}");
+    let output = run(&["7", "64", "encodes"]);
+    let text = String::from_utf8(output.stdout).expect("text");
+    assert!(
+        text.starts_with("seed 7: 64 pictures, ") && text.ends_with(": no difference\n"),
+        "{text}"
+    );
+    assert!(!text.contains(" 0 times") && !text.contains(" 0 data"), "{text}");
 }
 
 #[test]

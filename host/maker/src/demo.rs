@@ -1,15 +1,20 @@
-//! The film of the demonstration: a ball bounces through a sunset, for four seconds at ten pictures
-//! a second, with a tone at each bounce. It has every opcode that is acted on and blocks of many
-//! codes. Its beginning is small enough for the listing program.
+//! The demonstration: a ball bounces through a sunset, for four seconds at ten pictures a second, with a
+//! tone at each bounce. `./demo` has its film made by `mve make`, from the pictures and the samples that
+//! are here. The film that is made here shows the same; it has every opcode that is acted on and blocks
+//! of many codes, so the tests have it, and so has `./demo` where the command cannot be built. Its
+//! beginning is small enough for the listing program.
 //!
 //! Other players show it in the same colours and with the same sound (`docs/PEERS.md`): libavformat
 //! passes over 0B and 0D, so each has a 0C of the same colours behind it; the sound is uncompressed; and
 //! the first pictures copy from none that was not sent before.
 
 use crate::encode;
+use crate::files;
 use crate::film::{init_video, packet_opcodes, Chunk, Film, Opcode};
 use crate::seeded::Seeded;
 use crate::size::Size;
+use std::path::Path;
+use std::{fs, io};
 
 /// 16x12 blocks, which are 128x96 pixels.
 pub const SIZE: Size = Size { columns: 16, rows: 12 };
@@ -85,6 +90,13 @@ pub fn picture(frame: usize) -> Vec<u8> {
     (0..SIZE.pixels()).map(|i| pixel(i) as u8).collect()
 }
 
+/// The colours of a frame: red, green and blue of all entries, 0 to 63.
+pub fn palette(frame: usize) -> Vec<[u8; 3]> {
+    let mut palette = first_colours();
+    palette[BALL..BALL + 4].copy_from_slice(&BALL_COLOURS[frame / BOUNCE]);
+    palette
+}
+
 /// The samples that go with a frame, as bytes: a triangle wave.
 pub fn samples(frame: usize) -> Vec<u8> {
     let tone = TONES[frame / BOUNCE];
@@ -97,6 +109,24 @@ pub fn samples(frame: usize) -> Vec<u8> {
     };
     let first = frame % BOUNCE * SAMPLES;
     (first..first + SAMPLES).flat_map(|n| sample(n).to_le_bytes()).collect()
+}
+
+/// Writes the pictures to a folder, 000000.png and so on, and the sound, sound.wav.
+///
+/// # Errors
+///
+/// A file that cannot be written.
+pub fn write_pictures(folder: &Path) -> io::Result<()> {
+    fs::create_dir_all(folder)?;
+    for frame in 0..FRAMES {
+        // As other programs have them: 8 bits a component, the two high bits once more as the low ones.
+        let wide = |colour: [u8; 3]| colour.map(|component| component << 2 | component >> 4);
+        let palette: Vec<_> = palette(frame).into_iter().map(wide).collect();
+        let png = files::png(SIZE.width(), SIZE.height(), &picture(frame), &palette);
+        fs::write(folder.join(format!("{frame:06}.png")), png)?;
+    }
+    let samples: Vec<u8> = (0..FRAMES).flat_map(samples).collect();
+    fs::write(folder.join("sound.wav"), files::wav(RATE, &samples))
 }
 
 /// Opcode 03, in a chunk of its own, where other players look for it: mono, 16-bit.
@@ -119,18 +149,22 @@ fn first_chunk() -> Chunk {
     let timer = [&100_000_u32.to_le_bytes()[..], &1_u16.to_le_bytes()].concat();
     let mode = [640_u16, 480, 0].map(u16::to_le_bytes).concat();
     let gradients = vec![SKY as u8, SKY_ROWS as u8, 16, GROUND as u8, GROUND_ROWS as u8, 16];
-    let sky = gradient(SKY_ROWS, |red, other| [red, 0, other]);
-    let ground = gradient(GROUND_ROWS, |red, other| [red, other, 0]);
-    let colours = [&sky[..], &ground, &BALL_COLOURS[0], &SINGLE_COLOURS].concat();
     let opcodes = vec![
         Opcode::new(0x02, 0, timer),
         init_video(SIZE),
         Opcode::new(0x0A, 0, mode),
         Opcode::new(0x0B, 0, gradients),
-        entries(SKY, &colours),
+        entries(SKY, &first_colours()),
         Opcode::new(0x01, 0, Vec::new()),
     ];
     Chunk { kind: 2, opcodes, ..Chunk::default() }
+}
+
+/// The colours of the first frame.
+fn first_colours() -> Vec<[u8; 3]> {
+    let sky = gradient(SKY_ROWS, |red, other| [red, 0, other]);
+    let ground = gradient(GROUND_ROWS, |red, other| [red, other, 0]);
+    [&sky[..], &ground, &BALL_COLOURS[0], &SINGLE_COLOURS].concat()
 }
 
 fn frame_chunk(frame: usize, wanted: &[u8], front: &[u8], back: &[u8]) -> Chunk {

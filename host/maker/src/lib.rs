@@ -1,8 +1,8 @@
-//! Seeded makers of test inputs: packets, films with and without sound, film states and lists of
-//! drawing calls; valid, damaged and hostile. The same seed gives the same bytes for ever, on every
-//! machine.
+//! Seeded makers of test inputs: packets, films with and without sound, film states, lists of
+//! drawing calls, and pictures to be encoded; valid, damaged and hostile. The same seed gives the same
+//! bytes for ever, on every machine.
 //!
-//! [`demo`] is the one film that is made for viewing.
+//! [`demo`] is the one film that is made for viewing; [`files`] has its pictures and its sound as files.
 //!
 //! Packets, films and calls are written from the documents, encoder's side up: what a maker calls
 //! valid is so by construction, not because a decoder took it. Only [`states`] uses the second
@@ -15,6 +15,7 @@ pub mod calls;
 pub mod colours;
 pub mod demo;
 pub mod encode;
+pub mod files;
 pub mod film;
 pub mod film_damage;
 pub mod form;
@@ -27,6 +28,7 @@ pub mod sound;
 pub mod sound_damage;
 pub mod states;
 pub mod strips;
+pub mod wanted;
 
 pub use form::Form;
 pub use packet::{Packet, Profile};

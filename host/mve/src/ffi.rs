@@ -3,11 +3,12 @@
 //! The library is proved to answer every call, to read no byte that is not lent to it, to write
 //! none that is not lent for writing, and to keep nothing after it returns. It asks nothing of the
 //! values. What is left to this module is the C ABI: a slice goes as the address of its first element
-//! and its length; answers about packets and about new films come back by value.
+//! and its length; answers about packets, new films and pictures that are encoded come back by value.
 
 #![allow(unsafe_code)]
 
 use crate::answer::Answer;
+use crate::encode::Numbers as Written;
 use crate::form::Form;
 use crate::origin::Numbers as Found;
 use crate::salvage::Numbers as Saved;
@@ -141,6 +142,20 @@ unsafe extern "C" {
         room: *mut u8,
         room_length: usize,
     ) -> Stripped;
+    fn mve_encode(
+        columns: usize,
+        rows: usize,
+        wanted: *const u8,
+        wanted_length: usize,
+        front: *const u8,
+        front_length: usize,
+        back: *const u8,
+        back_length: usize,
+        map: *mut u8,
+        map_length: usize,
+        body: *mut u8,
+        body_length: usize,
+    ) -> Written;
 }
 
 pub(crate) fn check(form: Form, columns: usize, rows: usize, map: &[u8], data: &[u8]) -> Answer {
@@ -319,4 +334,34 @@ pub(crate) fn strip(film: &[u8], stream: usize, room: &mut [u8]) -> Stripped {
     // empty slice is not null. Only the room is written; it is borrowed mutably, so it does not overlap
     // the film.
     unsafe { mve_strip(film.as_ptr(), film.len(), stream, room.as_mut_ptr(), room.len()) }
+}
+
+pub(crate) fn encode(
+    columns: usize,
+    rows: usize,
+    wanted: &[u8],
+    front: &[u8],
+    back: &[u8],
+    map: &mut [u8],
+    body: &mut [u8],
+) -> Written {
+    // SAFETY: each address and length are those of a slice that lives through the call; that of an
+    // empty slice is not null. Only map and body are written; they are borrowed mutably, so they overlap
+    // neither each other nor the pictures.
+    unsafe {
+        mve_encode(
+            columns,
+            rows,
+            wanted.as_ptr(),
+            wanted.len(),
+            front.as_ptr(),
+            front.len(),
+            back.as_ptr(),
+            back.len(),
+            map.as_mut_ptr(),
+            map.len(),
+            body.as_mut_ptr(),
+            body.len(),
+        )
+    }
 }

@@ -64,7 +64,7 @@
 //! the others. [`origin`] tells which byte or pixel gave a pixel its value.
 //!
 //! [`salvage`] saves what is left of a scratched film. [`strip`] drops what a player of one stream passes
-//! over.
+//! over. [`encode`] makes map and packet of a picture of one's own.
 //!
 //! Many films pad a packet to an even length, so these calls accept one byte left over behind the
 //! blocks' data. [`check_strict`], [`draw_strict`] and [`step`] in [`Form::Strict`] accept none: they are
@@ -103,6 +103,7 @@ struct Readme;
 mod answer;
 mod begin;
 mod colour;
+mod encode;
 mod ffi;
 mod film;
 mod form;
@@ -118,6 +119,7 @@ mod timer;
 
 pub use begin::{begin, Unbegun};
 pub use colour::{colour, widened};
+pub use encode::{encode, Encoded, BODY_BYTES, MAP_BYTES};
 pub use film::{is_sent, open, shown, step, Sound, State, Step};
 pub use film::{NO_STREAM, PALETTE_BYTES, PICTURE_BYTES, ROOM_BYTES};
 pub use form::Form;
@@ -132,4 +134,4 @@ pub use strip::strip;
 pub use timer::timer;
 
 /// The version of the interface that this crate is written for: C's `MVE_VERSION`.
-pub const VERSION: usize = 13;
+pub const VERSION: usize = 14;

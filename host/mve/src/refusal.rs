@@ -124,12 +124,16 @@ errors! {
     SoundFormat = 17, "sound comes before its format, or a format is both 8-bit and compressed";
     /// Sound whose data is not as long as its count of samples says, or whose count cannot be.
     SoundLength = 18, "the sound's data or its count of samples has a wrong length";
-    /// A room that is too small for the samples, for a new film or for the list of what it lacks.
+    /// A room that is too small for the samples, for a new film or the list of what it lacks, or for a map or
+    /// body that is made.
     Room = 19, "a room is too small for what is to be written there";
     /// A film that ends without a frame size. Only [`begin`](crate::begin()) meets it.
     NoSize = 21, "the film ends without a frame size";
     /// A position outside the picture. Only [`origin`](crate::origin()) meets it.
     Position = 22, "the position lies outside the picture";
+    /// A picture whose packet is longer, with the 14 bytes in front of it, than opcode 0x11 can hold. Only
+    /// [`encode`](crate::encode()) meets it.
+    PacketLength = 23, "the picture needs a packet longer than an opcode can be";
 }
 
 impl Error {
@@ -162,12 +166,12 @@ mod tests {
     #[test]
     fn each_number_has_a_text_of_its_own() {
         let numbers = Error::ALL.iter().map(|error| error.number());
-        assert!(numbers.eq((1..=19).chain([21, 22])));
+        assert!(numbers.eq((1..=19).chain(21..=23)));
         let texts: BTreeSet<_> = Error::ALL.iter().map(|error| error.text()).collect();
-        assert_eq!(texts.len(), 21);
+        assert_eq!(texts.len(), 22);
         for number in 0..=600 {
             let named = Error::from_number(number).map(|error| usize::from(error.number()));
-            let is_number = (1..=19).contains(&number) || number == 21 || number == 22;
+            let is_number = (1..=19).contains(&number) || (21..=23).contains(&number);
             assert_eq!(named, is_number.then_some(number));
         }
     }

@@ -64,6 +64,8 @@ fn constants() {
         ("MVE_PALETTE_BYTES", mve::PALETTE_BYTES),
         ("MVE_PICTURE_BYTES", mve::PICTURE_BYTES),
         ("MVE_ROOM_BYTES", mve::ROOM_BYTES),
+        ("MVE_MAP_BYTES", mve::MAP_BYTES),
+        ("MVE_BODY_BYTES", mve::BODY_BYTES),
         ("MVE_ALL_STORES", mve::ALL_STORES),
         ("MVE_BLOCK_STORES", mve::BLOCK_STORES),
         ("MVE_PALETTE_STORES", mve::PALETTE_STORES),
@@ -74,7 +76,7 @@ fn constants() {
     let defined = header
         .lines()
         .filter(|line| line.starts_with("#define MVE_") && line.contains(char::is_numeric));
-    assert_eq!(defined.count(), 8, "a constant that the wrapper lacks");
+    assert_eq!(defined.count(), 10, "a constant that the wrapper lacks");
 }
 
 /// The numbers of the enums: of states and answers, of the forms and of the kinds.

@@ -24,6 +24,7 @@
 //! | [`numbers`] | the film's calls with states and answers as numbers of any count |
 //! | [`salvage`] | what is left of a scratched film |
 //! | [`strip`] | a film without what the player passes over |
+//! | [`encode`] | map and packet of a wanted picture |
 //! | [`listing`] | the text that the listing program writes |
 //! | [`pictures`] | the pictures that a film sends, as the example players write them |
 
@@ -31,6 +32,7 @@ pub mod begin;
 pub mod block;
 pub mod book;
 pub mod cuts;
+pub mod encode;
 pub mod film;
 pub mod frame;
 pub mod listing;

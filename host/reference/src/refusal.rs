@@ -1,4 +1,4 @@
-//! The numbers of refusal (01, "Numbers of refusal"; 17 to 19: 02, W5; 21: W8; 22: W9).
+//! The numbers of refusal (01, "Numbers of refusal"; 17 to 19: 02, W5; 21: W8; 22: W9; 23: W10).
 
 use std::fmt;
 
@@ -44,11 +44,13 @@ pub const ROOM: u8 = 19;
 pub const NO_SIZE: u8 = 21;
 /// A position outside the picture.
 pub const POSITION: u8 = 22;
+/// A packet that is longer, with its front, than an opcode's body can be.
+pub const PACKET_LENGTH: u8 = 23;
 
 /// Why a call was refused. Nothing lent to the call was changed.
 #[derive(Clone, Copy, Debug, PartialEq, Eq, PartialOrd, Ord, Hash)]
 pub struct Refusal {
-    /// The documents' number, 1 to 19, 21 or 22.
+    /// The documents' number, 1 to 19 or 21 to 23.
     pub number: u8,
     /// The block that met 12, 13 or 14; else 0.
     pub block: usize,
@@ -89,6 +91,7 @@ impl Refusal {
             ROOM => "room too small for what is to be written there",
             NO_SIZE => "film ends without a frame size",
             POSITION => "position outside the picture",
+            PACKET_LENGTH => "packet longer than an opcode's body can be",
             _ => "unknown number of refusal",
         }
     }

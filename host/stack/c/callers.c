@@ -12,6 +12,8 @@ struct mve_salvaged salvaged;
 struct mve_stripped stripped;
 uint8_t new_film[NEW_FILM_BYTES];
 size_t losses[LOSSES * MVE_LOSS_NUMBERS];
+uint8_t wanted[MVE_PICTURE_BYTES], new_map[MVE_MAP_BYTES], new_body[MVE_BODY_BYTES];
+struct mve_encoded encoded;
 size_t kind, shown;
 
 void call_mve_open(void) {
@@ -59,4 +61,9 @@ void call_mve_salvage(void) {
 
 void call_mve_strip(void) {
     stripped = mve_strip(film, film_length, 0, new_film, sizeof new_film);
+}
+
+void call_mve_encode(void) {
+    encoded = mve_encode(columns, rows, wanted, sizeof wanted, front, sizeof front, back, sizeof back, new_map,
+                         sizeof new_map, new_body, sizeof new_body);
 }

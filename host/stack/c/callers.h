@@ -17,6 +17,8 @@ extern struct mve_salvaged salvaged;
 extern struct mve_stripped stripped;
 extern uint8_t new_film[NEW_FILM_BYTES];
 extern size_t losses[LOSSES * MVE_LOSS_NUMBERS];
+extern uint8_t wanted[MVE_PICTURE_BYTES], new_map[MVE_MAP_BYTES], new_body[MVE_BODY_BYTES];
+extern struct mve_encoded encoded;
 extern size_t kind, shown;
 
 void call_mve_open(void);
@@ -29,5 +31,6 @@ void call_mve_draw_strict(void);
 void call_mve_origin(void);
 void call_mve_salvage(void);
 void call_mve_strip(void);
+void call_mve_encode(void);
 
 #endif

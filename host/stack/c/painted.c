@@ -6,8 +6,8 @@
 CALL is a call of the library. The caller of mve_step is main of examples/synopsis.c, compiled under the name `stage`, and
 INPUT is the film that it reads. The other callers are those of callers.c. INPUT of open, begin, shown, salvage and strip is
 a film, too; of the others it is packets, each as four numbers of four bytes, columns, rows and the lengths of map and data,
-then map and data. ALLOWED is for the drawing calls. PAINT is the byte that the stack is painted with; a caller may store it,
-so that more than one is to be tried.
+then map and data. What encode wants is the picture that a packet gives. ALLOWED is for the drawing calls. PAINT is the byte
+that the stack is painted with; a caller may store it, so that more than one is to be tried.
 
 Prints the bytes from the end of the stack to the lowest one that is not the paint. Then, of mve_step, the pictures that the
 stage counted and the number of its refusal or 0; of the others how many runs were not refused, and 0.
@@ -107,6 +107,7 @@ static const struct {
     {"mve_origin", call_mve_origin, 1},
     {"mve_salvage", call_mve_salvage, 0},
     {"mve_strip", call_mve_strip, 0},
+    {"mve_encode", call_mve_encode, 1},
 };
 
 static size_t number(const uint8_t *bytes) {
@@ -142,10 +143,14 @@ int main(int count, char **words) {
         at = callers[which].takes_packets ? lend_packet(at) : input_length;
         allowed = strtoull(words[2], NULL, 10);
         place = 0;
+        if (callers[which].caller == call_mve_encode) {
+            mve_draw(columns, rows, map, map_length, data, data_length, front, sizeof front, wanted, sizeof wanted, &place,
+                     MVE_ALL_STORES);
+        }
         size_t bytes = written(callers[which].caller, (uint8_t)atoi(words[3]));
         deepest = bytes > deepest ? bytes : deepest;
         runs -= kind == MVE_REFUSED || verdict.kind == MVE_REFUSED || traced.kind == MVE_REFUSED || salvaged.number != 0 ||
-                stripped.number != 0;
+                stripped.number != 0 || encoded.number != 0;
     }
     printf("%zu %zu %zu\n", deepest, callers[which].caller == (void (*)(void))stage ? pictures : runs, refusal);
     return 0;
