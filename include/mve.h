@@ -53,6 +53,7 @@ mve_origin  which byte or pixel gave a pixel of a packet's picture its value
 mve_salvage what is left of a scratched film, as a new film
 mve_strip   a film without what the player passes over, as a new film
 mve_encode  map and packet of a picture of your own
+mve_video1  the drawing of a frame of Microsoft Video 1
 
 mve_step with MVE_STRICT, mve_check_strict and mve_draw_strict are the strict forms: a packet may leave no byte over (THE
 PACKET). mve_is_sent tells whether a step sent a picture to the display. mve_timer reads how long a picture stays (THE TIME
@@ -173,7 +174,7 @@ libmve.a is one object for x86-64 and the System V ABI. It needs no operating sy
 undefined below. Every function has a section of its own, so that the linker's --gc-sections leaves out those that are not
 called. All relocations are relative: code and constants may be loaded at any address, as long as they stay together.
 
-    code                        50,138 bytes
+    code                        51,599 bytes
     constants                   1,459 bytes
     memory of its own           0 bytes
     undefined symbols           memset
@@ -192,6 +193,7 @@ called. All relocations are relative: code and constants may be loaded at any ad
     stack of mve_shown          8 bytes
     stack of mve_step           744 bytes
     stack of mve_strip          632 bytes
+    stack of mve_video1         72 bytes
 
 The stack of a call is the most that it takes, together with all that it calls: return addresses, pushed registers and
 arguments, locals with the copies of constant tables, and what is used below the stack pointer. Each call takes less than
@@ -214,6 +216,7 @@ A boot stage has one stack for all of this. A whole stage is a least caller in C
     whole stage of mve_shown        24 bytes
     whole stage of mve_step         904 bytes
     whole stage of mve_strip        648 bytes
+    whole stage of mve_video1       88 bytes
 
 The least caller of mve_step is main of examples/synopsis.c. It keeps all its variables out of the stack, and opens the film
 in a function of its own that is not inlined, so that the steps do not stand on the frame of the opening. The others are
@@ -443,6 +446,27 @@ byte 12 of opcode 0x11's body is set; this library skips these bytes. A film for
 
 The blocks are measured first and then written, so nothing is written where the call is refused. A call that is stopped in
 the middle leaves any part of map and body written; call it anew.
+
+MICROSOFT VIDEO 1
+
+mve_video1 draws a frame of Microsoft Video 1 with 8-bit pixels on the picture, to be stored in a film. The size is counted
+in blocks of 8x8 pixels, as of a film; the frame has blocks of 4x4 pixels, 2 * columns in a row and 2 * rows of these. They
+come left to right, from the bottom row of the picture up. The data is a list of codes, each with its bytes a and b:
+
+    b            bytes   what it gives
+    00 to 7F     4       a block of two colours, the third byte and the fourth
+    84 to 87     2       (b - 84) * 256 + a blocks are skipped, 0 to 1,023: they stay as lent
+    90 to FF     10      a block of eight colours: two for each 2x2 quarter, in the order lower left, lower right, upper
+                         left, upper right
+    others       2       a block of one colour, a
+
+A bit of a or b chooses between two colours: 1 the first, 0 the second. Bits 0 to 3 of a are the block's bottom row, from
+the left; bits 4 to 7 of a, 0 to 3 of b and 4 to 7 of b are the rows above it. After all blocks stands the end mark, 00 00,
+and nothing behind it. Before that 00 00 are the bytes a and b of a block of two colours.
+
+All is judged before the first store, so a refusal leaves the picture as it was. So does a frame leave what it skips, and all
+bytes behind the first 64 * columns * rows. The data is walked twice. A call that is stopped in the middle leaves any part
+of the picture drawn; called anew, it gives the same picture, because no code reads a pixel.
 */
 
 #ifndef MVE_H
@@ -457,7 +481,7 @@ extern "C" {
 
 /* The version of this interface. It changes with every change of the calls, of the structs, of the names, of the packets
    that are accepted and of the pictures that they give. CHANGELOG.md says what changed in each. */
-#define MVE_VERSION 14
+#define MVE_VERSION 15
 
 /* The bytes of the palette: 256 entries of red, green and blue. */
 #define MVE_PALETTE_BYTES 768
@@ -517,6 +541,7 @@ enum mve_kind {
        mve_salvage                     1, 19
        mve_strip                       1, the first of 2 to 5 in the order of the film, 19
        mve_encode                      6, 8, 23, 19
+       mve_video1                      6, 8, the first met of 24 and 25, 26
 
    Of several blocks with a fault, the one with the lowest number is given, with its first fault in the order 12, 13, 14. */
 enum mve_refusal {
@@ -543,7 +568,10 @@ enum mve_refusal {
     MVE_ERROR_ROOM = 19,         /* room too small for the samples or for a new film, list for what it lacks, or map or body */
     MVE_ERROR_NO_SIZE = 21,      /* the film ends without a frame size (mve_begin alone) */
     MVE_ERROR_POSITION = 22,     /* a position outside the picture (mve_origin alone) */
-    MVE_ERROR_PACKET_LENGTH = 23 /* a packet that is longer, with its 14 bytes, than MVE_BODY_BYTES (mve_encode alone) */
+    MVE_ERROR_PACKET_LENGTH = 23, /* a packet that is longer, with its 14 bytes, than MVE_BODY_BYTES (mve_encode alone) */
+    MVE_ERROR_FRAME_SHORT = 24,  /* data ends before all blocks are passed (mve_video1 alone, as the next two) */
+    MVE_ERROR_SKIP_OUTSIDE = 25, /* a skip passes the last block */
+    MVE_ERROR_END_MARK = 26      /* behind the last block stands not the end mark alone */
 };
 
 /* What a number of refusal means, for messages. */
@@ -571,6 +599,9 @@ static inline const char *mve_refusal_text(size_t number) {
     case MVE_ERROR_NO_SIZE: return "the film ends without a frame size";
     case MVE_ERROR_POSITION: return "the position lies outside the picture";
     case MVE_ERROR_PACKET_LENGTH: return "the picture needs a packet longer than an opcode can be";
+    case MVE_ERROR_FRAME_SHORT: return "the frame's data ends before all blocks are passed";
+    case MVE_ERROR_SKIP_OUTSIDE: return "a skip passes the frame's last block";
+    case MVE_ERROR_END_MARK: return "the end mark does not stand alone behind the frame's last block";
     default: return "not a number of refusal";
     }
 }
@@ -809,6 +840,12 @@ struct mve_stripped mve_strip(const uint8_t *film, size_t film_length, size_t st
 struct mve_encoded mve_encode(size_t columns, size_t rows, const uint8_t *wanted, size_t wanted_length,
                               const uint8_t *front, size_t front_length, const uint8_t *back, size_t back_length,
                               uint8_t *map, size_t map_length, uint8_t *body, size_t body_length);
+
+/* Draws a frame of Microsoft Video 1 with 8-bit pixels on the picture, which has columns by rows blocks of 8x8 (MICROSOFT
+   VIDEO 1): 0, or the number of the refusal: 6, 8, then the first met of 24 and 25, then 26. The picture is then as it
+   was. */
+size_t mve_video1(size_t columns, size_t rows, const uint8_t *data, size_t data_length, uint8_t *picture,
+                  size_t picture_length);
 
 #ifdef __cplusplus
 }

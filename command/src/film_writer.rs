@@ -7,6 +7,7 @@ use crate::messages::Failure;
 use crate::opcodes::kind;
 use crate::output::{Overwrite, Part};
 use crate::sound::Format;
+use mve::Error;
 use serde_json::{json, Value};
 use std::fs::File;
 use std::io::{BufWriter, Write};
@@ -43,8 +44,8 @@ const FIRST_STREAM: u16 = 1;
 /// Why a picture is not added.
 #[derive(Debug)]
 pub enum Unadded {
-    /// The library refuses it: it is too large.
-    Refused,
+    /// By the library.
+    Refused(Error),
     Failed(Failure),
 }
 
@@ -157,7 +158,7 @@ impl FilmWriter {
     /// Adds a picture, a palette entry for each pixel, that stays for these microseconds.
     pub fn add(&mut self, pixels: &[u8], interval: u32) -> Result<(), Unadded> {
         let wanted = self.padded(pixels);
-        let (map, body) = self.encoded(&wanted)?;
+        let (map, body) = self.encoded(&wanted).map_err(Unadded::Refused)?;
         let mut groups = vec![self.before(interval, &map)];
         self.elapsed += u64::from(interval);
         groups.extend(self.sound_due());
@@ -168,6 +169,13 @@ impl FilmWriter {
         self.pictures += 1;
         self.back = std::mem::replace(&mut self.front, wanted);
         Ok(())
+    }
+
+    /// Adds the picture before once more; before the first, one of entry 0.
+    pub fn add_again(&mut self, interval: u32) -> Result<(), Unadded> {
+        let row = |y: usize| self.front[8 * self.columns * y..][..self.width].to_vec();
+        let pixels: Vec<u8> = (0..self.height).flat_map(row).collect();
+        self.add(&pixels, interval)
     }
 
     /// Ends the film, and gives it its name. Two chunks say that it ends, as in films of old: ffmpeg reads
@@ -213,7 +221,7 @@ impl FilmWriter {
 
     /// Map and body of opcode 0x11. What the pictures hold before the first is the player's, so the first
     /// copies nothing from them, and the second nothing from back.
-    fn encoded(&mut self, wanted: &[u8]) -> Result<(Vec<u8>, Vec<u8>), Unadded> {
+    fn encoded(&mut self, wanted: &[u8]) -> Result<(Vec<u8>, Vec<u8>), Error> {
         let unlike = || wanted.iter().map(|entry| !entry).collect::<Vec<u8>>();
         let (front, back) = match self.pictures {
             0 => (&unlike(), &unlike()),
@@ -222,7 +230,10 @@ impl FilmWriter {
         };
         let (map, body) = (&mut self.map, &mut self.body);
         let encoded = mve::encode(self.columns, self.rows, wanted, front, back, map, body)
-            .map_err(|_| Unadded::Refused)?;
+            .map_err(|refusal| match refusal.error {
+                Error::Room => Error::PacketLength,
+                other => other,
+            })?;
         let mut body = body[..encoded.body_length].to_vec();
         body[SWAP_BYTE] |= 1;
         Ok((map[..encoded.map_length].to_vec(), body))

@@ -15,6 +15,7 @@ mod drawings;
 mod dropped;
 mod film;
 mod film_writer;
+mod import;
 mod info;
 mod input;
 mod legend;
@@ -39,6 +40,7 @@ mod sound;
 mod strip;
 mod table;
 mod terminal;
+mod video1;
 mod walk;
 mod why;
 
@@ -49,7 +51,7 @@ use std::io::{self, Write};
 use std::process::ExitCode;
 
 /// All subcommands, in the order of the help.
-const SUBCOMMANDS: [Subcommand; 9] = [
+const SUBCOMMANDS: [Subcommand; 10] = [
     info::SUBCOMMAND,
     list::SUBCOMMAND,
     play::SUBCOMMAND,
@@ -58,6 +60,7 @@ const SUBCOMMANDS: [Subcommand; 9] = [
     salvage::SUBCOMMAND,
     strip::SUBCOMMAND,
     make::SUBCOMMAND,
+    import::SUBCOMMAND,
     completions::SUBCOMMAND,
 ];
 

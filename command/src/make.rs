@@ -188,7 +188,7 @@ fn write(
         let pixels: Vec<u8> = picture.pixels.iter().map(|&colour| palette.entry(colour)).collect();
         let interval = fps.or(picture.interval).unwrap_or(USUAL).min(LONGEST as u32);
         film.add(&pixels, interval).map_err(|unadded| match unadded {
-            Unadded::Refused => Failure::TooLarge(path.into(), number),
+            Unadded::Refused(_) => Failure::TooLarge(path.into(), number),
             Unadded::Failed(failure) => failure,
         })
     })

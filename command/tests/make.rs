@@ -178,16 +178,10 @@ fn wav(kind: u16, rate: u32, channels: u16, bits: u16, samples: &[u8]) -> Vec<u8
         &words([frame, bits]),
     ]
     .concat();
+    let chunk = maker::avi::chunk;
     let odd = chunk(b"note", b"odd"); // a chunk that is passed over, with a byte behind it
     let parts = [&b"WAVE"[..], &odd, &chunk(b"fmt ", &format), &chunk(b"data", samples)].concat();
     chunk(b"RIFF", &parts)
-}
-
-/// A chunk of a WAV file, padded to an even length.
-fn chunk(name: &[u8; 4], content: &[u8]) -> Vec<u8> {
-    let mut chunk = [&name[..], &(content.len() as u32).to_le_bytes(), content].concat();
-    chunk.resize(chunk.len() + content.len() % 2, 0);
-    chunk
 }
 
 /// Sound of every format, so much of it for a picture that it has several opcodes; each in a chunk of its

@@ -4,6 +4,7 @@
 mod common;
 
 use common::{names, program, run, say, with_film, Ran};
+use maker::avi::{Avi, Item};
 use maker::demo;
 use std::fs;
 use std::path::Path;
@@ -46,16 +47,24 @@ fn progress() {
     assert!(ran.text().starts_with("\r[") && ran.text().contains(" pictures\r") && is_blank);
 }
 
-/// Pictures that become films show progress, too, which is gone before what is told.
+/// Pictures and trailers that become films show progress, too, which is gone before what is told.
 #[test]
 fn progress_of_making() {
     let folder = with_film("progress_of_making", &demo::beginning(3).bytes());
+    let mut trailer = Avi::new(8, 8);
+    trailer.items = vec![Item::Frame(vec![4, 0x84, 0, 0]); 3];
+    fs::write(folder.join("t.avi"), trailer.bytes()).expect("a file");
     let play = program().display().to_string() + " play film.mve -o out/ &&";
-    let Some(ran) = on_terminal_after(&folder, &play, "make out -o new.mve") else { return };
-    let (shown, told) = ran.text().split_once("\rnew.mve\r\n").expect("what is told");
-    let bar = format!("\r[{}]   0 % 0 of 3 pictures", " ".repeat(30));
-    assert!(ran.code == Some(0) && shown.contains(&bar), "{shown:?}");
-    assert!(told.contains("  pictures  3\r\n") && !told.contains('['), "{told:?}");
+    for (before, words, word) in [
+        (&*play, "make out -o new.mve", "0 of 3 pictures"),
+        ("", "import t.avi -o new.mve --force", "0 of 3 frames"),
+    ] {
+        let Some(ran) = on_terminal_after(&folder, before, words) else { return };
+        let (shown, told) = ran.text().split_once("\rnew.mve\r\n").expect("what is told");
+        let bar = format!("\r[{}]   0 % {word}", " ".repeat(30));
+        assert!(ran.code == Some(0) && shown.contains(&bar), "{shown:?}");
+        assert!(told.contains("  pictures  3\r\n") && !told.contains('['), "{told:?}");
+    }
 }
 
 /// Pictures and sound as bytes are not for a terminal.

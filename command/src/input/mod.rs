@@ -1,5 +1,6 @@
-//! What films are made from: pictures, a sound.
+//! What films are made from: pictures, a sound, a trailer.
 
+mod avi;
 mod gif;
 mod png;
 mod riff;
@@ -9,6 +10,7 @@ mod y4m;
 use crate::film::STANDARD;
 use crate::messages::Failure;
 use crate::output::Part;
+pub use avi::{Avi, Item};
 use std::cmp::Ordering;
 use std::fs::{self, File};
 use std::io::{self, IsTerminal, Read, Seek};

@@ -78,6 +78,12 @@ impl Riff {
         Ok(Some(kind))
     }
 
+    /// The chunks inside a list.
+    pub fn inside(&mut self, list: &Chunk) -> Result<Vec<Chunk>, Unread> {
+        let Range { start, end } = list.content;
+        self.chunks((start + KIND).min(end)..end)
+    }
+
     /// All chunks between two places.
     fn chunks(&mut self, within: Range<u64>) -> Result<Vec<Chunk>, Unread> {
         let (mut found, mut at) = (Vec::new(), within.start);

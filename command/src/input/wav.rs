@@ -79,7 +79,7 @@ fn parts(path: &Path) -> Result<(Option<Vec<u8>>, Option<Vec<u8>>), Unread> {
     Ok((content(named(b"fmt "))?, content(named(b"data"))?))
 }
 
-/// A film's format, from that of a WAV file.
+/// A film's format, from that of a WAV or an AVI file.
 pub fn format_of(bytes: &[u8]) -> Result<Format, Unfit> {
     let word = |at| word(bytes, at).ok_or(Unfit::Broken);
     let (kind, channels, bits) = (word(0)?, word(2)?, word(14)?);

@@ -6,6 +6,7 @@ use mve_answers::MveOrigin;
 use mve_answers::answered;
 use mve_answers::of_check;
 use mve_answers::of_trace;
+use mve_answers::of_verdict;
 use mve_answers::refused;
 use mve_encodes::MveEncoded;
 use mve_encodes::of_encoded;
@@ -29,10 +30,11 @@ ghost use Rattle.stores.specs.Stores.{memory};
 ghost use Rattle.draw.specs.Call.{within, request, pictures, leaves, report, said};
 ghost use Rattle.origin.specs.Trace.{traceOf};
 ghost use Rattle.film.specs.Film.{lent};
+ghost use Rattle.video1.specs.Frame.{frameVerdict, frameAfter};
 ghost use Rattle.salvage.specs.Salvage.{answerOf, bytesAfter, numbersAfter};
 ghost use Rattle.strip.specs.Strip.{stripAnswer, stripRoom};
 ghost use Rattle.encode.specs.Encode.{task, encodeOf};
-ghost use Rattle.mve_answers.specs.Answer.{ofFound, ofReport};
+ghost use Rattle.mve_answers.specs.Answer.{ofFound, ofReport, ofVerdict};
 ghost use Rattle.mve_answers.specs.Trace.{ofTrace};
 ghost use Rattle.mve_salvages.specs.Salvages.{ofSalvage};
 ghost use Rattle.mve_encodes.specs.Encodes.{ofAnswer};
@@ -248,4 +250,13 @@ pub extern "C" fn mve_encode(
     ensures { λ _. ⌜ now (body .exit) ≡ encodeOf (task columns (now (wanted .entry)) (now (front .entry)) (now (back .entry))) rows (now (map .entry)) (now (body .entry)) .body ⌝ }
 {
     of_encoded(encode::encode(columns, rows, wanted, front, back, map, body))
+}
+
+// A frame of Microsoft Video 1, drawn on the picture: 0, or the refusal's number, and then the picture is as it was.
+#[no_mangle]
+pub extern "C" fn mve_video1(columns: usize, rows: usize, data: &[u8], picture: &mut [u8]) -> usize
+    ensures { λ r. ⌜ r ≡ ofVerdict (frameVerdict columns rows (now («data» .entry)) (length (now (picture .entry)))) ⌝ }
+    ensures { λ _. ⌜ now (picture .exit) ≡ frameAfter columns rows (now («data» .entry)) (now (picture .entry)) ⌝ }
+{
+    of_verdict(video1::decode(columns, rows, data, picture))
 }

@@ -6,15 +6,18 @@ use Rattle.refusal.specs.declared.Refusal.{Refusal}
 use Rattle.refusal.specs.Number.{number, block}
 use Rattle.packet.specs.declared.Touched.{Touched}
 use Rattle.packet.specs.declared.Touched.the-variants.{None, Rows}
+use Rattle.packet.specs.declared.Checked.{Checked}
+use Rattle.packet.specs.declared.Checked.the-variants.{Accepted as Taken, Refused as NotTaken}
 use Rattle.packet.specs.declared.Inspected.{Inspected}
 use Rattle.packet.specs.declared.Inspected.the-variants.{Accepted, Refused}
 use Rattle.packet.specs.Rows.{found}
+use Rattle.packet.specs.Verdict.{told}
 use Rattle.draw.specs.declared.Drawn.{Drawn}
 use Rattle.draw.specs.declared.Drawn.the-variants.{Whole, Unfinished, Refused as Denied}
 use Rattle.draw.specs.Call.{said}
 use Rattle.mve_answers.specs.declared.MveRows.{MveRows}
 use Rattle.mve_answers.specs.declared.MveAnswer.{MveAnswer}
-use Rattle.mve_answers.specs.Answer.{ofRows, answer, ofFound, ofAnswer, ofReport}
+use Rattle.mve_answers.specs.Answer.{ofRows, answer, ofFound, ofAnswer, ofReport, ofVerdict}
 
 module _ (t : Touched) where
   pub no-rows : t ≡ None → record { touched = 0; first = 0; last = 0 } ≡ ofRows t
@@ -52,3 +55,12 @@ module _ (d : Drawn) (a : MveAnswer) where
   pub denied-as : (r : Refusal) → d ≡ Denied r → a ≡ answer 4 (number r) (block r) 0 (ofRows None) → a ≡ ofReport (said d)
   unfolding ofAnswer
   denied-as r q f = rw q f
+
+module _ (c : Checked) where
+  pub taken-as : c ≡ Taken → 0 ≡ ofVerdict (told c)
+  unfolding ofVerdict
+  taken-as q = rw q
+
+  pub not-taken-as : (r : Refusal) (n m : ℕ) → c ≡ NotTaken r → n ≡ number r → m ≡ n → m ≡ ofVerdict (told c)
+  unfolding ofVerdict
+  not-taken-as r n m q e f = rw (q, f, e)

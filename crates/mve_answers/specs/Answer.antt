@@ -2,6 +2,7 @@
 -- of blocks that a packet touches as three numbers.
 -- Assumes nothing.
 use Prim.Native.Nat.{ℕ}
+use Rattle.refusal.specs.Number.{Verdict, accept, refuse}
 use Rattle.packet.specs.declared.Touched.{Touched}
 use Rattle.packet.specs.declared.Touched.the-variants.{None, Rows}
 use Rattle.packet.specs.Rows.{Found, accepted, refused}
@@ -30,3 +31,8 @@ ofAnswer (refusal r) n t = answer 4 (r .number) (r .block) n (ofRows t)
 
 abbrev pub ofReport : Report → MveAnswer
 ofReport o = ofAnswer (o .answer) (o .count) (o .rows)
+
+-- of a call that says no more: 0, or the number of the refusal
+unfoldable pub ofVerdict : Verdict → ℕ
+ofVerdict accept = 0
+ofVerdict (refuse number block) = number

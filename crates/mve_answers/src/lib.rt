@@ -1,6 +1,7 @@
-// Answers about a packet as numbers, for hosts in other languages: of its check and of a drawing call, and where a pixel comes from.
+// Answers as numbers, for hosts in other languages: of a packet's check and of a drawing call, where a pixel comes from, and of a frame of Video 1.
 use origin::Origin;
 use origin::Traced;
+use packet::Checked;
 use packet::Inspected;
 use packet::Touched;
 use refusal::Refusal;
@@ -11,8 +12,9 @@ ghost use mathlib.Core.Path.{_≡_};
 ghost use Rattle.refusal.specs.Number.{block, number as refusalNumber};
 ghost use Rattle.packet.specs.declared.Touched.the-variants.{None};
 ghost use Rattle.packet.specs.Rows.{found};
+ghost use Rattle.packet.specs.Verdict.{told as judged};
 ghost use Rattle.origin.specs.Trace.{refused as tracedRefused, told as tracedAs};
-ghost use Rattle.mve_answers.specs.Answer.{answer, ofRows, ofFound};
+ghost use Rattle.mve_answers.specs.Answer.{answer, ofRows, ofFound, ofVerdict};
 ghost use Rattle.mve_answers.specs.Trace.{origin, ofOrigin, ofTrace};
 
 // The rows of blocks that a packet touches, counted from 0: touched 1 and the first and the last, or three times 0 where there is none.
@@ -146,5 +148,15 @@ pub fn of_trace(t: Traced) -> MveOrigin
     match t {
         Traced::Found(k, code, o) => of_origin(k, wide(code), o),
         Traced::Refused(r) => not_found(r),
+    }
+}
+
+// 0, or the refusal's number.
+pub fn of_verdict(c: Checked) -> usize
+    ensures { λ r. ⌜ r ≡ ofVerdict (judged c) ⌝ }
+{
+    match c {
+        Checked::Accepted => 0,
+        Checked::Refused(r) => wide(number_of(r)),
     }
 }

@@ -12,10 +12,11 @@ use Rattle.stores.specs.Stores.{firstPixels, further}
 use Rattle.stores.proofs.Order.{further-first, begun-none}
 use Rattle.paint.proofs.Painting.{Painting, painting-start, painting-by, painting-end, painting-length, painting-begun}
 use Rattle.rows.specs.Row.{Beside}
-use Rattle.video1.specs.declared.Code.the-variants.{Two, Eight, One}
+use Rattle.video1.specs.declared.Code.{Code}
+use Rattle.video1.specs.declared.Code.the-variants.{Skip, Two, Eight, One}
 use Rattle.video1.specs.Code.{codeAt, longOf, storesOf, flag, quad, sourceOf}
 use Rattle.video1.specs.Frame.{blockCount, spot, blockPlan}
-use Rattle.video1.specs.Asked.{Sized, belowOf, Paints, pairSource, Paired}
+use Rattle.video1.specs.Asked.{Sized, belowOf, Paints, Rowed, pairSource, Paired}
 use Rattle.video1.proofs.Walk.{long-some}
 
 -- ---- where a row stands
@@ -109,8 +110,62 @@ module _ (s : List ℕ) (at : ℕ) where
   unfolding pairSource sourceOf flag longOf storesOf
   pairs-eight e = record { few = omega arith; long = rw e (omega arith); stores = rw e; each = λ i h. rw e }
 
-pub code-there : (columns rows : ℕ) (s : List ℕ) (at k below long : ℕ) → Paints columns rows s at k below long → at + 2 ≤ length s
-code-there columns rows s at k below long p = omega (arith, p .there, long-some (codeAt s at))
+-- ---- a row
+
+-- a code stores 16 pixels of a block or none
+pub stores-all : (c : Code) (p : ℕ) → p < storesOf c → storesOf c ≡ 16
+unfolding storesOf
+stores-all (Skip n) p h = absurd (let z : ⊥ = omega arith in z)
+stores-all Two p h = refl
+stores-all Eight p h = refl
+stores-all One p h = refl
+
+-- n: its pixels, as code counted them
+pub code-stores : (c : Code) (n : ℕ) → n ≡ storesOf c → n ≤ 16
+unfolding storesOf
+code-stores (Skip m) n e = omega arith
+code-stores Two n e = omega arith
+code-stores Eight n e = omega arith
+code-stores One n e = omega arith
+
+pub counted : (s : List ℕ) (at p n : ℕ) (c : Code) → n ≡ storesOf c → c ≡ codeAt s at → p < n → p < storesOf (codeAt s at)
+counted s at p n c e q h = let z : n ≡ storesOf (codeAt s at) = e ∙ ap storesOf q in omega arith
+
+module _ (columns rows : ℕ) (s : List ℕ) (at k p : ℕ) (b : List ℕ) (to : ℕ) (r : Rowed columns rows s at k p b to) where
+  row-stores : storesOf (codeAt s at) ≡ 16
+  row-stores = stores-all (codeAt s at) p (omega (arith, r .beside .listed))
+
+  pub row-low : p < 16
+  row-low = omega (arith, r .beside .listed, row-stores)
+
+  pub row-there : at < length s
+  row-there = omega (arith, r .there, long-some (codeAt s at))
+
+  -- no row is under a skip
+  pub row-not-skip : (n : ℕ) → codeAt s at ≡ Skip n → ⊥
+  unfolding storesOf
+  row-not-skip n c = let z : storesOf (codeAt s at) ≡ 0 = rw c in omega (arith, row-stores)
+
+  row-gives : (value : ℕ → ℕ) → ((i : ℕ) → i < 4 → value i ≡ getD s (at + sourceOf (codeAt s at) s at (p + i)) 0)
+      → Beside (blockPlan columns rows s at k) p 4 b to value
+  row-gives value vs =
+      record { begun = r .beside .begun; listed = r .beside .listed; targets = r .beside .targets; values = vs; inside = r .beside .inside }
+
+  -- of one colour, and of pairs
+  pub one-beside : codeAt s at ≡ One → (v : ℕ) → v ≡ getD s at 0 → Beside (blockPlan columns rows s at k) p 4 b to (λ i. v)
+  unfolding sourceOf
+  one-beside c v e = row-gives (λ i. v) (λ i q. e ∙ rw (c, add-zero at))
+
+  pub pairs-there : (step : ℕ) → Paired s at step → at + 4 + 3 * step ≤ length s
+  pairs-there step c = omega (arith, r .there, c .long)
+
+  pub pairs-beside : (step : ℕ) → Paired s at step
+      → Beside (blockPlan columns rows s at k) p 4 b to (λ i. getD s (at + pairSource step (getD s (at + p / 8) 0) (p + i)) 0)
+  pairs-beside step c =
+      row-gives (λ i. getD s (at + pairSource step (getD s (at + p / 8) 0) (p + i)) 0)
+      (λ i q.
+      let d : p / 8 ≡ (p + i) / 8 = omega (arith, r .first) in
+      ap (λ (x : ℕ). getD s (at + pairSource step (getD s (at + x) 0) (p + i)) 0) d ∙ ap (λ (x : ℕ). getD s (at + x) 0) (c .each (p + i) (omega (arith, r .first, row-low))))
 
 -- ---- the loop over rows
 
@@ -118,53 +173,54 @@ code-there columns rows s at k below long p = omega (arith, p .there, long-some 
 pub record Rising (columns rows : ℕ) (s : List ℕ) (at k : ℕ) (b₀ b : List ℕ) (to p : ℕ) : Type 0 where
   pub whole : p % 4 ≡ 0
   pub over : to ≡ overRow columns rows k p
-  pub painting : Painting (blockPlan columns rows s at k) 0 b₀ 16 b p
+  pub painting : Painting (blockPlan columns rows s at k) 0 b₀ (storesOf (codeAt s at)) b p
 
 module _ (columns rows : ℕ) (s : List ℕ) (at k below : ℕ) (b₀ : List ℕ) (a : Paints columns rows s at k below (length b₀)) where
   pub rising-start : Rising columns rows s at k b₀ b₀ below 0
-  rising-start = record { whole = refl; over = over-first columns rows k below (a .over); painting = painting-start _ 0 b₀ 16 }
+  rising-start = record { whole = refl; over = over-first columns rows k below (a .over); painting = painting-start _ 0 b₀ (storesOf (codeAt s at)) }
 
   module _ (b : List ℕ) (to p : ℕ) (r : Rising columns rows s at k b₀ b to p) where
     pub rising-length : length b ≡ length b₀
-    rising-length = painting-length _ 0 b₀ 16 b p (r .painting)
+    rising-length = painting-length _ 0 b₀ (storesOf (codeAt s at)) b p (r .painting)
 
-    pub rising-end : 16 ≤ p → b ≡ firstPixels (blockPlan columns rows s at k) 0 b₀ 16
-    rising-end h = painting-end _ 0 b₀ 16 b p (r .painting) h ∙ further-first (blockPlan columns rows s at k) 0 b₀ 16
+    pub rising-end : (n : ℕ) (c : Code) → n ≡ storesOf c → c ≡ codeAt s at → n ≤ p → b ≡ firstPixels (blockPlan columns rows s at k) 0 b₀ (storesOf c)
+    rising-end n c e q h =
+        let z : storesOf c ≡ storesOf (codeAt s at) = ap storesOf q in
+        painting-end _ 0 b₀ (storesOf (codeAt s at)) b p (r .painting) (omega arith)
+        ∙ further-first (blockPlan columns rows s at k) 0 b₀ (storesOf (codeAt s at))
+        ∙ ap (λ (m : ℕ). firstPixels (blockPlan columns rows s at k) 0 b₀ m) (sym z)
 
-    module _ (h : p < 16) where
+    module _ (l : p < storesOf (codeAt s at)) where
+      all : storesOf (codeAt s at) ≡ 16
+      all = stores-all (codeAt s at) p l
+
+      pub rising-low : p < 16
+      rising-low = omega (arith, l, all)
+
       pub rising-room : 8 * columns ≤ to
-      rising-room = row-enough columns rows k (a .sized) (a .block) p to h (r .whole) (r .over)
+      rising-room = row-enough columns rows k (a .sized) (a .block) p to rising-low (r .whole) (r .over)
 
-      pub rising-beside : storesOf (codeAt s at) ≡ 16 → (value : ℕ → ℕ) → ((i : ℕ) → i < 4 → value i ≡ getD s (at + sourceOf (codeAt s at) s at (p + i)) 0)
-          → Beside (blockPlan columns rows s at k) p 4 b (to - 8 * columns) value
-      rising-beside n value vs =
+      pub rising-row : Rowed columns rows s at k p b (to - 8 * columns)
+      rising-row =
           record {
-            begun = rw zero-add at (painting-begun _ 0 b₀ 16 b p (r .painting) (begun-none (blockPlan columns rows s at k) 0 b₀));
-            listed = omega (arith, n, r .whole);
-            targets = row-spots columns rows k (a .sized) (a .block) p to h (r .whole) (r .over);
-            values = vs;
-            inside = omega (arith, row-inside columns rows k (a .sized) (a .block) p to h (r .whole) (r .over), a .room, rising-length);
+            there = a .there;
+            first = r .whole;
+            beside =
+                record {
+                  begun = rw zero-add at (painting-begun _ 0 b₀ (storesOf (codeAt s at)) b p (r .painting) (begun-none (blockPlan columns rows s at k) 0 b₀));
+                  listed = omega (arith, all, rising-low, r .whole);
+                  targets = row-spots columns rows k (a .sized) (a .block) p to rising-low (r .whole) (r .over);
+                  values = λ i q. refl;
+                  inside = omega (arith, row-inside columns rows k (a .sized) (a .block) p to rising-low (r .whole) (r .over), a .room, rising-length);
+                };
           }
 
       pub rising-more : (b′ : List ℕ) → b′ ≡ further (blockPlan columns rows s at k) 0 b p 4 → Rising columns rows s at k b₀ b′ (to - 8 * columns) (p + 4)
       rising-more b′ e =
           record {
             whole = omega (arith, r .whole);
-            over = row-next columns rows k (a .sized) (a .block) p to h (r .whole) (r .over);
+            over = row-next columns rows k (a .sized) (a .block) p to rising-low (r .whole) (r .over);
             painting =
-                painting-by _ 0 b₀ 16 b p (r .painting) 4 (omega (arith, r .whole)) b′
+                painting-by _ 0 b₀ (storesOf (codeAt s at)) b p (r .painting) 4 (omega (arith, all, rising-low, r .whole)) b′
                 (e ∙ ap (λ (n : ℕ). further (blockPlan columns rows s at k) 0 b n 4) (sym (zero-add p)));
           }
-
-      -- of one colour, and of pairs
-      pub one-beside : codeAt s at ≡ One → (v : ℕ) → v ≡ getD s at 0 → Beside (blockPlan columns rows s at k) p 4 b (to - 8 * columns) (λ i. v)
-      unfolding storesOf sourceOf
-      one-beside c v e = rising-beside (rw c) (λ i. v) (λ i q. e ∙ rw (c, add-zero at))
-
-      pub pairs-beside : (step : ℕ) → Paired s at step
-          → Beside (blockPlan columns rows s at k) p 4 b (to - 8 * columns) (λ i. getD s (at + pairSource step (getD s (at + p / 8) 0) (p + i)) 0)
-      pairs-beside step c =
-          rising-beside (c .stores) (λ i. getD s (at + pairSource step (getD s (at + p / 8) 0) (p + i)) 0)
-          (λ i q.
-          let d : p / 8 ≡ (p + i) / 8 = omega (arith, r .whole) in
-          ap (λ (x : ℕ). getD s (at + pairSource step (getD s (at + x) 0) (p + i)) 0) d ∙ ap (λ (x : ℕ). getD s (at + x) 0) (c .each (p + i) (omega (arith, r .whole))))

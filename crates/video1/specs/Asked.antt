@@ -8,8 +8,9 @@ use Rattle.refusal.specs.Number.{accept}
 use Rattle.packet.specs.Packet.{pixels}
 use Rattle.packet.specs.Verdict.{told}
 use Rattle.packet.specs.declared.Checked.{Checked}
+use Rattle.rows.specs.Row.{Beside}
 use Rattle.video1.specs.Code.{codeAt, longOf, storesOf, quad, sourceOf}
-use Rattle.video1.specs.Frame.{blockCount, walkVerdict, frameVerdict, frameAfter}
+use Rattle.video1.specs.Frame.{blockCount, walkVerdict, blockPlan, frameVerdict, frameAfter}
 
 -- a size that is tested
 pub record Sized (columns rows : ℕ) : Type 0 where
@@ -34,6 +35,12 @@ pub record Paints (columns rows : ℕ) (s : List ℕ) (at k below long : ℕ) : 
   pub block : k < blockCount columns rows
   pub there : at + longOf (codeAt s at) ≤ length s
   pub over : below ≡ belowOf columns rows k
+
+-- the four pixels of block k from pixel p on, the first of a row, are the next, and the code at byte at gives them
+pub record Rowed (columns rows : ℕ) (s : List ℕ) (at k p : ℕ) (b : List ℕ) (to : ℕ) : Type 0 where
+  pub there : at + longOf (codeAt s at) ≤ length s
+  pub first : p % 4 ≡ 0
+  pub beside : Beside (blockPlan columns rows s at k) p 4 b to (λ i. getD s (at + sourceOf (codeAt s at) s at (p + i)) 0)
 
 -- the byte, counted from a, that gives pixel i of pairs of colours: those of the quads stand step bytes apart, and f is a or b, where its flag stands
 unfoldable pub pairSource : ℕ → ℕ → ℕ → ℕ

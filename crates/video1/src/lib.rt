@@ -13,10 +13,9 @@ ghost use Rattle.packet.specs.Verdict.{told};
 ghost use Rattle.stores.specs.Stores.{firstPixels, further, final};
 ghost use Rattle.stores.specs.Loop.{Next};
 ghost use Rattle.rows.specs.Row.{Beside};
-ghost use Rattle.video1.specs.declared.Code.the-variants.{One};
 ghost use Rattle.video1.specs.Code.{codeOf, codeAt, longOf, passedBy, storesOf};
 ghost use Rattle.video1.specs.Frame.{endVerdict, walkVerdict, blockPlan, framePlan};
-ghost use Rattle.video1.specs.Asked.{Sized, Canvas, belowOf, Paints, pairSource, Paired, Decoded};
+ghost use Rattle.video1.specs.Asked.{Sized, Canvas, belowOf, Paints, Rowed, pairSource, Paired, Decoded};
 
 // What the two bytes of a code say: blocks to skip, or one block of two, eight or one colours.
 pub enum Code {
@@ -37,12 +36,12 @@ fn code_of(a: usize, b: usize) -> Code
         return Code::Eight;
     }
     if b < 132 {
-        return Code::One;
+        return Code::One; // 80 to 83
     }
     if b < 136 {
         return Code::Skip((b - 132) * 256 + a);
     }
-    Code::One
+    Code::One // 88 to 8F
 }
 
 // The code at byte at.
@@ -74,6 +73,18 @@ fn passed_by(code: Code) -> usize
         Code::Two => 1,
         Code::Eight => 1,
         Code::One => 1,
+    }
+}
+
+// The pixels that it stores in each of them.
+fn stores_of(code: Code) -> usize
+    ensures { λ r. ⌜ r ≡ storesOf code ⌝ }
+{
+    match code {
+        Code::Skip(_) => 0,
+        Code::Two => 16,
+        Code::Eight => 16,
+        Code::One => 16,
     }
 }
 
@@ -185,53 +196,34 @@ fn pairs_row(
     }
 }
 
-// A block of one colour, row by row from the bottom up. A row's index is that of the row below less the width: a difference, not a product.
-fn paint_one(
+// Four pixels side by side of a block, from pixel p on, as its code gives them.
+fn paint_row(
     pic: &mut [u8],
     columns: usize,
     rows: usize,
     s: &[u8],
     at: usize,
     k: usize,
-    below: usize,
+    p: usize,
+    code: Code,
+    to: usize,
 )
-    requires { ⌜ Paints columns rows (now s) at k below (length (now pic)) × (codeAt (now s) at ≡ One) ⌝ }
-    ensures { λ _. ⌜ now (pic .exit) ≡ firstPixels (blockPlan columns rows (now (s .entry)) at k) 0 (now (pic .entry)) 16 ⌝ }
+    requires { ⌜ (code ≡ codeAt (now s) at) × Rowed columns rows (now s) at k p (now pic) to ⌝ }
+    ensures { λ _. ⌜ now (pic .exit) ≡ further (blockPlan columns rows (now (s .entry)) at k) 0 (now (pic .entry)) p 4 ⌝ }
 {
-    let v = s[at];
-    let mut to = below;
-    let mut p = 0;
-    while p < 16 {
-        to -= 8 * columns;
-        one_row(pic, columns, rows, s, at, k, p, to, v);
-        p += 4;
+    match code {
+        Code::Skip(_) => {}
+        Code::Two => pairs_row(pic, columns, rows, s, at, k, p, 0, to),
+        Code::Eight => pairs_row(pic, columns, rows, s, at, k, p, 2, to),
+        Code::One => {
+            let v = s[at];
+            one_row(pic, columns, rows, s, at, k, p, to, v)
+        }
     }
 }
 
-// A block of two or eight colours, as `paint_one`.
-fn paint_pairs(
-    pic: &mut [u8],
-    columns: usize,
-    rows: usize,
-    s: &[u8],
-    at: usize,
-    k: usize,
-    step: usize,
-    below: usize,
-)
-    requires { ⌜ Paints columns rows (now s) at k below (length (now pic)) × Paired (now s) at step ⌝ }
-    ensures { λ _. ⌜ now (pic .exit) ≡ firstPixels (blockPlan columns rows (now (s .entry)) at k) 0 (now (pic .entry)) 16 ⌝ }
-{
-    let mut to = below;
-    let mut p = 0;
-    while p < 16 {
-        to -= 8 * columns;
-        pairs_row(pic, columns, rows, s, at, k, p, step, to);
-        p += 4;
-    }
-}
-
-// The pixels of block k, which the code at byte at gives; a skip stores none.
+// The pixels of block k, which the code at byte at gives, row by row from the bottom up; a skip stores none. A row's index is that of the row below less the width: a
+// difference, not a product.
 fn paint_code(
     pic: &mut [u8],
     columns: usize,
@@ -245,11 +237,13 @@ fn paint_code(
     requires { ⌜ Paints columns rows (now s) at k below (length (now pic)) × (code ≡ codeAt (now s) at) ⌝ }
     ensures { λ _. ⌜ now (pic .exit) ≡ firstPixels (blockPlan columns rows (now (s .entry)) at k) 0 (now (pic .entry)) (storesOf code) ⌝ }
 {
-    match code {
-        Code::Skip(_) => {}
-        Code::Two => paint_pairs(pic, columns, rows, s, at, k, 0, below),
-        Code::Eight => paint_pairs(pic, columns, rows, s, at, k, 2, below),
-        Code::One => paint_one(pic, columns, rows, s, at, k, below),
+    let n = stores_of(code);
+    let mut to = below;
+    let mut p = 0;
+    while p < n {
+        to -= 8 * columns;
+        paint_row(pic, columns, rows, s, at, k, p, code, to);
+        p += 4;
     }
 }
 

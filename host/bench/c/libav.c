@@ -1,5 +1,5 @@
-/* libavcodec's decoders of Interplay video and sound, as the bench calls them: 8-bit pictures of one size, compressed
-   sound of one or two channels; one thread. */
+/* libavcodec's decoders of Interplay video and sound and of Microsoft Video 1, as the bench calls them: 8-bit pictures of
+   one size, compressed sound of one or two channels; one thread. */
 
 #include <libavcodec/avcodec.h>
 #include <limits.h>
@@ -60,10 +60,11 @@ static struct libav *opened(struct libav *decoder)
     return NULL;
 }
 
-/* Null where libavcodec has no such decoder or cannot open it. libavcodec is told the size in pixels. */
-struct libav *libav_open(int columns, int rows)
+/* A decoder of 8-bit pictures; null where libavcodec has no such decoder or cannot open it. libavcodec is told the size in
+   pixels. */
+static struct libav *open_pictures(enum AVCodecID id, int columns, int rows)
 {
-    struct libav *decoder = new_decoder(AV_CODEC_ID_INTERPLAY_VIDEO);
+    struct libav *decoder = new_decoder(id);
     if (!decoder)
         return NULL;
     decoder->columns = columns;
@@ -72,6 +73,16 @@ struct libav *libav_open(int columns, int rows)
     decoder->context->height = BLOCK_SIDE * rows;
     decoder->context->bits_per_coded_sample = 8;
     return opened(decoder);
+}
+
+struct libav *libav_open(int columns, int rows)
+{
+    return open_pictures(AV_CODEC_ID_INTERPLAY_VIDEO, columns, rows);
+}
+
+struct libav *libav_open_video1(int columns, int rows)
+{
+    return open_pictures(AV_CODEC_ID_MSVIDEO1, columns, rows);
 }
 
 /* Null where libavcodec has no such decoder or cannot open it. */
@@ -124,6 +135,12 @@ int libav_picture(const struct libav *decoder, uint8_t *picture)
     for (int y = 0; y < height; y++)
         memcpy(picture + (size_t)y * width, frame->data[0] + (ptrdiff_t)y * frame->linesize[0], width);
     return 1;
+}
+
+/* Gives the frame decoded last back. */
+void libav_release(struct libav *decoder)
+{
+    av_frame_unref(decoder->frame);
 }
 
 /* Writes the samples of the frame decoded last, left and right in turn, where there is room for so many. Their number; -1

@@ -59,7 +59,7 @@ impl Cuts {
     pub fn new(kind: Kind, seed: u64) -> Result<Cuts, Fault> {
         let mut frames = frames(kind, seed);
         let packet = frames.swap_remove(PRIMERS);
-        let frame = frame_text(kind, seed, PRIMERS);
+        let frame = frame_text(kind.name, seed, PRIMERS);
         let second = |why| Fault::not_taken(&frame, SECOND, why);
         let mut found = zeros(kind.size);
         for primer in &frames[..PRIMERS] {

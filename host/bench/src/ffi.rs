@@ -1,5 +1,5 @@
-//! libavcodec's decoders of Interplay video and sound, by the functions of `c/libav.c`. All unsafe
-//! code is here.
+//! libavcodec's decoders of Interplay video and sound and of Microsoft Video 1, by the functions of
+//! `c/libav.c`. All unsafe code is here.
 
 #![allow(unsafe_code)]
 
@@ -22,12 +22,14 @@ struct RawPacket {
 unsafe extern "C" {
     fn libav_version() -> c_uint;
     fn libav_open(columns: c_int, rows: c_int) -> *mut RawDecoder;
+    fn libav_open_video1(columns: c_int, rows: c_int) -> *mut RawDecoder;
     fn libav_open_sound(channels: c_int) -> *mut RawDecoder;
     fn libav_close(decoder: *mut RawDecoder);
     fn libav_packet(bytes: *const u8, length: usize) -> *mut RawPacket;
     fn libav_packet_free(packet: *mut RawPacket);
     fn libav_decode(decoder: *mut RawDecoder, packet: *const RawPacket) -> c_int;
     fn libav_picture(decoder: *const RawDecoder, picture: *mut u8) -> c_int;
+    fn libav_release(decoder: *mut RawDecoder);
     fn libav_samples(decoder: *const RawDecoder, samples: *mut i16, room: usize) -> c_int;
 }
 
@@ -88,9 +90,21 @@ pub struct Decoder {
 impl Decoder {
     /// `None` where libavcodec has no such decoder or cannot open it.
     pub fn open(size: Size) -> Option<Decoder> {
+        Decoder::open_by(libav_open, size)
+    }
+
+    /// The same, of Microsoft Video 1.
+    pub fn open_video1(size: Size) -> Option<Decoder> {
+        Decoder::open_by(libav_open_video1, size)
+    }
+
+    fn open_by(
+        call: unsafe extern "C" fn(c_int, c_int) -> *mut RawDecoder,
+        size: Size,
+    ) -> Option<Decoder> {
         let (columns, rows) = (size.columns.try_into().ok()?, size.rows.try_into().ok()?);
-        // SAFETY: it takes two numbers.
-        let raw = NonNull::new(unsafe { libav_open(columns, rows) })?;
+        // SAFETY: both opening functions take two numbers.
+        let raw = NonNull::new(unsafe { call(columns, rows) })?;
         Some(Decoder { open: Open(raw), size })
     }
 
@@ -105,6 +119,13 @@ impl Decoder {
         // SAFETY: the decoder is open; it writes a byte for each pixel of the size that it was
         // opened with, which is the length of the slice.
         unsafe { libav_picture(self.open.0.as_ptr(), picture.as_mut_ptr()) == 1 }
+    }
+
+    /// Gives the picture decoded last back to the decoder, as a player does that has shown it: a decoder
+    /// that goes on from it would copy it first.
+    pub fn release(&mut self) {
+        // SAFETY: the decoder is open and borrowed by this call alone.
+        unsafe { libav_release(self.open.0.as_ptr()) }
     }
 }
 

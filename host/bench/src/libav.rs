@@ -4,11 +4,17 @@ use crate::program::Program;
 use maker::{Packet, Size};
 
 #[cfg(libavcodec)]
-pub use there::{program, version};
+pub use there::{program, trailers, version};
 
 /// No program: the bench was built without libavcodec.
 #[cfg(not(libavcodec))]
 pub fn program(_size: Size, _frames: &[Packet]) -> Option<Box<dyn Program>> {
+    None
+}
+
+/// No program, likewise.
+#[cfg(not(libavcodec))]
+pub fn trailers(_size: Size, _frames: &[Vec<u8>]) -> Option<Box<dyn Program>> {
     None
 }
 
@@ -35,10 +41,12 @@ mod there {
 
     /// The decoder; `None` where libavcodec was built without it.
     pub fn program(size: Size, frames: &[Packet]) -> Option<Box<dyn Program>> {
-        let decoder = ffi::Decoder::open(size)?;
-        let packet = |frame: &Packet| ffi::Packet::new(&bytes(frame)).expect("memory");
-        let packets = frames.iter().map(packet).collect();
-        Some(Box::new(Libav { decoder, packets, picture: vec![0; size.pixels()] }))
+        Some(Libav::boxed(ffi::Decoder::open(size)?, size, frames.iter().map(bytes)))
+    }
+
+    /// The decoder of Microsoft Video 1; `None` where libavcodec was built without it.
+    pub fn trailers(size: Size, frames: &[Vec<u8>]) -> Option<Box<dyn Program>> {
+        Some(Libav::boxed(ffi::Decoder::open_video1(size)?, size, frames.iter().cloned()))
     }
 
     struct Libav {
@@ -46,6 +54,18 @@ mod there {
         packets: Vec<ffi::Packet>,
         /// The picture decoded last, without what stands behind each of the decoder's rows.
         picture: Vec<u8>,
+    }
+
+    impl Libav {
+        fn boxed(
+            decoder: ffi::Decoder,
+            size: Size,
+            frames: impl Iterator<Item = Vec<u8>>,
+        ) -> Box<dyn Program> {
+            let packet = |bytes: Vec<u8>| ffi::Packet::new(&bytes).expect("memory");
+            let (packets, picture) = (frames.map(packet).collect(), vec![0; size.pixels()]);
+            Box::new(Libav { decoder, packets, picture })
+        }
     }
 
     impl Program for Libav {
@@ -60,6 +80,7 @@ mod there {
 
         fn picture(&mut self) -> Option<&[u8]> {
             assert!(self.decoder.picture(&mut self.picture), "libavcodec gives an 8-bit picture");
+            self.decoder.release();
             Some(&self.picture)
         }
     }

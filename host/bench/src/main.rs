@@ -1,8 +1,8 @@
 //! Times of the proved drawing call beside libavcodec's decoder, the second decoder and a copy of
 //! the picture, all on the same frames, whose pictures are compared; and of the film step on packets
 //! of sound beside the same, with every sample compared; of the film step on palettes; of saving what is
-//! left of scratched films, and of dropping what the player passes over, beside a copy of them; and of
-//! encoding pictures beside their drawing.
+//! left of scratched films, and of dropping what the player passes over, beside a copy of them; of encoding
+//! pictures beside their drawing; and of frames of Microsoft Video 1 beside libavcodec's decoder of these.
 
 mod allowance;
 mod blocks;
@@ -21,6 +21,7 @@ mod salvages;
 mod sound;
 mod strips;
 mod table;
+mod trailers;
 
 use allowance::Cuts;
 use blocks::{Line, Series};
@@ -37,7 +38,8 @@ use strips::Strips;
 
 const USAGE: &str = "usage: bench [--quick | --markdown] [SEED [ROUNDS]]
        bench --kinds
-       bench --one KIND PROGRAM TIMES";
+       bench --one KIND PROGRAM TIMES
+       bench --trailers [SEED [ROUNDS]]";
 
 const SEED: u64 = 1;
 const ROUNDS: usize = 100;
@@ -50,6 +52,8 @@ enum Job {
     Tables { markdown: bool, seed: u64, rounds: usize },
     /// The comparisons alone.
     Quick { seed: u64, rounds: usize },
+    /// The table of Microsoft Video 1 alone.
+    Trailers { seed: u64, rounds: usize },
     /// The names and pixels of the kinds.
     Kinds,
     /// One program on one kind, so many frames, for a profiler.
@@ -66,6 +70,7 @@ fn main() -> ExitCode {
         Job::Tables { markdown, seed, rounds } => tables(markdown, seed, rounds),
         Job::Quick { seed, rounds } => quick(seed, rounds),
         Job::One { kind, program, times } => one(kind, &program, times),
+        Job::Trailers { seed, rounds } => trailers_alone(seed, rounds),
         Job::Kinds => {
             KINDS.iter().for_each(|kind| println!("{} {}", kind.name, kind.size.pixels()));
             Ok(())
@@ -102,6 +107,7 @@ fn parsed(arguments: &[String]) -> Option<Job> {
             Some(Job::Tables { markdown: option.is_some(), seed, rounds })
         }
         Some("--quick") => Some(Job::Quick { seed, rounds: rounds.unwrap_or(QUICK_ROUNDS) }),
+        Some("--trailers") => Some(Job::Trailers { seed, rounds: rounds.unwrap_or(ROUNDS) }),
         Some("--kinds") if arguments.is_empty() => Some(Job::Kinds),
         Some(_) => None,
     }
@@ -118,6 +124,7 @@ struct Run {
     strips: Vec<Strips>,
     encodes: Vec<Encodes>,
     encode_sizes: Vec<Encodes>,
+    trailers: Vec<Bench>,
 }
 
 impl Run {
@@ -132,6 +139,7 @@ impl Run {
         let (colours, salvages) = (Colours::all(seed)?, Salvages::all(seed, is_timed)?);
         let strips = Strips::all(seed, is_timed)?;
         let (encodes, encode_sizes) = (Encodes::all(seed)?, Encodes::sizes(seed)?);
+        let trailers = trailers::all(seed)?;
         let mut run = Run {
             benches,
             cuts,
@@ -142,6 +150,7 @@ impl Run {
             strips,
             encodes,
             encode_sizes,
+            trailers,
         };
         for round in 0..rounds {
             run.benches.iter_mut().try_for_each(|bench| bench.round(round))?;
@@ -153,6 +162,7 @@ impl Run {
             run.strips.iter_mut().try_for_each(|strips| strips.round(round))?;
             run.encodes.iter_mut().try_for_each(Encodes::round)?;
             run.encode_sizes.iter_mut().try_for_each(Encodes::round)?;
+            run.trailers.iter_mut().try_for_each(|trailers| trailers.round(round))?;
         }
         Ok(run)
     }
@@ -160,7 +170,7 @@ impl Run {
 
 /// Compares the pictures of everything that is measured, and the sound.
 fn quick(seed: u64, rounds: usize) -> Result<(), String> {
-    let Run { benches, cuts, series, colours, salvages, strips, encodes, encode_sizes, .. } =
+    let Run { benches, cuts, series, colours, salvages, strips, encodes, encode_sizes, trailers, .. } =
         Run::new(seed, rounds, false)?;
     let (kinds, lists, sizes) = (benches.len(), cuts.len() * cuts[0].pieces.len(), series.len());
     println!(
@@ -177,6 +187,8 @@ fn quick(seed: u64, rounds: usize) -> Result<(), String> {
         kinds.join(", "),
         encode_sizes.len()
     );
+    let kinds = trailers.len();
+    println!("bench: the pictures of {kinds} kinds of Video 1 frames are the second decoder's");
     match libav::version() {
         Ok(version) => println!("bench: libavcodec {version} draws the same of every kind"),
         Err(why) => println!("bench: not compared with libavcodec: {why}"),
@@ -195,14 +207,26 @@ fn quick(seed: u64, rounds: usize) -> Result<(), String> {
 
 /// Measures everything and prints it.
 fn tables(markdown: bool, seed: u64, rounds: usize) -> Result<(), String> {
-    let Run { benches, cuts, series, hearings, colours, salvages, strips, encodes, encode_sizes } =
+    let Run {
+        benches,
+        cuts,
+        series,
+        hearings,
+        colours,
+        salvages,
+        strips,
+        encodes,
+        encode_sizes,
+        trailers,
+    } =
         Run::new(seed, rounds, true)?;
     let measured: Vec<_> = benches.iter().map(Bench::measured).collect();
     let pieces = cuts.into_iter().flat_map(|cuts| cuts.pieces).collect::<Vec<_>>();
     let points: Vec<_> = series.iter().map(Series::point).collect();
     let line = Line::through(&points);
     let blocks = report::blocks(&points, line).text(markdown);
-    let targets = report::targets(&measured, &hearings, &encodes).text(markdown);
+    let trailers: Vec<_> = trailers.iter().map(Bench::measured).collect();
+    let targets = report::targets(&measured, &hearings, &encodes, &trailers).text(markdown);
     let sizes: Vec<_> = encode_sizes.iter().map(Encodes::point).collect();
     let encode_line = Line::through(&sizes);
     let encode_sizes = report::blocks(&sizes, encode_line).text(markdown);
@@ -216,12 +240,24 @@ fn tables(markdown: bool, seed: u64, rounds: usize) -> Result<(), String> {
         ("Saving scratched films", report::salvages(&salvages).text(markdown)),
         ("Dropping what the player passes over", report::strips(&strips).text(markdown)),
         ("Encoding", format!("{encodes}\n\nTwo colours:\n\n{encode_sizes}\n\n{encode_line}")),
+        ("Nanoseconds a pixel of Video 1", report::trailers(&trailers).text(markdown)),
         ("Targets", format!("The project's targets:\n\n{targets}")),
         ("By the stores that a call is allowed", report::allowances(&pieces).text(markdown)),
         ("By the number of blocks", format!("{blocks}\n\n{}", report::line(&points, line))),
     ] {
         println!("{}{title}\n\n{text}\n", if markdown { "## " } else { "" });
     }
+    Ok(())
+}
+
+/// Measures frames of Microsoft Video 1 and prints their table.
+fn trailers_alone(seed: u64, rounds: usize) -> Result<(), String> {
+    let mut trailers = trailers::all(seed)?;
+    for round in 0..rounds {
+        trailers.iter_mut().try_for_each(|trailers| trailers.round(round))?;
+    }
+    let measured: Vec<_> = trailers.iter().map(Bench::measured).collect();
+    println!("{}\n\n{}", report::run(seed, rounds), report::trailers(&measured).text(false));
     Ok(())
 }
 

@@ -3,12 +3,13 @@
 use crate::fault::{same_picture, Fault};
 use crate::kind::{frames, Kind, PRIMERS};
 use crate::program::{draw_second, programs, zeros, Program, SECOND};
-use maker::Packet;
+use maker::{Packet, Size};
 use std::time::{Duration, Instant};
 
 /// A kind's programs, and their times up to now.
 pub struct Bench {
-    kind: Kind,
+    name: &'static str,
+    size: Size,
     seed: u64,
     /// The picture of each frame, by the second decoder.
     wanted: Vec<Vec<u8>>,
@@ -22,9 +23,18 @@ impl Bench {
     pub fn new(kind: Kind, seed: u64) -> Result<Bench, Fault> {
         let frames = frames(kind, seed);
         let wanted = wanted(kind, seed, &frames)?;
-        let programs = programs(kind.size, &frames);
-        let least = vec![vec![Duration::MAX; frames.len()]; programs.len()];
-        Ok(Bench { kind, seed, wanted, programs, least })
+        Ok(Bench::of((kind.name, kind.size), seed, wanted, programs(kind.size, &frames)))
+    }
+
+    /// These programs at the first frame of a kind of this name and size, which gives these pictures.
+    pub fn of(
+        (name, size): (&'static str, Size),
+        seed: u64,
+        wanted: Vec<Vec<u8>>,
+        programs: Vec<Box<dyn Program>>,
+    ) -> Bench {
+        let least = vec![vec![Duration::MAX; wanted.len()]; programs.len()];
+        Bench { name, size, seed, wanted, programs, least }
     }
 
     /// Each program takes the frames once, one program after the other; another is the first in
@@ -35,13 +45,13 @@ impl Bench {
         for which in (0..count).map(|turn| (round + turn) % count) {
             let program = &mut self.programs[which];
             for (number, least) in self.least[which].iter_mut().enumerate() {
-                let frame = frame_text(self.kind, self.seed, number);
+                let frame = frame_text(self.name, self.seed, number);
                 let (taken, time) = timed(|| program.run(number));
                 taken.map_err(|why| Fault::not_taken(&frame, program.name(), why))?;
                 *least = time.min(*least);
                 let (name, wanted) = (program.name(), &self.wanted[number][..]);
                 if let Some(picture) = program.picture() {
-                    same_picture(&frame, self.kind.size, (name, picture), (SECOND, wanted))?;
+                    same_picture(&frame, self.size, (name, picture), (SECOND, wanted))?;
                 }
             }
         }
@@ -50,20 +60,23 @@ impl Bench {
 
     /// What the rounds up to now come to.
     pub fn measured(&self) -> Measured {
-        let pixels = self.kind.size.pixels() as f64;
+        let pixels = self.size.pixels() as f64;
         let time = |least: &Vec<Duration>| {
             let least = least[PRIMERS..].iter().map(|time| time.as_nanos() as f64);
             least.clone().sum::<f64>() / least.count() as f64 / pixels
         };
         let names = self.programs.iter().map(|program| program.name());
-        Measured { kind: self.kind, times: names.zip(self.least.iter().map(time)).collect() }
+        let times = names.zip(self.least.iter().map(time)).collect();
+        Measured { name: self.name, size: self.size, times }
     }
 }
 
 /// What was measured of a kind.
 pub struct Measured {
-    /// The kind.
-    pub kind: Kind,
+    /// The kind's name.
+    pub name: &'static str,
+    /// The size of its frames.
+    pub size: Size,
     /// Nanoseconds a pixel by program: the least time of each frame, their mean.
     pub times: Vec<(&'static str, f64)>,
 }
@@ -93,7 +106,7 @@ fn wanted(kind: Kind, seed: u64, frames: &[Packet]) -> Result<Vec<Vec<u8>>, Faul
     let mut wanted = Vec::new();
     for (number, frame) in frames.iter().enumerate() {
         let drawn = draw_second(frame, &mut pictures);
-        drawn.map_err(|why| Fault::not_taken(&frame_text(kind, seed, number), SECOND, why))?;
+        drawn.map_err(|why| Fault::not_taken(&frame_text(kind.name, seed, number), SECOND, why))?;
         pictures.swap();
         wanted.push(pictures.front.clone());
     }
@@ -101,15 +114,14 @@ fn wanted(kind: Kind, seed: u64, frames: &[Packet]) -> Result<Vec<Vec<u8>>, Faul
 }
 
 /// What a frame is called in a fault.
-pub fn frame_text(kind: Kind, seed: u64, number: usize) -> String {
-    format!("seed {seed}, kind {}, frame {number}", kind.name)
+pub fn frame_text(kind: &str, seed: u64, number: usize) -> String {
+    format!("seed {seed}, kind {kind}, frame {number}")
 }
 
 #[cfg(test)]
 mod tests {
     use super::*;
     use crate::kind::MIX;
-    use maker::Size;
 
     /// The last of the programs, wrong in one frame.
     struct Wrong {

@@ -19,6 +19,8 @@ pub const SALVAGE: &str = "salvage";
 pub const STRIP: &str = "strip";
 /// The call of the proved library that encodes a picture.
 pub const ENCODE: &str = "encode";
+/// The call of the proved library that draws a frame of Microsoft Video 1.
+pub const VIDEO1: &str = "video1";
 /// libavcodec's decoder.
 pub const LIBAV: &str = "libavcodec";
 /// The second decoder.
@@ -46,11 +48,8 @@ pub trait Program {
 pub fn programs(size: Size, frames: &[Packet]) -> Vec<Box<dyn Program>> {
     let packets = || frames.to_vec();
     let drawing = |name, draw| Drawing { name, draw, packets: packets(), pictures: zeros(size) };
-    let mut programs: Vec<Box<dyn Program>> = vec![
-        Box::new(Memcpy(zeros(size))),
-        Box::new(Check(packets())),
-        Box::new(drawing(DRAW, draw_whole)),
-    ];
+    let mut programs: Vec<Box<dyn Program>> =
+        vec![memcpy(size), Box::new(Check(packets())), Box::new(drawing(DRAW, draw_whole))];
     programs.extend(libav::program(size, frames));
     programs.push(Box::new(drawing(SECOND, draw_second)));
     programs
@@ -106,6 +105,11 @@ pub fn draw_second(packet: &Packet, pictures: &mut Pictures) -> Result<(), Strin
         Ok(drawn) if drawn.whole => Ok(()),
         other => Err(format!("{other:?}")),
     }
+}
+
+/// The copy of a picture of this size.
+pub fn memcpy(size: Size) -> Box<dyn Program> {
+    Box::new(Memcpy(zeros(size)))
 }
 
 struct Memcpy(Pictures);

@@ -8,7 +8,7 @@ use crate::hearing::Hearing;
 use crate::kind::MIX;
 use crate::libav;
 use crate::measure::Measured;
-use crate::program::{CHECK, DRAW, LIBAV, MEMCPY, STEP};
+use crate::program::{CHECK, DRAW, LIBAV, MEMCPY, STEP, VIDEO1};
 use crate::salvages::Salvages;
 use crate::strips::Strips;
 use crate::table::{number, Table};
@@ -25,14 +25,22 @@ fn size_text(size: Size) -> String {
 
 /// Nanoseconds a pixel of every program and kind, and what they are to each other.
 pub fn kinds(measured: &[Measured]) -> Table {
+    pixels(measured, &[(DRAW, LIBAV), (DRAW, MEMCPY), (CHECK, MEMCPY)])
+}
+
+/// The same of frames of Microsoft Video 1.
+pub fn trailers(measured: &[Measured]) -> Table {
+    pixels(measured, &[(VIDEO1, LIBAV), (VIDEO1, MEMCPY)])
+}
+
+fn pixels(measured: &[Measured], ratios: &[(&str, &str)]) -> Table {
     let programs = measured[0].times.iter().map(|&(name, _)| name.to_owned());
-    let ratios = [(DRAW, LIBAV), (DRAW, MEMCPY), (CHECK, MEMCPY)];
-    let ratios = ratios.into_iter().filter(|&(_, other)| measured[0].of(other).is_some());
+    let ratios = ratios.iter().filter(|(_, other)| measured[0].of(other).is_some());
     let titles = ratios.clone().map(|(one, other)| format!("{one}/{other}"));
     let heading = ["codes", "size"].map(str::to_owned).into_iter().chain(programs).chain(titles);
     let mut table = Table::new(heading.collect());
     for found in measured {
-        let mut row = vec![found.kind.name.to_owned(), size_text(found.kind.size)];
+        let mut row = vec![found.name.to_owned(), size_text(found.size)];
         row.extend(found.times.iter().map(|&(_, time)| number(time, 3)));
         let found = ratios.clone().filter_map(|(one, other)| found.ratio(one, other));
         row.extend(found.map(|ratio| number(ratio, 2)));
@@ -141,9 +149,14 @@ fn step_ratio(hearing: &Hearing) -> Option<f64> {
 }
 
 /// The targets, what was measured of each, and whether it is met.
-pub fn targets(measured: &[Measured], hearings: &[Hearing], encodes: &[Encodes]) -> Table {
-    let mix = |found: &&Measured| found.kind.name == MIX.name;
-    let below = |found: &&Measured| BELOW.contains(&found.kind.name);
+pub fn targets(
+    measured: &[Measured],
+    hearings: &[Hearing],
+    encodes: &[Encodes],
+    trailers: &[Measured],
+) -> Table {
+    let mix = |found: &&Measured| found.name == MIX.name;
+    let below = |found: &&Measured| BELOW.contains(&found.name);
     let mut table = Table::new(["target", "measured", "met"].map(str::to_owned).into());
     let mut add = |target: &str, worst: Option<(f64, &str)>, met: fn(f64) -> bool| {
         let found = worst.map(|(ratio, kind)| format!("{ratio:.2} ({kind})"));
@@ -175,6 +188,8 @@ pub fn targets(measured: &[Measured], hearings: &[Hearing], encodes: &[Encodes])
     let slowest = encoded.max_by(|a, b| a.0.total_cmp(&b.0));
     let slowest = slowest.map(|(time, kind)| (time, kind.name()));
     add("encode of every kind at most 3 ns a pixel", slowest, |time| time <= 3.0);
+    let trailers = worst(trailers.iter(), VIDEO1, LIBAV);
+    add("video1/libavcodec of every kind at most 1", trailers, |ratio| ratio <= 1.0);
     table
 }
 
@@ -184,7 +199,7 @@ fn worst<'a>(
     one: &str,
     other: &str,
 ) -> Option<(f64, &'static str)> {
-    let ratios = measured.filter_map(|found| Some((found.ratio(one, other)?, found.kind.name)));
+    let ratios = measured.filter_map(|found| Some((found.ratio(one, other)?, found.name)));
     ratios.max_by(|a, b| a.0.total_cmp(&b.0))
 }
 

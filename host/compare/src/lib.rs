@@ -14,8 +14,8 @@
 //! [`FromDefault`] is the strict form as it follows from the default one: with it the strict form of a
 //! decoder is compared. [`origins`] compares where pixels come from, [`salvages`] what is left of
 //! scratched films, [`strips`] films without what the player passes over, and plays them, [`encodes`] map
-//! and packet of wanted pictures. [`numbers`] compares the film's calls with states and answers as numbers
-//! of any count, as they cross to C.
+//! and packet of wanted pictures, [`trailers`] frames of Microsoft Video 1. [`numbers`] compares the film's
+//! calls with states and answers as numbers of any count, as they cross to C.
 //!
 //! In comments "01" is the scope document, "02" that of the requests; docs/RULES.md has
 //! their rules.
@@ -34,6 +34,7 @@ pub mod origins;
 pub mod salvages;
 pub mod strips;
 pub mod tally;
+pub mod trailers;
 
 pub use begin::Separate;
 pub use comparison::{Comparison, Found, Kind};

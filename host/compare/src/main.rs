@@ -1,12 +1,12 @@
 //! A long comparison of the proved library with the second decoder, of its strict form with its default
 //! form, and of its opening call with separate calls, run by hand:
-//! `compare SEED COUNT [packets|lists|films|sounds|openings|cuts|numbers|salvages|strips|encodes]`. The
-//! cases of `numbers` are states and answers as numbers of any count, those of `salvages` films that are
+//! `compare SEED COUNT [packets|lists|films|sounds|openings|cuts|numbers|salvages|strips|encodes|trailers]`.
+//! The cases of `numbers` are states and answers as numbers of any count, those of `salvages` films that are
 //! saved, those of `strips` films that are stripped, and played before and after, those of `encodes`
-//! pictures that are encoded.
+//! pictures that are encoded, those of `trailers` frames of Microsoft Video 1.
 
 use compare::numbers::{self, Reached};
-use compare::{encodes, salvages, strips};
+use compare::{encodes, salvages, strips, trailers};
 use compare::{Comparison, Found, FromDefault, Kind, Proved, Second, Separate};
 use std::collections::BTreeMap;
 use std::env;
@@ -30,10 +30,13 @@ fn main() -> ExitCode {
     if let Some((seed, count)) = parsed_as("encodes", &arguments) {
         return by_encodes(seed, count);
     }
+    if let Some((seed, count)) = parsed_as("trailers", &arguments) {
+        return by_trailers(seed, count);
+    }
     let Some((seed, count, kinds)) = parsed(&arguments) else {
         eprintln!(
-            "usage: compare SEED COUNT \
-             [packets|lists|films|sounds|openings|cuts|numbers|salvages|strips|encodes]"
+            "usage: compare SEED COUNT \\
+             [packets|lists|films|sounds|openings|cuts|numbers|salvages|strips|encodes|trailers]"
         );
         return ExitCode::from(2);
     };
@@ -125,6 +128,38 @@ fn by_encodes(seed: u64, count: u64) -> ExitCode {
     println!(
         "seed {seed}: {count} pictures, {made} times encoded, {refused} times refused, {bytes} data \
          bytes: no difference"
+    );
+    ExitCode::SUCCESS
+}
+
+/// Draws so many frames, each on several pictures; a question's number tells its frame, as of films.
+fn by_trailers(seed: u64, count: u64) -> ExitCode {
+    let (mut drawn, mut bytes, mut refused) = (0_u64, 0, BTreeMap::new());
+    for number in 0..count {
+        let question = trailers::question((seed << 32) + number);
+        match trailers::compare(&Proved, &Second, &question) {
+            Err(differs) => {
+                println!("difference in trailers, seed {seed}, frame {number}: {differs:?}");
+                println!("again: compare {seed} {} trailers", number + 1);
+                return ExitCode::FAILURE;
+            }
+            Ok(answers) => {
+                bytes += question.data.len();
+                for answer in answers {
+                    match answer {
+                        Ok(()) => drawn += 1,
+                        Err(refusal) => *refused.entry(refusal.number).or_insert(0_u64) += 1,
+                    }
+                }
+            }
+        }
+    }
+    let refused: Vec<_> =
+        refused.into_iter().map(|(number, times)| format!("{number}: {times}")).collect();
+    println!(
+        "seed {seed}: {count} frames of {bytes} bytes, {drawn} times drawn, refused by number {}: no \
+         difference",
+        refused.join(", ")
     );
     ExitCode::SUCCESS
 }

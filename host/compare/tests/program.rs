@@ -59,6 +59,16 @@ fn runs_one_kind() {
         "{text}"
     );
     assert!(!text.contains(" 0 times") && !text.contains(" 0 data"), "{text}");
+    let output = run(&["7", "400", "trailers"]);
+    let text = String::from_utf8(output.stdout).expect("text");
+    assert!(
+        text.starts_with("seed 7: 400 frames of ") && text.ends_with(": no difference\n"),
+        "{text}"
+    );
+    for number in ["6", "8", "24", "25", "26"] {
+        assert!(text.contains(&format!(" {number}: ")), "{text}");
+    }
+    assert!(!text.contains(" 0 times"), "{text}");
 }
 
 #[test]

@@ -1,8 +1,9 @@
 //! Seeded makers of test inputs: packets, films with and without sound, film states, lists of
-//! drawing calls, and pictures to be encoded; valid, damaged and hostile. The same seed gives the same
-//! bytes for ever, on every machine.
+//! drawing calls, pictures to be encoded, and frames of Microsoft Video 1; valid, damaged and hostile. The
+//! same seed gives the same bytes for ever, on every machine.
 //!
 //! [`demo`] is the one film that is made for viewing; [`files`] has its pictures and its sound as files.
+//! [`avi`] makes trailers.
 //!
 //! Packets, films and calls are written from the documents, encoder's side up: what a maker calls
 //! valid is so by construction, not because a decoder took it. Only [`states`] uses the second
@@ -10,6 +11,7 @@
 //! names for the two forms of a call.) In comments "01" is the scope document, "02" that of the
 //! requests; docs/RULES.md has their rules.
 
+pub mod avi;
 pub mod beginning;
 pub mod calls;
 pub mod colours;
@@ -28,6 +30,7 @@ pub mod sound;
 pub mod sound_damage;
 pub mod states;
 pub mod strips;
+pub mod trailers;
 pub mod wanted;
 
 pub use form::Form;

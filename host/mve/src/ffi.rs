@@ -156,6 +156,14 @@ unsafe extern "C" {
         body: *mut u8,
         body_length: usize,
     ) -> Written;
+    fn mve_video1(
+        columns: usize,
+        rows: usize,
+        data: *const u8,
+        data_length: usize,
+        picture: *mut u8,
+        picture_length: usize,
+    ) -> usize;
 }
 
 pub(crate) fn check(form: Form, columns: usize, rows: usize, map: &[u8], data: &[u8]) -> Answer {
@@ -363,5 +371,14 @@ pub(crate) fn encode(
             body.as_mut_ptr(),
             body.len(),
         )
+    }
+}
+
+pub(crate) fn video1(columns: usize, rows: usize, data: &[u8], picture: &mut [u8]) -> usize {
+    // SAFETY: each address and length are those of a slice that lives through the call; that of an
+    // empty slice is not null. Only the picture is written; it is borrowed mutably, so it does not
+    // overlap the data.
+    unsafe {
+        mve_video1(columns, rows, data.as_ptr(), data.len(), picture.as_mut_ptr(), picture.len())
     }
 }

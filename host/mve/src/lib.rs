@@ -64,7 +64,8 @@
 //! the others. [`origin`] tells which byte or pixel gave a pixel its value.
 //!
 //! [`salvage`] saves what is left of a scratched film. [`strip`] drops what a player of one stream passes
-//! over. [`encode`] makes map and packet of a picture of one's own.
+//! over. [`encode`] makes map and packet of a picture of one's own. [`video1`](video1()) draws a frame of
+//! Microsoft Video 1, so that it can be stored in a film.
 //!
 //! Many films pad a packet to an even length, so these calls accept one byte left over behind the
 //! blocks' data. [`check_strict`], [`draw_strict`] and [`step`] in [`Form::Strict`] accept none: they are
@@ -116,6 +117,7 @@ mod rows;
 mod salvage;
 mod strip;
 mod timer;
+mod video1;
 
 pub use begin::{begin, Unbegun};
 pub use colour::{colour, widened};
@@ -132,6 +134,7 @@ pub use rows::Rows;
 pub use salvage::{salvage, LeftOut, Salvaged, Stop, LOSS_NUMBERS};
 pub use strip::strip;
 pub use timer::timer;
+pub use video1::video1;
 
 /// The version of the interface that this crate is written for: C's `MVE_VERSION`.
-pub const VERSION: usize = 14;
+pub const VERSION: usize = 15;

@@ -134,6 +134,13 @@ errors! {
     /// A picture whose packet is longer, with the 14 bytes in front of it, than opcode 0x11 can hold. Only
     /// [`encode`](crate::encode()) meets it.
     PacketLength = 23, "the picture needs a packet longer than an opcode can be";
+    /// A frame's data that ends before all blocks are passed. Only [`video1`](crate::video1()) meets it, and
+    /// the next two.
+    FrameShort = 24, "the frame's data ends before all blocks are passed";
+    /// A skip that passes the frame's last block.
+    SkipOutside = 25, "a skip passes the frame's last block";
+    /// Not the end mark alone behind the frame's last block.
+    EndMark = 26, "the end mark does not stand alone behind the frame's last block";
 }
 
 impl Error {
@@ -166,12 +173,12 @@ mod tests {
     #[test]
     fn each_number_has_a_text_of_its_own() {
         let numbers = Error::ALL.iter().map(|error| error.number());
-        assert!(numbers.eq((1..=19).chain(21..=23)));
+        assert!(numbers.eq((1..=19).chain(21..=26)));
         let texts: BTreeSet<_> = Error::ALL.iter().map(|error| error.text()).collect();
-        assert_eq!(texts.len(), 22);
+        assert_eq!(texts.len(), 25);
         for number in 0..=600 {
             let named = Error::from_number(number).map(|error| usize::from(error.number()));
-            let is_number = (1..=19).contains(&number) || (21..=23).contains(&number);
+            let is_number = (1..=19).contains(&number) || (21..=26).contains(&number);
             assert_eq!(named, is_number.then_some(number));
         }
     }

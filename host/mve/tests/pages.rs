@@ -182,6 +182,8 @@ fn figures_of_the_readme() {
         let step = row(&times, sound)[7];
         assert!(row(&readme, "Time for compressed sound")[2].contains(step), "{sound}");
     }
+    let worst = row(&times, "video1/libavcodec of every kind");
+    assert_eq!(first_word(row(&readme, "Time for Microsoft Video 1")), first_word_of(worst[2]));
 
     let [library, stage] = ["stack of ", "whole stage of "].map(|start| {
         let lines = header.lines().filter_map(|line| line.trim().strip_prefix(start));

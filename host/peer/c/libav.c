@@ -1,5 +1,6 @@
 /* A film in memory, played by libavformat and libavcodec as players do it: the reader of MVE films splits it into
-   packets, a decoder for each stream gives pictures and samples. One thread; nothing is logged. */
+   packets, a decoder for each stream gives pictures and samples. And frames of Microsoft Video 1, decoded by libavcodec. One
+   thread; nothing is logged. */
 
 #include <libavcodec/avcodec.h>
 #include <libavformat/avformat.h>
@@ -46,12 +47,12 @@ unsigned libav_codec_version(void)
     return avcodec_version();
 }
 
-/* Whether both libraries were built with what plays MVE films. */
+/* Whether both libraries were built with what plays MVE films and decodes Microsoft Video 1. */
 int libav_plays_films(void)
 {
     return av_find_input_format("ipmovie") && avcodec_find_decoder(AV_CODEC_ID_INTERPLAY_VIDEO) &&
            avcodec_find_decoder(AV_CODEC_ID_INTERPLAY_DPCM) && avcodec_find_decoder(AV_CODEC_ID_PCM_S16LE) &&
-           avcodec_find_decoder(AV_CODEC_ID_PCM_U8);
+           avcodec_find_decoder(AV_CODEC_ID_PCM_U8) && avcodec_find_decoder(AV_CODEC_ID_MSVIDEO1);
 }
 
 static int read_film(void *opaque, uint8_t *bytes, int length)
@@ -236,4 +237,68 @@ void libav_samples(const struct player *player, uint8_t *bytes)
     const AVFrame *frame = player->frame;
     size_t sample_bytes = (size_t)av_get_bytes_per_sample(frame->format);
     memcpy(bytes, frame->data[0], sample_bytes * (size_t)channels_of(frame) * (size_t)frame->nb_samples);
+}
+
+/* A decoder of frames of Microsoft Video 1, which keeps its picture from frame to frame. */
+struct trailer {
+    AVCodecContext *decoder;
+    AVPacket *packet;
+    AVFrame *frame;
+};
+
+void libav_trailer_close(struct trailer *trailer)
+{
+    if (!trailer)
+        return;
+    avcodec_free_context(&trailer->decoder);
+    av_packet_free(&trailer->packet);
+    av_frame_free(&trailer->frame);
+    free(trailer);
+}
+
+/* A decoder of 8-bit frames of this size in pixels; null where it cannot be opened. */
+struct trailer *libav_trailer_open(int width, int height)
+{
+    av_log_set_level(AV_LOG_QUIET);
+    const AVCodec *codec = avcodec_find_decoder(AV_CODEC_ID_MSVIDEO1);
+    struct trailer *trailer = calloc(1, sizeof *trailer);
+    if (codec && trailer) {
+        trailer->decoder = avcodec_alloc_context3(codec);
+        trailer->packet = av_packet_alloc();
+        trailer->frame = av_frame_alloc();
+        if (trailer->decoder && trailer->packet && trailer->frame) {
+            trailer->decoder->thread_count = 1;
+            trailer->decoder->width = width;
+            trailer->decoder->height = height;
+            trailer->decoder->bits_per_coded_sample = 8;
+            if (avcodec_open2(trailer->decoder, codec, NULL) == 0)
+                return trailer;
+        }
+    }
+    libav_trailer_close(trailer);
+    return NULL;
+}
+
+/* Decodes a frame and writes the picture, row by row. 0, or libav's number. */
+int libav_trailer_next(struct trailer *trailer, const uint8_t *data, size_t length, uint8_t *pixels)
+{
+    int width = trailer->decoder->width, height = trailer->decoder->height;
+    if (length > INT_MAX)
+        return AVERROR(EINVAL);
+    int error = av_new_packet(trailer->packet, (int)length);
+    if (error < 0)
+        return error;
+    memcpy(trailer->packet->data, data, length);
+    error = avcodec_send_packet(trailer->decoder, trailer->packet);
+    av_packet_unref(trailer->packet);
+    if (error >= 0)
+        error = avcodec_receive_frame(trailer->decoder, trailer->frame);
+    if (error < 0)
+        return error;
+    const AVFrame *frame = trailer->frame;
+    if (frame->format != AV_PIX_FMT_PAL8 || frame->width != width || frame->height != height)
+        return AVERROR_PATCHWELCOME;
+    for (int y = 0; y < height; y++)
+        memcpy(pixels + (ptrdiff_t)y * width, frame->data[0] + (ptrdiff_t)y * frame->linesize[0], width);
+    return 0;
 }

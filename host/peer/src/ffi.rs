@@ -1,5 +1,5 @@
-//! A film played by libavformat and libavcodec, by the functions of `c/libav.c`. All unsafe code is
-//! here.
+//! A film played by libavformat and libavcodec, and frames of Microsoft Video 1 decoded by libavcodec, by
+//! the functions of `c/libav.c`. All unsafe code is here.
 
 #![allow(unsafe_code)]
 
@@ -11,6 +11,12 @@ use std::ptr::NonNull;
 /// `struct player` of the C file.
 #[repr(C)]
 struct RawPlayer {
+    _opaque: [u8; 0],
+}
+
+/// `struct trailer` of the C file.
+#[repr(C)]
+struct RawTrailer {
     _opaque: [u8; 0],
 }
 
@@ -34,6 +40,14 @@ unsafe extern "C" {
     fn libav_next(player: *mut RawPlayer) -> RawEvent;
     fn libav_picture(player: *const RawPlayer, pixels: *mut u8, colours: *mut u8);
     fn libav_samples(player: *const RawPlayer, bytes: *mut u8);
+    fn libav_trailer_open(width: c_int, height: c_int) -> *mut RawTrailer;
+    fn libav_trailer_close(trailer: *mut RawTrailer);
+    fn libav_trailer_next(
+        trailer: *mut RawTrailer,
+        data: *const u8,
+        length: usize,
+        pixels: *mut u8,
+    ) -> c_int;
 }
 
 /// The versions of libavformat and libavcodec that run: major, minor, micro.
@@ -107,6 +121,45 @@ impl Drop for Player<'_> {
     fn drop(&mut self) {
         // SAFETY: the player came from `libav_open` and is closed once.
         unsafe { libav_close(self.raw.as_ptr()) }
+    }
+}
+
+/// A decoder of frames of Microsoft Video 1.
+pub struct Trailer {
+    raw: NonNull<RawTrailer>,
+    pixels: usize,
+}
+
+impl Trailer {
+    /// Of this size in pixels; none where libavcodec does not open it.
+    pub fn open(width: usize, height: usize) -> Option<Trailer> {
+        let [wide, high] = [width, height].map(|side| c_int::try_from(side).ok());
+        // SAFETY: it takes two numbers.
+        let raw = NonNull::new(unsafe { libav_trailer_open(wide?, high?) })?;
+        Some(Trailer { raw, pixels: width * height })
+    }
+
+    /// The picture that the next frame gives; else libav's number.
+    pub fn next(&mut self, data: &[u8]) -> Result<Vec<u8>, i32> {
+        let mut pixels = vec![0; self.pixels];
+        // SAFETY: the decoder is open and borrowed by this call alone; the data is only read; a byte for
+        // each pixel of the size that it was opened with is written, which is the length of the slice.
+        let error = unsafe {
+            let (data, length) = (data.as_ptr(), data.len());
+            libav_trailer_next(self.raw.as_ptr(), data, length, pixels.as_mut_ptr())
+        };
+        if error == 0 {
+            Ok(pixels)
+        } else {
+            Err(error)
+        }
+    }
+}
+
+impl Drop for Trailer {
+    fn drop(&mut self) {
+        // SAFETY: the decoder came from `libav_trailer_open` and is closed once.
+        unsafe { libav_trailer_close(self.raw.as_ptr()) }
     }
 }
 

@@ -1,9 +1,10 @@
-//! Films as libavformat and libavcodec play them, where they are there.
+//! Films as libavformat and libavcodec play them, and frames of Microsoft Video 1 as libavcodec decodes
+//! them, where they are there.
 
 use crate::played::Played;
 
 #[cfg(libav)]
-pub use there::{play, versions};
+pub use there::{play, trailer, versions};
 
 /// What libavformat and libavcodec make of a film.
 #[derive(Clone, Debug, Default, PartialEq, Eq)]
@@ -31,10 +32,27 @@ pub fn play(_film: &[u8]) -> Result<Account, String> {
     Err(MISSING.to_owned())
 }
 
+/// The pictures of frames of Microsoft Video 1, decoded one after the other; else why they cannot be.
+#[cfg(not(libav))]
+pub fn trailer(_pixels: (usize, usize), _frames: &[Vec<u8>]) -> Result<Vec<Decoded>, String> {
+    Err(MISSING.to_owned())
+}
+
+/// The picture of a frame, or libav's number where it is not decoded.
+pub type Decoded = Result<Vec<u8>, i32>;
+
 #[cfg(libav)]
 mod there {
-    use super::Account;
-    use crate::ffi::{self, Event, Player};
+    use super::{Account, Decoded};
+    use crate::ffi::{self, Event, Player, Trailer};
+
+    /// The pictures of frames of Microsoft Video 1 of this width and height, decoded one after the other;
+    /// else why they cannot be.
+    pub fn trailer(pixels: (usize, usize), frames: &[Vec<u8>]) -> Result<Vec<Decoded>, String> {
+        let decoder = Trailer::open(pixels.0, pixels.1);
+        let mut decoder = decoder.ok_or("not opened by libavcodec")?;
+        Ok(frames.iter().map(|frame| decoder.next(frame)).collect())
+    }
 
     /// The versions of both; else why films cannot be played.
     pub fn versions() -> Result<String, String> {

@@ -25,6 +25,18 @@ fn ends_with_the_counts() {
 }
 
 #[test]
+fn decodes_trailers() {
+    let output = run(&["20", "7", "trailers"]);
+    if !common::is_there() {
+        return assert_eq!(output.status.code(), Some(1));
+    }
+    let text = String::from_utf8(output.stdout).expect("text");
+    assert!(output.status.success(), "{text}");
+    assert!(text.contains(", seed 7: 120 frames of "), "{text}");
+    assert!(text.ends_with(" sizes: no difference\n"), "{text}");
+}
+
+#[test]
 fn tells_its_usage() {
     for arguments in [&[][..], &["7"], &["7", "many"], &["7", "60", "films"]] {
         let output = run(arguments);

@@ -3,7 +3,8 @@
 //! It is written from the documents alone and shares nothing with the player core that is compared
 //! with it: straightforward rather than fast, one short function for each rule. In comments "01"
 //! is the scope document with the requests of document "02", which decide over source document
-//! "003" (the file), which decides over source document "000" (the blocks).
+//! "003" (the file), which decides over source document "000" (the blocks); source document "001" is
+//! that of Microsoft Video 1.
 //!
 //! Every function takes plain slices and numbers and answers on any input; none of them wraps
 //! around or panics. A refused call leaves everything lent to it as it was.
@@ -25,6 +26,7 @@
 //! | [`salvage`] | what is left of a scratched film |
 //! | [`strip`] | a film without what the player passes over |
 //! | [`encode`] | map and packet of a wanted picture |
+//! | [`video1`] | frames of Microsoft Video 1 |
 //! | [`listing`] | the text that the listing program writes |
 //! | [`pictures`] | the pictures that a film sends, as the example players write them |
 
@@ -46,6 +48,7 @@ pub mod salvage;
 pub mod sound;
 pub mod steps;
 pub mod strip;
+pub mod video1;
 
 pub use block::{source, Source};
 pub use origin::{origin, Origin, Traced};

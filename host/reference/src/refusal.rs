@@ -1,4 +1,5 @@
-//! The numbers of refusal (01, "Numbers of refusal"; 17 to 19: 02, W5; 21: W8; 22: W9; 23: W10).
+//! The numbers of refusal (01, "Numbers of refusal"; 17 to 19: 02, W5; 21: W8; 22: W9; 23: W10;
+//! 24 to 26: W12).
 
 use std::fmt;
 
@@ -46,11 +47,17 @@ pub const NO_SIZE: u8 = 21;
 pub const POSITION: u8 = 22;
 /// A packet that is longer, with its front, than an opcode's body can be.
 pub const PACKET_LENGTH: u8 = 23;
+/// The data of a Video 1 frame ends before all blocks are passed.
+pub const FRAME_SHORT: u8 = 24;
+/// A skip of a Video 1 frame passes the last block.
+pub const SKIP_OUTSIDE: u8 = 25;
+/// Not the end mark alone behind the last block of a Video 1 frame.
+pub const END_MARK: u8 = 26;
 
 /// Why a call was refused. Nothing lent to the call was changed.
 #[derive(Clone, Copy, Debug, PartialEq, Eq, PartialOrd, Ord, Hash)]
 pub struct Refusal {
-    /// The documents' number, 1 to 19 or 21 to 23.
+    /// The documents' number, 1 to 19 or 21 to 26.
     pub number: u8,
     /// The block that met 12, 13 or 14; else 0.
     pub block: usize,
@@ -92,6 +99,9 @@ impl Refusal {
             NO_SIZE => "film ends without a frame size",
             POSITION => "position outside the picture",
             PACKET_LENGTH => "packet longer than an opcode's body can be",
+            FRAME_SHORT => "frame ends before all blocks are passed",
+            SKIP_OUTSIDE => "skip passes the last block",
+            END_MARK => "not the end mark alone behind the last block",
             _ => "unknown number of refusal",
         }
     }

@@ -14,7 +14,7 @@ uint8_t new_film[NEW_FILM_BYTES];
 size_t losses[LOSSES * MVE_LOSS_NUMBERS];
 uint8_t wanted[MVE_PICTURE_BYTES], new_map[MVE_MAP_BYTES], new_body[MVE_BODY_BYTES];
 struct mve_encoded encoded;
-size_t kind, shown;
+size_t kind, shown, frame_refusal;
 
 void call_mve_open(void) {
     kind = mve_open(film, film_length, 0, &answer, MVE_STEPPED_NUMBERS);
@@ -66,4 +66,8 @@ void call_mve_strip(void) {
 void call_mve_encode(void) {
     encoded = mve_encode(columns, rows, wanted, sizeof wanted, front, sizeof front, back, sizeof back, new_map,
                          sizeof new_map, new_body, sizeof new_body);
+}
+
+void call_mve_video1(void) {
+    frame_refusal = mve_video1(columns, rows, data, data_length, back, sizeof back);
 }

@@ -19,7 +19,7 @@ extern uint8_t new_film[NEW_FILM_BYTES];
 extern size_t losses[LOSSES * MVE_LOSS_NUMBERS];
 extern uint8_t wanted[MVE_PICTURE_BYTES], new_map[MVE_MAP_BYTES], new_body[MVE_BODY_BYTES];
 extern struct mve_encoded encoded;
-extern size_t kind, shown;
+extern size_t kind, shown, frame_refusal;
 
 void call_mve_open(void);
 void call_mve_begin(void);
@@ -32,5 +32,6 @@ void call_mve_origin(void);
 void call_mve_salvage(void);
 void call_mve_strip(void);
 void call_mve_encode(void);
+void call_mve_video1(void);
 
 #endif

@@ -6,8 +6,8 @@
 CALL is a call of the library. The caller of mve_step is main of examples/synopsis.c, compiled under the name `stage`, and
 INPUT is the film that it reads. The other callers are those of callers.c. INPUT of open, begin, shown, salvage and strip is
 a film, too; of the others it is packets, each as four numbers of four bytes, columns, rows and the lengths of map and data,
-then map and data. What encode wants is the picture that a packet gives. ALLOWED is for the drawing calls. PAINT is the byte
-that the stack is painted with; a caller may store it, so that more than one is to be tried.
+then map and data; frames of Video 1 have no map. What encode wants is the picture that a packet gives. ALLOWED is for the
+drawing calls. PAINT is the byte that the stack is painted with; a caller may store it, so that more than one is to be tried.
 
 Prints the bytes from the end of the stack to the lowest one that is not the paint. Then, of mve_step, the pictures that the
 stage counted and the number of its refusal or 0; of the others how many runs were not refused, and 0.
@@ -108,6 +108,7 @@ static const struct {
     {"mve_salvage", call_mve_salvage, 0},
     {"mve_strip", call_mve_strip, 0},
     {"mve_encode", call_mve_encode, 1},
+    {"mve_video1", call_mve_video1, 1},
 };
 
 static size_t number(const uint8_t *bytes) {
@@ -150,7 +151,7 @@ int main(int count, char **words) {
         size_t bytes = written(callers[which].caller, (uint8_t)atoi(words[3]));
         deepest = bytes > deepest ? bytes : deepest;
         runs -= kind == MVE_REFUSED || verdict.kind == MVE_REFUSED || traced.kind == MVE_REFUSED || salvaged.number != 0 ||
-                stripped.number != 0 || encoded.number != 0;
+                stripped.number != 0 || encoded.number != 0 || frame_refusal != 0;
     }
     printf("%zu %zu %zu\n", deepest, callers[which].caller == (void (*)(void))stage ? pictures : runs, refusal);
     return 0;

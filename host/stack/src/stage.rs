@@ -10,6 +10,7 @@ use crate::archive::{Texts, LIMIT};
 use crate::frames::{deepest, frames, Chain, Frame};
 use crate::listing::Listing;
 use maker::packet::Draft;
+use maker::trailers::{self, Codes};
 use maker::{demo, scratches, strips, Form, Packet, Profile, Seeded, Size};
 use std::collections::BTreeMap;
 use std::env;
@@ -100,7 +101,7 @@ impl Stages {
             stages.calls.insert(call.to_string(), Whole::default());
         }
         let (films, openings, packets) = (films(), openings(), packets());
-        let (scratched, padded) = (scratched(&films), padded(&films));
+        let (scratched, padded, frames) = (scratched(&films), padded(&films), frames_of_video1());
         let library = Library::new(archive)?;
         for (level, (name, changes)) in LEVELS.iter().flat_map(|level| VARIANTS.map(|v| (level, v)))
         {
@@ -115,7 +116,8 @@ impl Stages {
                     "mve_strip" => &padded,
                     _ => &openings,
                 };
-                let whole = built.caller(call, films, &packets)?;
+                let packets = if *call == "mve_video1" { &frames } else { &packets };
+                let whole = built.caller(call, films, packets)?;
                 stages.calls.entry(call.to_string()).or_default().join(whole);
             }
         }
@@ -371,9 +373,22 @@ fn packets() -> Vec<u8> {
     let packet = |profile| {
         let Packet { columns, rows, map, data } =
             Draft::make(rng, Size::new(6, 5), profile).packet();
-        let numbers =
-            [columns, rows, map.len(), data.len()].map(|number| (number as u32).to_le_bytes());
-        [&numbers.concat(), &map, &data].map(|part| part.to_vec()).concat()
+        packed((columns, rows), &map, &data)
     };
     profiles.flat_map(packet).collect()
+}
+
+/// A packet as painted.c reads it.
+fn packed((columns, rows): (usize, usize), map: &[u8], data: &[u8]) -> Vec<u8> {
+    let numbers =
+        [columns, rows, map.len(), data.len()].map(|number| (number as u32).to_le_bytes());
+    [&numbers.concat(), map, data].concat()
+}
+
+/// Frames of Microsoft Video 1 of every code, and of all together.
+fn frames_of_video1() -> Vec<u8> {
+    let rng = &mut Seeded::new(1);
+    let kinds = [Codes::One, Codes::Two, Codes::Eight, Codes::Skips, Codes::Mix];
+    let frame = |kind| packed((6, 5), &[], &trailers::valid(rng, Size::new(6, 5), kind));
+    kinds.into_iter().flat_map(frame).collect()
 }

@@ -1,76 +1,63 @@
-use mathlib.Core.Path.{sym, _∙_}
-use Rattle.stores.proofs.Pixels.{first-none}
-use Rattle.video1.proofs.Blocks.{pairs-two, pairs-eight}
-use Rattle.video1.specs.Code.{storesOf}
+use Prim.Native.Nat.{_-_}
+use native.Mathlib.Omega.{arith}
 use borrow.Author.Needs.{needs}
+use Rattle.video1.proofs.Blocks.{Rising, rising-start, rising-room, rising-row, rising-more, rising-length, rising-end, counted, code-stores}
 use Rattle.video1.proofs.paint_code.Statement.{statement}
 use Rattle.video1.proofs.paint_code.Tie as tie
 use Rattle.video1.proofs.paint_code.Reads as reads
 use Rattle.video1.proofs.paint_code.Lts as lts
-use Rattle.video1.proofs.paint_one.Reads as paint-one-reads
-use Rattle.video1.proofs.paint_pairs.Reads as paint-pairs-reads
+use Rattle.video1.proofs.paint_row.Reads as paint-row-reads
+use Rattle.video1.proofs.stores_of.Reads as stores-of-reads
 
-enum-told : tie.Need-enum-told
-enum-told c = search needs
+abbrev Inv-loop : tie.InvT-loop
+Inv-loop pic₀ columns rows s at k code below n to₀ p₀ pic to p = Rising columns rows s at k pic₀ pic to p
 
-enum-told-2 : tie.Need-enum-told-2
-enum-told-2 c = search needs
+abbrev μ-loop : tie.MeasureT-loop
+μ-loop pic₀ columns rows s at k code below n to₀ p₀ pic to p = 16 - p
 
-paint-pairs-requires : tie.Need-paint-pairs-requires
-paint-pairs-requires c κs = ((c .before .before .before .before .before .pre) .0, pairs-two _ _ (sym ((c .before .before .before .before .before .pre) .1) ∙ (c .before .enum-told2 .given) .1))
+stores-of-requires : tie.Need-stores-of-requires Inv-loop μ-loop
+stores-of-requires c κs = search needs
 
-enum-told-3 : tie.Need-enum-told-3
-enum-told-3 c = search needs
+loop-holds : tie.Need-loop-holds Inv-loop μ-loop
+loop-holds c = rising-start _ _ _ _ _ _ _ ((c .before .before .before .pre) .0)
 
-paint-pairs-requires-2 : tie.Need-paint-pairs-requires-2
-paint-pairs-requires-2 c κs = ((c .before .before .before .before .before .pre) .0, pairs-eight _ _ (sym ((c .before .before .before .before .before .pre) .1) ∙ (c .before .enum-told3 .given) .1))
+mul-to : tie.Need-mul-to Inv-loop μ-loop
+mul-to c = omega (arith, (c .before .before .before .before .before .pre) .0 .sized .columns-few)
 
-enum-told-4 : tie.Need-enum-told-4
-enum-told-4 c = search needs
+sub-to : tie.Need-sub-to Inv-loop μ-loop
+sub-to c = rising-room _ _ _ _ _ _ _ ((c .before .before .before .before .before .pre) .0) _ _ _ (c .before .loop .inv) (counted _ _ _ _ _ (c .before .before .stores-of .ensures) ((c .before .before .before .before .before .pre) .1) (c .loop-test .taken))
 
-paint-one-requires : tie.Need-paint-one-requires
-paint-one-requires c κs = ((c .before .before .before .before .before .pre) .0, sym ((c .before .before .before .before .before .pre) .1) ∙ (c .before .enum-told4 .given) .1)
+paint-row-requires : tie.Need-paint-row-requires Inv-loop μ-loop
+paint-row-requires c κs = ((c .before .before .before .before .before .before .pre) .1, rising-row _ _ _ _ _ _ _ ((c .before .before .before .before .before .before .pre) .0) _ _ _ (c .before .before .loop .inv) (counted _ _ _ _ _ (c .before .before .before .stores-of .ensures) ((c .before .before .before .before .before .before .pre) .1) (c .before .loop-test .taken)))
 
-returns : tie.Need-returns
-unfolding storesOf
-returns c = rw ((c .enum-told .given) .1) (sym (first-none _ _ _))
+add-p : tie.Need-add-p Inv-loop μ-loop
+add-p c = omega (arith, code-stores _ _ (c .before .before .before .before .before .before .stores-of .ensures), (c .before .before .before .before .loop-test .taken))
 
-same-length : tie.Need-same-length
-same-length c = search needs
+loop-less : tie.Need-loop-less Inv-loop μ-loop
+loop-less c = omega (arith, code-stores _ _ (c .before .before .before .before .before .before .stores-of .ensures), (c .before .before .before .before .loop-test .taken))
 
-returns-2 : tie.Need-returns-2
-unfolding storesOf
-returns-2 c = rw ((c .before .before .before .before .enum-told2 .given) .1) ((c .before .before .paint-pairs) .ensures)
+loop-again : tie.Need-loop-again Inv-loop μ-loop
+loop-again c = rising-more _ _ _ _ _ _ _ ((c .before .before .before .before .before .before .before .before .before .pre) .0) _ _ _ (c .before .before .before .before .before .loop .inv) (counted _ _ _ _ _ (c .before .before .before .before .before .before .stores-of .ensures) ((c .before .before .before .before .before .before .before .before .before .pre) .1) (c .before .before .before .before .loop-test .taken)) _ ((c .before .before .paint-row) .ensures)
 
-same-length-2 : tie.Need-same-length-2
-same-length-2 c = search needs
+same-length : tie.Need-same-length Inv-loop μ-loop
+same-length c = rising-length _ _ _ _ _ _ _ ((c .before .before .before .before .before .pre) .0) _ _ _ (c .before .loop .inv)
 
-returns-3 : tie.Need-returns-3
-unfolding storesOf
-returns-3 c = rw ((c .before .before .before .before .enum-told3 .given) .1) ((c .before .before .paint-pairs2) .ensures)
-
-same-length-3 : tie.Need-same-length-3
-same-length-3 c = search needs
-
-returns-4 : tie.Need-returns-4
-unfolding storesOf
-returns-4 c = rw ((c .before .before .before .before .enum-told4 .given) .1) ((c .before .before .paint-one) .ensures)
+returns : tie.Need-returns Inv-loop μ-loop
+returns c = rising-end _ _ _ _ _ _ _ ((c .before .before .before .before .before .pre) .0) _ _ _ (c .before .loop .inv) _ _ (c .before .before .stores-of .ensures) ((c .before .before .before .before .before .pre) .1) (c .loop-test .left)
 
 pub paint-code-spec : {M : Type 1} → statement M
 paint-code-spec =
     tie.close
     (tie.spec
-    enum-told
-    enum-told-2
-    paint-pairs-requires
-    enum-told-3
-    paint-pairs-requires-2
-    enum-told-4
-    paint-one-requires
-    returns
+    Inv-loop
+    μ-loop
+    stores-of-requires
+    loop-holds
+    mul-to
+    sub-to
+    paint-row-requires
+    add-p
+    loop-less
+    loop-again
     same-length
-    returns-2
-    same-length-2
-    returns-3
-    same-length-3
-    returns-4)
+    returns)

@@ -1,8 +1,8 @@
 /* The film of document 01's listing, opened and stepped over through the C header, with a call that leaves a block begun;
    states of any numbers; numbers of any count; a film with sound, in rooms that are too small at first; packets with bytes
    left over, by the default and the strict forms; the rows that packets touch; where pixels come from; what is left of a
-   scratched film; a film that is stripped; and map and packet of a picture. Exits with 0 where every answer is the one that
-   the documents give. */
+   scratched film; a film that is stripped; map and packet of a picture; and a frame of Video 1. Exits with 0 where every answer
+   is the one that the documents give. */
 #include "mve.h"
 
 #include <stddef.h>
@@ -476,7 +476,7 @@ static int padded_film(void) {
 /* The constants, from the rules: 256 entries of three bytes; 80 by 60 blocks of 64 pixels; as many blocks of 65 stores; a
    word of samples, two bytes each. */
 static int constants(void) {
-    EXPECT(MVE_VERSION == 14 && MVE_PALETTE_BYTES == 256 * 3 && MVE_PICTURE_BYTES == 80 * 60 * 64);
+    EXPECT(MVE_VERSION == 15 && MVE_PALETTE_BYTES == 256 * 3 && MVE_PICTURE_BYTES == 80 * 60 * 64);
     EXPECT(MVE_BLOCK_STORES == 64 + 1 && MVE_ALL_STORES == 80 * 60 * MVE_BLOCK_STORES);
     EXPECT(MVE_PALETTE_STORES == 2 * 256 * 3);
     EXPECT(MVE_ROOM_BYTES == 2 * 65535 && MVE_NO_STREAM == 16);
@@ -493,7 +493,7 @@ static int constants(void) {
 static int texts(void) {
     const char *none = mve_refusal_text(0);
     for (size_t number = 0; number <= 30; number += 1) {
-        int known = (number >= 1 && number <= 19) || (number >= 21 && number <= 23);
+        int known = (number >= 1 && number <= 19) || (number >= 21 && number <= 26);
         EXPECT((strcmp(mve_refusal_text(number), none) != 0) == known);
         EXPECT((mve_is_of_block(number) != 0) == (number >= 12 && number <= 14));
         for (size_t other = 1; other < number && known; other += 1) {
@@ -697,7 +697,31 @@ static int encodes(void) {
     return 0;
 }
 
+/* One block of 8x8, so four of 4x4: one colour, two that are skipped, and two colours, the first of them in the bottom row. */
+static int video1_frame(void) {
+    static const uint8_t data[] = {9, 0x8f, 2, 0x84, 0x0f, 0, 7, 8, 0, 0};
+    static const uint8_t lent[65] = {0};
+    uint8_t picture[65] = {0};
+    EXPECT(mve_video1(81, 1, data, sizeof data, picture, 0) == MVE_ERROR_FRAME_SIZE);
+    EXPECT(mve_video1(1, 1, data, 0, picture, 63) == MVE_ERROR_LENT_LENGTH);
+    EXPECT(mve_video1(1, 1, data, 7, picture, 64) == MVE_ERROR_FRAME_SHORT);
+    EXPECT(mve_video1(1, 1, data + 2, 2, picture, 64) == MVE_ERROR_FRAME_SHORT);
+    EXPECT(mve_video1(1, 1, data, 9, picture, 64) == MVE_ERROR_END_MARK);
+    static const uint8_t skip[] = {5, 0x84, 0, 0};
+    EXPECT(mve_video1(1, 1, skip, sizeof skip, picture, 64) == MVE_ERROR_SKIP_OUTSIDE);
+    EXPECT(memcmp(picture, lent, sizeof picture) == 0);
+    EXPECT(mve_video1(1, 1, data, sizeof data, picture, sizeof picture) == 0);
+    for (size_t y = 0; y < 8; y += 1) {
+        for (size_t x = 0; x < 8; x += 1) {
+            uint8_t expected = y >= 4 && x < 4 ? 9 : y >= 4 || x < 4 ? 0 : y == 3 ? 7 : 8;
+            EXPECT(picture[8 * y + x] == expected);
+        }
+    }
+    EXPECT(picture[64] == 0);
+    return 0;
+}
+
 int main(void) {
     return constants() | texts() | timers() | colours() | pictures() | states() | places() | counts() | sound() |
-           padded_packet() | padded_film() | rows() | origins() | salvages() | strips() | encodes();
+           padded_packet() | padded_film() | rows() | origins() | salvages() | strips() | encodes() | video1_frame();
 }

@@ -1,5 +1,5 @@
 //! The places where libavformat and libavcodec differ from the documents, as docs/PEERS.md lists them:
-//! a film for each, what the documents say of it, and what libavformat and libavcodec make of it. A
+//! a film or a frame for each, what the documents say of it, and what libavformat and libavcodec make of it. A
 //! test fails, too, where libav no longer differs as it says.
 
 #[cfg(libav)]
@@ -12,6 +12,8 @@ mod hand;
 mod pictures;
 #[cfg(libav)]
 mod sounds;
+#[cfg(libav)]
+mod trailers;
 
 #[cfg(not(libav))]
 #[path = "../common/mod.rs"]
