@@ -277,8 +277,8 @@ After a stop, `now` and `stays` are needed again: save them together with the st
 
 THE SOUND
 
-A film has up to 16 streams of sound, 0 to 15. mve_open is told which one is wanted. Any number above 15 chooses none
-(MVE_NO_STREAM): 0x03, 0x08 and 0x09 are then passed over, whatever their version and length.
+A film has up to 16 streams of sound, 0 to 15. mve_open and mve_begin are told which one is wanted. Any number above 15
+chooses none (MVE_NO_STREAM): 0x03, 0x08 and 0x09 are then passed over, whatever their version and length.
 
     0x03         a word that is not read; word of flags: bit 0 stereo, bit 1 16-bit, bit 2 compressed (in version 1 alone);
                  word of the rate, in samples of a channel a second, and the length of a buffer. The library reads neither
@@ -306,13 +306,13 @@ Blocks are 8x8 pixels, left to right, then down. The map has a code for each: a 
 the bytes of each block in the same order. "Front" is the picture shown. "Back" is the other one, two frames old, which
 is drawn on. A copied 8x8 lies inside its picture.
 
-Many films pad a packet to an even length, so one byte may be left over behind the data of the last block; it is not
-read. Two or more are refused. This is the default form of the three calls that take a packet: mve_check, mve_draw and
-mve_step with MVE_DEFAULT. Players use it. The strict forms, mve_check_strict, mve_draw_strict and mve_step with MVE_STRICT,
-refuse one byte, too. They are for those who make films and want every byte accounted for. A default call and a strict one
-give the same answer and leave the same memory, unless exactly one byte is left over and nothing else is wrong: then the
-default call accepts the packet, and the strict one refuses it by MVE_ERROR_DATA_LEFT. Calls of both forms may be mixed,
-also within one picture.
+Many films pad a packet to an even length, so one byte may be left over behind the data of the last block; it is not read.
+Two or more are refused. This is the default form of the three calls that have two: mve_check, mve_draw and mve_step with
+MVE_DEFAULT. Players use it. The strict forms, mve_check_strict, mve_draw_strict and mve_step with MVE_STRICT, refuse one
+byte, too. They are for those who make films and want every byte accounted for. A default call and a strict one give the same
+answer and leave the same memory, unless exactly one byte is left over and nothing else is wrong: then the default call
+accepts the packet, and the strict one refuses it by MVE_ERROR_DATA_LEFT. Calls of both forms may be mixed, also within one
+picture.
 
     code     bytes           pixels
     0        0               the same block of front
@@ -373,7 +373,7 @@ WHAT IS LEFT OF A SCRATCHED FILM
 mve_salvage walks over a film chunk by chunk and writes what is left of it to the room, as a new film:
 
     the header;
-    each chunk that has no opcode refused by refusal 3, 4 or 5: the same bytes in the same order. An empty chunk is kept, too;
+    each chunk in which no opcode meets refusal 3, 4 or 5: the same bytes in the same order. An empty chunk is kept, too;
     unless the last kept chunk has opcode 0x00, a chunk that has nothing else: 04 00 05 00 00 00 00 00.
 
 Of an opcode, refusals 3, 4 and 5 are tested as a step tests them, and 0x03, 0x08 and 0x09 whatever the stream. 0x11 needs 14
@@ -441,8 +441,8 @@ body has at most MVE_BODY_BYTES, the most that an opcode can hold behind its hea
 refused by MVE_ERROR_PACKET_LENGTH: no choice among these codes is shorter.
 
 Take as front and back what a player has: after 0x07 front and back change roles. So keep two pictures, write the wanted one
-over back when the frame is in the film, and change their roles. Players of other descent change roles only where bit 0 of
-byte 12 of opcode 0x11's body is set; this library skips these bytes. A film for them sets it.
+over back when the frame is in the film, and change their roles. Some other players change roles only where bit 0 of byte 12
+of opcode 0x11's body is set; this library skips these bytes. A film for them sets it (docs/PEERS.md).
 
 The blocks are measured first and then written, so nothing is written where the call is refused. A call that is stopped in
 the middle leaves any part of map and body written; call it anew.
@@ -565,7 +565,8 @@ enum mve_refusal {
     MVE_ERROR_SOUND_FORMAT = 17, /* 0x08 or 0x09 of the stream before a 0x03, or a 0x03 both 8-bit and compressed */
     MVE_ERROR_SOUND_LENGTH = 18, /* data not as long as the count of samples says, a count that is odd in stereo, or
                                     below the channels in the first compressed 0x08 */
-    MVE_ERROR_ROOM = 19,         /* room too small for the samples or for a new film, list for what it lacks, or map or body */
+    MVE_ERROR_ROOM = 19,         /* room too small for the samples or for a new film, list for the chunks left out, or map
+                                    or body for what is to be written there */
     MVE_ERROR_NO_SIZE = 21,      /* the film ends without a frame size (mve_begin alone) */
     MVE_ERROR_POSITION = 22,     /* a position outside the picture (mve_origin alone) */
     MVE_ERROR_PACKET_LENGTH = 23, /* a packet that is longer, with its 14 bytes, than MVE_BODY_BYTES (mve_encode alone) */
@@ -768,7 +769,8 @@ size_t mve_open(const uint8_t *film, size_t film_length, size_t stream, struct m
        MVE_TAKEN     the state is that just after opcode 0x05. Palette and place are as the steps up to there leave them.
        MVE_REFUSED   by the first refusal that mve_open and these steps meet, or by MVE_ERROR_NO_SIZE where the film ends
                      first. Palette and place are as they were, since all is judged before the first store. The state is
-                     that which the refused step was given: zeros for MVE_ERROR_HEADER, the film's last for MVE_ERROR_NO_SIZE.
+                     that which the refused step was given: zeros for MVE_ERROR_HEADER, the film's last for
+                     MVE_ERROR_NO_SIZE.
 
    A palette that has not 768 bytes is refused right behind the header. Sound before the size is decoded, so that the state
    goes on rightly, but its samples are dropped: MVE_ERROR_ROOM is not met. No picture is needed before the size. The call

@@ -170,8 +170,18 @@ impl Run {
 
 /// Compares the pictures of everything that is measured, and the sound.
 fn quick(seed: u64, rounds: usize) -> Result<(), String> {
-    let Run { benches, cuts, series, colours, salvages, strips, encodes, encode_sizes, trailers, .. } =
-        Run::new(seed, rounds, false)?;
+    let Run {
+        benches,
+        cuts,
+        series,
+        colours,
+        salvages,
+        strips,
+        encodes,
+        encode_sizes,
+        trailers,
+        ..
+    } = Run::new(seed, rounds, false)?;
     let (kinds, lists, sizes) = (benches.len(), cuts.len() * cuts[0].pieces.len(), series.len());
     println!(
         "bench: seed {seed}: {kinds} kinds of frames, {lists} lists of calls, {sizes} sizes: \
@@ -218,8 +228,7 @@ fn tables(markdown: bool, seed: u64, rounds: usize) -> Result<(), String> {
         encodes,
         encode_sizes,
         trailers,
-    } =
-        Run::new(seed, rounds, true)?;
+    } = Run::new(seed, rounds, true)?;
     let measured: Vec<_> = benches.iter().map(Bench::measured).collect();
     let pieces = cuts.into_iter().flat_map(|cuts| cuts.pieces).collect::<Vec<_>>();
     let points: Vec<_> = series.iter().map(Series::point).collect();

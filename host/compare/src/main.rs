@@ -35,7 +35,7 @@ fn main() -> ExitCode {
     }
     let Some((seed, count, kinds)) = parsed(&arguments) else {
         eprintln!(
-            "usage: compare SEED COUNT \\
+            "usage: compare SEED COUNT \
              [packets|lists|films|sounds|openings|cuts|numbers|salvages|strips|encodes|trailers]"
         );
         return ExitCode::from(2);

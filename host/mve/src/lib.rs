@@ -11,8 +11,8 @@
 //! ```
 //! use mve::{Event, Memory, Player, PALETTE_BYTES, PICTURE_BYTES, ROOM_BYTES};
 //!
-//! // A film of one frame of one block: a timer, a colour, the size, a map, the block's colour, and 07,
-//! // which sends it.
+//! // A film of one frame of one block: a timer, a colour, the size, a map, the block's colour, and
+//! // 0x07, which sends it.
 //! let film = [
 //!     &b"Interplay MVE File\x1A\0\x1A\0\0\x01\x33\x11"[..],
 //!     &[33, 0, 2, 0, 6, 0, 0x02, 0, 0x50, 0xC3, 0, 0, 2, 0],

@@ -701,7 +701,10 @@ fn between_pictures() {
     let samples = hex("00 10 01 10  02 10  00 00  03 10");
     let recording = Recording { stereo: false, wide: true, rate: 22_050, samples };
     assert_eq!(played.recordings, [recording]);
-    assert_eq!(played.pictures, [[&b"P6\n# rows 0 to 0\n# at 0 us\n8 8\n255\n"[..], &[0; 192]].concat()]);
+    assert_eq!(
+        played.pictures,
+        [[&b"P6\n# rows 0 to 0\n# at 0 us\n8 8\n255\n"[..], &[0; 192]].concat()]
+    );
     assert_eq!(played.refusal, None);
 }
 
