@@ -5,8 +5,9 @@
 Writes each picture that the film sends to FOLDER, as 000000.ppm, 000001.ppm and so on, and the sound of stream STREAM
 (0 to 15, 0 if it is not given; above 15 none) as 000000.wav; where format or rate changes 000001.wav begins, and so on.
 The heading of each picture says, in a line like "# rows 3 to 5" or "# rows none", which rows of blocks were touched
-since this one of the two pictures was last sent: all that a display with a copy of each needs to be sent. A second line,
-like "# at 400000 us", says when to show it: so many microseconds after the film's begin, by its timer (opcode 0x02).
+since this one of the film's pictures was last sent: all that a display with a copy of each needs to be sent. A second
+line, like "# at 400000 us", says when to show it: so many microseconds after the film's begin, by its timer (opcode 0x02).
+8-bit films and films with true colour are played alike.
 FOLDER must be there and hold no name that ends in .ppm or .wav. Every step is allowed ALLOWANCE stores; when they do
 not suffice, the player is stopped as a watchdog would stop it, and goes on. A drawing goes on from its place. A palette
 begins again with its first store; so a step that came no further is allowed twice as many stores when it is taken
@@ -64,12 +65,12 @@ struct clock {
 };
 
 /* Where a player is: what it must not lose at a stop. The answer of a step has the state at its end. The rows of each
-   of the two pictures, a and b, are those touched since it was last sent, which a display's copy of it lacks: a stop may
-   fall between drawing and sending. */
+   of the film's pictures, a and b, or c, d and e, are those touched since it was last sent, which a display's copy of it
+   lacks: a stop may fall between drawing and sending. */
 struct saved {
     struct mve_stepped step;
     struct sound sound;
-    struct rows unsent[2];
+    struct rows unsent[3];
     struct clock clock;
 };
 
@@ -78,8 +79,11 @@ struct kept {
     struct saved records[2];
     atomic_size_t holds; /* which of the two is the saved one */
     uint8_t palette[MVE_PALETTE_BYTES];
-    uint8_t a[MVE_PICTURE_BYTES];
+    uint8_t a[MVE_PICTURE_BYTES]; /* of an 8-bit film */
     uint8_t b[MVE_PICTURE_BYTES];
+    uint16_t c[MVE_PICTURE_WORDS]; /* of a film with true colour */
+    uint16_t d[MVE_PICTURE_WORDS];
+    uint16_t e[MVE_PICTURE_WORDS];
     size_t place;
 };
 
@@ -216,10 +220,15 @@ static bool read_film(const char *name, struct film *film) {
     return read;
 }
 
+/* The picture that is drawn on: of two the other one, of three the one behind the front. */
+static size_t drawn_on(const struct mve_state *state) {
+    return (state->front + 1) % (state->true_colour != 0 ? 3 : 2);
+}
+
 /* Joins the rows that a packet touches to those of the picture that it was drawn on, which was not the front. */
 static void join_rows(struct saved *next) {
     const struct mve_stepped *drawn = &next->step;
-    struct rows *rows = &next->unsent[1 - drawn->state.front];
+    struct rows *rows = &next->unsent[drawn_on(&drawn->state)];
     if (drawn->touched == 0) {
         return;
     }
@@ -232,22 +241,40 @@ static void join_rows(struct saved *next) {
     rows->touched = 1;
 }
 
-static bool write_ppm(FILE *file, const struct kept *kept, const struct mve_state *state, struct rows rows,
-                      uint64_t at) {
+/* The shown picture of an 8-bit film; of another film nothing is shown. */
+static void put_bytes(FILE *file, const struct kept *kept, const struct mve_state *state) {
     const uint8_t *front = state->front == 0 ? kept->a : kept->b;
     size_t shown = mve_shown(state, MVE_STATE_NUMBERS, kept->a, sizeof kept->a, kept->b, sizeof kept->b);
-    if (rows.touched != 0) {
-        fprintf(file, "P6\n# rows %zu to %zu\n", rows.first, rows.last);
-    } else {
-        fprintf(file, "P6\n# rows none\n");
-    }
-    fprintf(file, "# at %" PRIu64 " us\n%zu %zu\n255\n", at, 8 * state->columns, 8 * state->rows);
     for (size_t i = 0; i < shown; i++) {
         const uint8_t *colour = &kept->palette[3 * front[i]];
         putc(mve_widened(colour[0]), file);
         putc(mve_widened(colour[1]), file);
         putc(mve_widened(colour[2]), file);
     }
+}
+
+/* The shown picture of a film with true colour; of another film nothing is shown. */
+static void put_words(FILE *file, const struct kept *kept, const struct mve_state *state) {
+    const uint16_t *front = state->front == 0 ? kept->c : state->front == 1 ? kept->d : kept->e;
+    size_t shown = mve_shown_words(state, MVE_STATE_NUMBERS, kept->c, MVE_PICTURE_WORDS, kept->d, MVE_PICTURE_WORDS,
+                                   kept->e, MVE_PICTURE_WORDS);
+    for (size_t i = 0; i < shown; i++) {
+        putc(mve_widened_5(front[i] >> 10 & 31), file);
+        putc(mve_widened_5(front[i] >> 5 & 31), file);
+        putc(mve_widened_5(front[i] & 31), file);
+    }
+}
+
+static bool write_ppm(FILE *file, const struct kept *kept, const struct mve_state *state, struct rows rows,
+                      uint64_t at) {
+    if (rows.touched != 0) {
+        fprintf(file, "P6\n# rows %zu to %zu\n", rows.first, rows.last);
+    } else {
+        fprintf(file, "P6\n# rows none\n");
+    }
+    fprintf(file, "# at %" PRIu64 " us\n%zu %zu\n255\n", at, 8 * state->columns, 8 * state->rows);
+    put_bytes(file, kept, state);
+    put_words(file, kept, state);
     return ferror(file) == 0;
 }
 
@@ -452,6 +479,7 @@ static enum outcome play(const struct film *film, struct kept *kept, const struc
         *next = *saved;
         size_t kind = mve_step(film->bytes, film->length, from, MVE_STATE_NUMBERS, &next->step, MVE_STEPPED_NUMBERS,
                                kept->palette, sizeof kept->palette, kept->a, sizeof kept->a, kept->b, sizeof kept->b,
+                               kept->c, MVE_PICTURE_WORDS, kept->d, MVE_PICTURE_WORDS, kept->e, MVE_PICTURE_WORDS,
                                &kept->place, room, sizeof room, watchdog->allowed, MVE_DEFAULT);
         switch (kind) {
         case MVE_UNFINISHED: /* the next run takes the step again; of a drawing it is told the same rows at its end */

@@ -4,6 +4,7 @@
 
 static uint8_t film[1 << 24]; // 16 MiB; a longer film is cut there
 static uint8_t palette[MVE_PALETTE_BYTES], a[MVE_PICTURE_BYTES], b[MVE_PICTURE_BYTES], room[1];
+static uint16_t c[MVE_PICTURE_WORDS], d[MVE_PICTURE_WORDS], e[MVE_PICTURE_WORDS]; // for a film with true colour
 static struct mve_stepped answers[2]; // in turn: the state of the one goes in, the other is written
 static size_t length, place, pictures, last; // last: which answer holds
 
@@ -19,9 +20,12 @@ int main(void) {
         const struct mve_state *from = &answers[last].state;
         struct mve_stepped *out = &answers[1 - last];
         kind = mve_step(film, length, from, MVE_STATE_NUMBERS, out, MVE_STEPPED_NUMBERS, palette, sizeof palette,
-                        a, sizeof a, b, sizeof b, &place, room, sizeof room, MVE_ALL_STORES, MVE_DEFAULT);
+                        a, sizeof a, b, sizeof b, c, MVE_PICTURE_WORDS, d, MVE_PICTURE_WORDS, e, MVE_PICTURE_WORDS,
+                        &place, room, sizeof room, MVE_ALL_STORES, MVE_DEFAULT);
         if (mve_is_sent(from, &out->state)) {
-            pictures += 1; // show (out->state.front == 0 ? a : b) by the palette, as many bytes as mve_shown says
+            // Show picture `front` of the film's kind: a or b by the palette, as many bytes as mve_shown says; or c, d
+            // or e, as many words as mve_shown_words says.
+            pictures += 1;
         }
         last = 1 - last;
     }

@@ -2,9 +2,10 @@
 
 An input is a byte that chooses a trial, then what the trial reads. Every lent buffer ends right before a page that may not be
 touched. What is tested beside that is what include/mve.h promises of any input: that refused calls change nothing, that steps
-get on, that cuts change no picture, that a check and a drawing agree, that an origin holds the value, that the parts of a
-scratched film add up, that a stripped film is never longer and stays when it is stripped again. No expectation comes from a
-second decoder here: host/compare has those. */
+get on, that cuts change no picture, that a check and a drawing agree, that an origin holds the value, that no stored word has
+bit 15, that a film leaves the pictures of the other kind alone, that the parts of a scratched film add up, that a stripped
+film is never longer and stays when it is stripped again. No expectation comes from a second decoder here: host/compare has
+those. */
 
 #define _GNU_SOURCE
 #include "mve.h"
@@ -25,7 +26,8 @@ void watch_coverage(void);
     } while (0)
 
 enum {
-    PICTURE = 16384, /* bytes of a lent picture: what needs more is refused by 8 */
+    PICTURE = 16384, /* bytes or words of a lent picture: what needs more is refused by 8 */
+    WORDS = PICTURE * sizeof(uint16_t),
     ROOM = 8192,
     LONGEST = 65536, /* of an input */
     PAGE = 4096,
@@ -52,16 +54,22 @@ static uint8_t *last(struct guarded memory, size_t length) {
     return memory.end - length;
 }
 
-static struct guarded input, map, a, b, palette, room, list, numbers[2], place_memory;
+static struct guarded input, map, a, b, word_memory[3], palette, room, list, numbers[2], place_memory;
 
 /* What the film's calls write to. */
 struct memory {
     uint8_t palette[MVE_PALETTE_BYTES];
     uint8_t a[PICTURE];
     uint8_t b[PICTURE];
+    uint16_t words[3][PICTURE];
     uint8_t room[ROOM];
     size_t place;
 };
+
+/* Picture c, d or e. */
+static uint16_t *word_picture(size_t which) {
+    return (uint16_t *)(void *)last(word_memory[which], WORDS);
+}
 
 static size_t *place(void) {
     return (size_t *)(void *)last(place_memory, sizeof(size_t));
@@ -71,6 +79,9 @@ static void load(const struct memory *memory) {
     memcpy(last(palette, MVE_PALETTE_BYTES), memory->palette, MVE_PALETTE_BYTES);
     memcpy(last(a, PICTURE), memory->a, PICTURE);
     memcpy(last(b, PICTURE), memory->b, PICTURE);
+    for (size_t i = 0; i < 3; i += 1) {
+        memcpy(word_picture(i), memory->words[i], WORDS);
+    }
     memcpy(last(room, ROOM), memory->room, ROOM);
     *place() = memory->place;
 }
@@ -79,14 +90,26 @@ static void save(struct memory *memory) {
     memcpy(memory->palette, last(palette, MVE_PALETTE_BYTES), MVE_PALETTE_BYTES);
     memcpy(memory->a, last(a, PICTURE), PICTURE);
     memcpy(memory->b, last(b, PICTURE), PICTURE);
+    for (size_t i = 0; i < 3; i += 1) {
+        memcpy(memory->words[i], word_picture(i), WORDS);
+    }
     memcpy(memory->room, last(room, ROOM), ROOM);
     memory->place = *place();
 }
 
+/* Whether the pictures of bytes, or of words, are those of the memory. */
+static int are_same_bytes(const struct memory *memory) {
+    return memcmp(memory->a, last(a, PICTURE), PICTURE) == 0 && memcmp(memory->b, last(b, PICTURE), PICTURE) == 0;
+}
+
+static int are_same_words(const struct memory *memory) {
+    return memcmp(memory->words[0], word_picture(0), WORDS) == 0 && memcmp(memory->words[1], word_picture(1), WORDS) == 0 &&
+           memcmp(memory->words[2], word_picture(2), WORDS) == 0;
+}
+
 static int is_same(const struct memory *memory) {
-    return memcmp(memory->palette, last(palette, MVE_PALETTE_BYTES), MVE_PALETTE_BYTES) == 0 &&
-           memcmp(memory->a, last(a, PICTURE), PICTURE) == 0 && memcmp(memory->b, last(b, PICTURE), PICTURE) == 0 &&
-           memcmp(memory->room, last(room, ROOM), ROOM) == 0 && memory->place == *place();
+    return memcmp(memory->palette, last(palette, MVE_PALETTE_BYTES), MVE_PALETTE_BYTES) == 0 && are_same_bytes(memory) &&
+           are_same_words(memory) && memcmp(memory->room, last(room, ROOM), ROOM) == 0 && memory->place == *place();
 }
 
 static struct mve_stepped *answer(size_t which) {
@@ -102,7 +125,8 @@ struct way {
 static size_t step(const uint8_t *film, size_t length, size_t from, struct way way) {
     return mve_step(film, length, &answer(from)->state, MVE_STATE_NUMBERS, answer(1 - from), MVE_STEPPED_NUMBERS,
                     last(palette, MVE_PALETTE_BYTES), MVE_PALETTE_BYTES, last(a, PICTURE), PICTURE, last(b, PICTURE),
-                    PICTURE, place(), last(room, ROOM), ROOM, way.allowed, way.form);
+                    PICTURE, word_picture(0), PICTURE, word_picture(1), PICTURE, word_picture(2), PICTURE, place(),
+                    last(room, ROOM), ROOM, way.allowed, way.form);
 }
 
 /* Plays a film from zeros to its end, its refusal, or STEPS steps. Which answer holds; the number of unfinished steps in a
@@ -130,10 +154,14 @@ static size_t play(const uint8_t *film, size_t length, struct way way) {
             PROMISE(kind == MVE_TAKEN || kind == MVE_WHOLE);
             PROMISE(out->state.position >= old->position + 4 && out->state.position <= length);
         }
+        PROMISE(old->true_colour != 0 ? are_same_bytes(&before) : are_same_words(&before));
         from = 1 - from;
         const struct mve_state *state = &answer(from)->state;
         size_t shown = mve_shown(state, MVE_STATE_NUMBERS, last(a, PICTURE), PICTURE, last(b, PICTURE), PICTURE);
-        PROMISE(shown == 0 || shown == 64 * state->columns * state->rows);
+        size_t words_shown = mve_shown_words(state, MVE_STATE_NUMBERS, word_picture(0), PICTURE, word_picture(1), PICTURE,
+                                             word_picture(2), PICTURE);
+        PROMISE(shown == 0 || (shown == 64 * state->columns * state->rows && state->true_colour == 0));
+        PROMISE(words_shown == 0 || (words_shown == 64 * state->columns * state->rows && state->true_colour == 1));
         (void)mve_timer(film, length, state);
     }
     return from;
@@ -290,6 +318,59 @@ static void try_packet(const uint8_t *data, size_t size) {
     PROMISE((drawn.kind == MVE_REFUSED) == (p.place > p.columns * p.rows) && (drawn.kind != MVE_REFUSED || drawn.number == 11));
 }
 
+static struct mve_answer draw_words(const struct packet *p, size_t allowed) {
+    return mve_draw_words(p->columns, p->rows, p->map, p->map_length, p->data, p->data_length, word_picture(0), PICTURE,
+                          word_picture(1), PICTURE, word_picture(2), PICTURE, place(), allowed);
+}
+
+/* Draws by calls of a few stores each, to the end. */
+static struct mve_answer draw_words_cut(const struct packet *p) {
+    struct mve_answer drawn = draw_words(p, p->allowed);
+    for (size_t calls = 0; drawn.kind == MVE_UNFINISHED && calls <= 4800; calls += 1) {
+        PROMISE(drawn.stores == p->allowed);
+        drawn = draw_words(p, p->allowed);
+    }
+    return drawn;
+}
+
+/* A packet with true colour: check and drawing agree, cuts change nothing, no stored word has bit 15, and the older
+   pictures stay. */
+static void try_words(const uint8_t *data, size_t size) {
+    static struct memory before, whole;
+    struct packet p;
+    if (!read_packet(data, size, &p)) {
+        return;
+    }
+    for (size_t i = 0; i < 3 * PICTURE; i += 1) {
+        before.words[i / PICTURE][i % PICTURE] = (uint16_t)(i * 40503 + i / 64);
+    }
+    before.place = 0;
+    load(&before);
+    struct mve_answer checked = mve_check_words(p.columns, p.rows, p.map, p.map_length, p.data, p.data_length);
+    struct mve_answer strict = mve_check_words_strict(p.columns, p.rows, p.map, p.map_length, p.data, p.data_length);
+    PROMISE(checked.kind == MVE_ACCEPTED || (checked.kind == MVE_REFUSED && checked.number != MVE_ERROR_CODE_6));
+    PROMISE(strict.kind == checked.kind || (strict.number == 15 && checked.kind == MVE_ACCEPTED));
+    struct mve_answer drawn = draw_words(&p, MVE_ALL_STORES);
+    if (drawn.kind == MVE_REFUSED) {
+        PROMISE(is_same(&before) && (drawn.number == 8 || drawn.number == checked.number));
+        return;
+    }
+    size_t blocks = p.columns * p.rows;
+    PROMISE(drawn.kind == MVE_WHOLE && checked.kind == MVE_ACCEPTED && *place() == blocks && drawn.stores == 65 * blocks);
+    PROMISE(drawn.touched == 1 && drawn.first_row == 0 && drawn.last_row == p.rows - 1);
+    for (size_t i = 0; i < PICTURE; i += 1) {
+        PROMISE(i < 64 * blocks ? word_picture(2)[i] < 0x8000 : word_picture(2)[i] == before.words[2][i]);
+    }
+    PROMISE(memcmp(before.words[0], word_picture(0), WORDS) == 0 && memcmp(before.words[1], word_picture(1), WORDS) == 0);
+    save(&whole);
+    load(&before);
+    PROMISE(draw_words_cut(&p).kind == MVE_WHOLE && is_same(&whole));
+    load(&before); /* from a place in the middle, of any kind of answer */
+    *place() = p.place;
+    drawn = draw_words(&p, p.allowed);
+    PROMISE((drawn.kind == MVE_REFUSED) == (p.place > blocks) && (drawn.kind != MVE_REFUSED || drawn.number == 11));
+}
+
 /* A scratched film: the parts add up, and what is saved is saved whole. */
 static void try_salvage(const uint8_t *data, size_t size) {
     static uint8_t saved[LONGEST + 8];
@@ -341,6 +422,9 @@ int LLVMFuzzerInitialize(int *count, char ***words) {
     map = guarded(LONGEST);
     a = guarded(PICTURE);
     b = guarded(PICTURE);
+    for (size_t i = 0; i < 3; i += 1) {
+        word_memory[i] = guarded(WORDS);
+    }
     palette = guarded(MVE_PALETTE_BYTES);
     room = guarded(LONGEST + 8);
     list = guarded(3 * (LONGEST / 5) * sizeof(size_t));
@@ -361,12 +445,13 @@ int LLVMFuzzerTestOneInput(const uint8_t *data, size_t size) {
 #ifdef PLANTED /* a host that lends a byte too many: the guard page must find it */
     lent += length > 26 ? 1 : 0;
 #endif
-    switch (data[0] % 6) {
+    switch (data[0] % 7) {
     case 0: try_film(lent, length); break;
     case 1: try_packet(lent, length); break;
     case 2: try_salvage(lent, length); break;
     case 3: try_begin(lent, length); break;
     case 4: try_strip(lent, length); break;
+    case 6: try_words(lent, length); break;
     default: try_state(lent, length); break;
     }
     return 0;

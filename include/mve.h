@@ -1,4 +1,4 @@
-/* mve.h - a player core for Interplay MVE films with 8-bit pictures and sound
+/* mve.h - a player core for Interplay MVE films: 8-bit pictures or true colour, and sound
 
 SYNOPSIS
 
@@ -10,6 +10,7 @@ The text of examples/synopsis.c, a whole program:
 
     static uint8_t film[1 << 24]; // 16 MiB; a longer film is cut there
     static uint8_t palette[MVE_PALETTE_BYTES], a[MVE_PICTURE_BYTES], b[MVE_PICTURE_BYTES], room[1];
+    static uint16_t c[MVE_PICTURE_WORDS], d[MVE_PICTURE_WORDS], e[MVE_PICTURE_WORDS]; // for a film with true colour
     static struct mve_stepped answers[2]; // in turn: the state of the one goes in, the other is written
     static size_t length, place, pictures, last; // last: which answer holds
 
@@ -25,9 +26,12 @@ The text of examples/synopsis.c, a whole program:
             const struct mve_state *from = &answers[last].state;
             struct mve_stepped *out = &answers[1 - last];
             kind = mve_step(film, length, from, MVE_STATE_NUMBERS, out, MVE_STEPPED_NUMBERS, palette, sizeof palette,
-                            a, sizeof a, b, sizeof b, &place, room, sizeof room, MVE_ALL_STORES, MVE_DEFAULT);
+                            a, sizeof a, b, sizeof b, c, MVE_PICTURE_WORDS, d, MVE_PICTURE_WORDS, e, MVE_PICTURE_WORDS,
+                            &place, room, sizeof room, MVE_ALL_STORES, MVE_DEFAULT);
             if (mve_is_sent(from, &out->state)) {
-                pictures += 1; // show (out->state.front == 0 ? a : b) by the palette, as many bytes as mve_shown says
+                // Show picture `front` of the film's kind: a or b by the palette, as many bytes as mve_shown says; or c, d
+                // or e, as many words as mve_shown_words says.
+                pictures += 1;
             }
             last = 1 - last;
         }
@@ -43,22 +47,32 @@ The text of examples/synopsis.c, a whole program:
 
     cc -I include examples/synopsis.c target/staticlib/libmve.a -o synopsis && ./synopsis < film.mve
 
-mve_begin   opens a film and steps until its size is known: the state just after opcode 0x05
-mve_open    the first state of a film, for one stream of its sound or for none
-mve_step    one step: a chunk's head, or one opcode with its palette change, its drawing or its samples
-mve_shown   how many bytes of the front picture are shown
-mve_check   whether a packet is accepted, without drawing it
-mve_draw    the drawing of a packet, without a film
-mve_origin  which byte or pixel gave a pixel of a packet's picture its value
-mve_salvage what is left of a scratched film, as a new film
-mve_strip   a film without what the player passes over, as a new film
-mve_encode  map and packet of a picture of your own
-mve_video1  the drawing of a frame of Microsoft Video 1
+mve_begin        opens a film and steps until its size is known: the state just after opcode 0x05
+mve_open         the first state of a film, for one stream of its sound or for none
+mve_step         one step: a chunk's head, or one opcode with its palette change, its drawing or its samples
+mve_shown        how many bytes of the front picture of an 8-bit film are shown
+mve_shown_words  how many words of the front picture of a film with true colour are shown
+mve_check        whether a packet of an 8-bit film is accepted, without drawing it
+mve_check_words  the same of a packet with true colour
+mve_draw         the drawing of a packet of an 8-bit film, without the film
+mve_draw_words   the same of a packet with true colour
+mve_origin       which byte or pixel gave a pixel of an 8-bit packet's picture its value
+mve_salvage      what is left of a scratched film, as a new film
+mve_strip        a film without what the player passes over, as a new film
+mve_encode       map and packet of an 8-bit picture of your own
+mve_video1       the drawing of a frame of Microsoft Video 1
 
-mve_step with MVE_STRICT, mve_check_strict and mve_draw_strict are the strict forms: a packet may leave no byte over (THE
-PACKET). mve_is_sent tells whether a step sent a picture to the display. mve_timer reads how long a picture stays (THE TIME
-OF A PICTURE). mve_widened makes 8 bits of a colour's 6. mve_refusal_text says in words why a call was refused.
-mve_is_of_block tells whether a refusal names a block. These five are functions of this header, and are not proved.
+mve_step with MVE_STRICT, mve_check_strict, mve_draw_strict, mve_check_words_strict and mve_draw_words_strict are the strict
+forms: a packet may leave no byte over (THE PACKET). mve_is_sent tells whether a step sent a picture to the display.
+mve_timer reads how long a picture stays (THE TIME OF A PICTURE). mve_widened makes 8 bits of a colour's 6, mve_widened_5 of
+5. mve_refusal_text says in words why a call was refused. mve_is_of_block tells whether a refusal names a block. These six
+are functions of this header, and are not proved.
+
+A film is 8-bit or has true colour; opcode 0x05 tells which, and so does true_colour in the state. An 8-bit film has two
+pictures of bytes, a and b, whose colours the palette has. A film with true colour has three of words, c, d and e, with a
+colour of 15 bits in each. A step uses the pictures of the film's own kind alone. The others stay as they are, and may be of
+length 0: a host of 8-bit films lends three addresses with length 0, and a film with true colour is then refused by
+MVE_ERROR_LENT_LENGTH, right behind its size.
 
 examples/play.c is a whole player, which is stopped again and again and goes on. docs/RULES.md has all rules in full.
 
@@ -76,7 +90,9 @@ set lent bytes, and no other function.) The caller must keep three rules:
     pictures, place, room and list, and of mve_encode map and body.
     What is lent for writing shares no byte with anything else that is lent. So from and out share no number.
     Every address comes with its length, and is not null even where the length is 0. The addresses of from, out, place
-    and list are aligned, as those of size_t are.
+    and list are aligned, as those of size_t are, and the addresses of pictures of words, as those of uint16_t are.
+
+The length of a picture of words is counted in words.
 
 Beyond these rules nothing is asked: the library answers any values and any lengths.
 
@@ -88,9 +104,10 @@ is what the call returns. Before all else a call tests the counts:
     First, where out has fewer numbers than an answer, the call returns MVE_REFUSED. Nothing that is lent changes, out
     neither. Where out has more, those behind the answer stay as they were.
     Then, where from has more or fewer numbers than a state, or its left or right is above 65,535, mve_step refuses it by
-    MVE_ERROR_STATE. Nothing else that is lent changes, and the state in out is zeros. mve_shown gives 0.
+    MVE_ERROR_STATE. Nothing else that is lent changes, and the state in out is zeros. mve_shown and
+    mve_shown_words give 0.
 
-Before the first step, set palette, both pictures and the place to 0. The library writes only what the film says, so
+Before the first step, set palette, pictures and the place to 0. The library writes only what the film says, so
 until a film sets a colour or draws a block, the host's bytes are used as they are. A film may copy from a picture that
 it has not drawn yet.
 
@@ -99,18 +116,22 @@ it was given. A refused mve_begin gives back the state that the refused step was
 
 What a player lends for writing, at most:
 
-    palette                          768 bytes
-    two pictures of 307,200      614,400 bytes
-    room                         131,070 bytes; 0 where no sound is wanted
-    place                              8 bytes
-    two answers of 200               400 bytes
-    in all                       746,646 bytes
+                                               8-bit        true colour
+    palette                                      768                768 bytes
+    two pictures of 307,200 bytes            614,400
+    three pictures of 307,200 words                           1,843,200 bytes
+    room                                     131,070            131,070 bytes; 0 where no sound is wanted
+    place                                          8                  8 bytes
+    two answers of 208                           416                416 bytes
+    in all                                   746,662          1,975,462 bytes
 
-Palette, pictures and room are 746,238 bytes of it.
+Palette, pictures and room are 746,238 bytes of it, or 1,975,038. No picture is needed before the size is known. So a player
+of both kinds may open the film by mve_begin, and lend the same memory as pictures of the one kind or of the other.
 
 STOPS
 
-A step makes its stores one by one, in a fixed order. Each is of one byte of the palette, of one pixel, or of the place:
+A step makes its stores one by one, in a fixed order. Each is of one byte of the palette, of one pixel (a byte, or with true
+colour a word), or of the place:
 
     0x0B, 0x0C, 0x0D   the bytes of the palette, by rising entry, red, green, blue; of 0x0B the red-blue gradient first. An
                        entry that both gradients have is stored twice.
@@ -124,20 +145,20 @@ state back as it came; the next call takes the opcode again. A drawing then goes
 is drawn again from its first pixel, which gives the same picture, because no block reads a pixel of its own. A palette
 and 0x0F begin again with their first store.
 
-A block has at most MVE_BLOCK_STORES stores, a palette MVE_PALETTE_STORES, the largest picture MVE_ALL_STORES. A palette
-that begins again is never done by calls that are each allowed fewer stores than it has. So allow MVE_PALETTE_STORES or
-more; then every call gets on. With MVE_ALL_STORES no call is unfinished. mve_draw and its strict form are limited and
-counted as 0x11 is.
+A block has at most MVE_BLOCK_STORES stores (with true colour each has so many), a palette MVE_PALETTE_STORES, the largest
+picture MVE_ALL_STORES. A palette that begins again is never done by calls that are each allowed fewer stores than it has. So
+allow MVE_PALETTE_STORES or more; then every call gets on. With MVE_ALL_STORES no call is unfinished. mve_draw,
+mve_draw_words and their strict forms are limited and counted as 0x11 is.
 
-A watchdog may stop the program between any two stores, in any step of a film or in mve_draw. To go on, call again with the
-same film and the same state, and with palette, pictures and place as the stop left them. Where this call is allowed
-MVE_ALL_STORES, its answer, the new state, the palette, the place and the pictures are those of a call that nothing
-stopped; its count of stores may be smaller. So a film sends the same pictures with the same palettes, gives the same
-samples and ends alike, however often it is stopped, and wherever. This is proved of every film with 8-bit pictures
-(docs/PROOFS.md). A host must keep, in memory that outlives the stop:
+A watchdog may stop the program between any two stores, in any step of a film or in a drawing call. To go on, call again with
+the same film and the same state, and with palette, pictures and place as the stop left them. Where this call is allowed
+MVE_ALL_STORES, its answer, the new state, the palette, the place and the pictures are those of a call that nothing stopped;
+its count of stores may be smaller. So a film sends the same pictures with the same palettes, gives the same samples and ends
+alike, however often it is stopped, and wherever. This is proved of every film (docs/PROOFS.md). A host must keep, in memory
+that outlives the stop:
 
     the film, unchanged;
-    palette, both pictures and the place, as the stop leaves them. Set none of them back.
+    palette, the film's pictures and the place, as the stop leaves them. Set none of them back.
     the state that went into the step which was stopped. It is never written. The new one is written to out number by
     number, and a stop may fall between two of them. So have two answers in that memory and use them in turn, the state of
     the one as from and the other as out. Which of them holds is a word of its own, stored when the step has returned. A
@@ -174,26 +195,31 @@ libmve.a is one object for x86-64 and the System V ABI. It needs no operating sy
 undefined below. Every function has a section of its own, so that the linker's --gc-sections leaves out those that are not
 called. All relocations are relative: code and constants may be loaded at any address, as long as they stay together.
 
-    code                        51,599 bytes
-    constants                   1,459 bytes
-    memory of its own           0 bytes
-    undefined symbols           memset
-    relocations                 R_X86_64_PC32, R_X86_64_PLT32
-    vector registers            xmm0 to xmm2
-    below the stack pointer     56 bytes
-    stack of mve_begin          664 bytes
-    stack of mve_check          192 bytes
-    stack of mve_check_strict   192 bytes
-    stack of mve_draw           664 bytes
-    stack of mve_draw_strict    664 bytes
-    stack of mve_encode         424 bytes
-    stack of mve_open           8 bytes
-    stack of mve_origin         288 bytes
-    stack of mve_salvage        536 bytes
-    stack of mve_shown          8 bytes
-    stack of mve_step           744 bytes
-    stack of mve_strip          632 bytes
-    stack of mve_video1         72 bytes
+    code                            64,443 bytes
+    constants                       1,515 bytes
+    memory of its own               0 bytes
+    undefined symbols               memset
+    relocations                     R_X86_64_PC32, R_X86_64_PLT32
+    vector registers                xmm0 to xmm4
+    below the stack pointer         88 bytes
+    stack of mve_begin              696 bytes
+    stack of mve_check              248 bytes
+    stack of mve_check_strict       248 bytes
+    stack of mve_check_words        224 bytes
+    stack of mve_check_words_strict 224 bytes
+    stack of mve_draw               632 bytes
+    stack of mve_draw_strict        632 bytes
+    stack of mve_draw_words         768 bytes
+    stack of mve_draw_words_strict  768 bytes
+    stack of mve_encode             424 bytes
+    stack of mve_open               8 bytes
+    stack of mve_origin             328 bytes
+    stack of mve_salvage            536 bytes
+    stack of mve_shown              8 bytes
+    stack of mve_shown_words        8 bytes
+    stack of mve_step               816 bytes
+    stack of mve_strip              648 bytes
+    stack of mve_video1             72 bytes
 
 The stack of a call is the most that it takes, together with all that it calls: return addresses, pushed registers and
 arguments, locals with the copies of constant tables, and what is used below the stack pointer. Each call takes less than
@@ -203,20 +229,25 @@ as memset, is the host's own, and so is its stack: only its return address is co
 A boot stage has one stack for all of this. A whole stage is a least caller in C, its arguments and the call, compiled with
 -O2 and with -Os, the larger of both:
 
-    compiler of the stages          gcc 12.2.0
-    whole stage of mve_begin        696 bytes
-    whole stage of mve_check        288 bytes
-    whole stage of mve_check_strict 288 bytes
-    whole stage of mve_draw         872 bytes
-    whole stage of mve_draw_strict  872 bytes
-    whole stage of mve_encode       536 bytes
-    whole stage of mve_open         24 bytes
-    whole stage of mve_origin       432 bytes
-    whole stage of mve_salvage      632 bytes
-    whole stage of mve_shown        24 bytes
-    whole stage of mve_step         904 bytes
-    whole stage of mve_strip        648 bytes
-    whole stage of mve_video1       88 bytes
+    compiler of the stages                gcc 12.2.0
+    whole stage of mve_begin              728 bytes
+    whole stage of mve_check              344 bytes
+    whole stage of mve_check_strict       344 bytes
+    whole stage of mve_check_words        320 bytes
+    whole stage of mve_check_words_strict 320 bytes
+    whole stage of mve_draw               840 bytes
+    whole stage of mve_draw_strict        840 bytes
+    whole stage of mve_draw_words         992 bytes
+    whole stage of mve_draw_words_strict  992 bytes
+    whole stage of mve_encode             536 bytes
+    whole stage of mve_open               24 bytes
+    whole stage of mve_origin             472 bytes
+    whole stage of mve_salvage            632 bytes
+    whole stage of mve_shown              24 bytes
+    whole stage of mve_shown_words        40 bytes
+    whole stage of mve_step               1,024 bytes
+    whole stage of mve_strip              664 bytes
+    whole stage of mve_video1             88 bytes
 
 The least caller of mve_step is main of examples/synopsis.c. It keeps all its variables out of the stack, and opens the film
 in a function of its own that is not inlined, so that the steps do not stand on the frame of the opening. The others are
@@ -241,24 +272,28 @@ Numbers are little-endian. A word has 16 bits.
     0x00    0        none, last in its chunk; ends the film
     0x01    0        none, last in its chunk; ends the chunk
     0x03    0, 1     8, 10 bytes: the format of the sound
-    0x05    0 to 2   4, 6, 8 bytes: words columns and rows, a count, and in version 2 the true-colour word 0. Columns and
-                     rows count blocks of 8x8 pixels: 1 to 80 and 1 to 60, up to 640x480 pixels. Once in a film.
-    0x07    0, 1     4, 6 bytes, not read: sends the frame. If one is finished and unsent, front and back change roles.
+    0x05    0 to 2   4, 6, 8 bytes: words columns and rows, a count, and in version 2 the true-colour word. If this is not 0,
+                     the film has true colour; in the other versions it is 8-bit. Columns and rows count blocks of 8x8
+                     pixels: 1 to 80 and 1 to 60, up to 640x480 pixels. Once in a film.
+    0x07    0, 1     4, 6 bytes, not read: sends the frame. If one is finished and unsent, the picture that was drawn on
+                     becomes the front: in an 8-bit film front and back change roles, with true colour front goes from
+                     0 to 1, from 1 to 2 and from 2 to 0.
     0x08    0        6 bytes or more: sound
     0x09    0        6 bytes: silence
     0x0B    0        6 bytes: two gradients of the palette, red-blue and red-green: base, rows, columns of each
     0x0C    0        words start and count, then 3 bytes an entry
     0x0D    0        32 groups: a mask byte, lowest bit first, and 3 bytes for each bit that is one
     0x0F    0        the map for the next 0x11; the place becomes 0
-    0x11    0        14 bytes that are skipped, then the packet
+    0x11    0        14 bytes that are skipped, then the packet; of a film with true colour 16 bytes or more
     0x02, 0x04, 0x0A, 0x12 to 0x15: passed over unread. 0x03, 0x08 and 0x09 are passed over, too, where the stream is above
     15. All other types are refused.
 
 The palette has 256 entries of red, green and blue, 0 to 63, one byte each. mve_widened gives the 8 bits that a display
-takes.
+takes. Palette opcodes act in films with true colour, too, whose pixels do not read the palette.
 
-A picture has one byte a pixel, row by row: 8 times columns bytes for each row of pixels, 64 times columns times rows in
-all.
+A picture of an 8-bit film has one byte a pixel, row by row: 8 times columns bytes for each row of pixels, 64 times columns
+times rows in all. A picture with true colour has as many words: red in bits 10 to 14, green in bits 5 to 9 and blue in bits
+0 to 4, each 0 to 31, of which mve_widened_5 makes 8 bits. Bit 15 of every word that is stored is 0.
 
 THE TIME OF A PICTURE
 
@@ -302,17 +337,17 @@ A room of MVE_ROOM_BYTES is always enough. After MVE_ERROR_ROOM call again with 
 
 THE PACKET
 
-Blocks are 8x8 pixels, left to right, then down. The map has a code for each: a nibble, low nibble first. The data has
-the bytes of each block in the same order. "Front" is the picture shown. "Back" is the other one, two frames old, which
-is drawn on. A copied 8x8 lies inside its picture.
+Blocks are 8x8 pixels, left to right, then down. The map has a code for each: a nibble, low nibble first. The data has the
+bytes of each block in the same order. This is a packet of an 8-bit film; the next section has the other kind. "Front" is the
+picture shown. "Back" is the other one, two frames old, which is drawn on. A copied 8x8 lies inside its picture.
 
 Many films pad a packet to an even length, so one byte may be left over behind the data of the last block; it is not read.
-Two or more are refused. This is the default form of the three calls that have two: mve_check, mve_draw and mve_step with
-MVE_DEFAULT. Players use it. The strict forms, mve_check_strict, mve_draw_strict and mve_step with MVE_STRICT, refuse one
-byte, too. They are for those who make films and want every byte accounted for. A default call and a strict one give the same
-answer and leave the same memory, unless exactly one byte is left over and nothing else is wrong: then the default call
-accepts the packet, and the strict one refuses it by MVE_ERROR_DATA_LEFT. Calls of both forms may be mixed, also within one
-picture.
+Two or more are refused. This is the default form of the calls that have two: mve_check, mve_draw, mve_step with MVE_DEFAULT,
+mve_check_words and mve_draw_words. Players use it. The strict forms, mve_check_strict, mve_draw_strict, mve_step with
+MVE_STRICT, mve_check_words_strict and mve_draw_words_strict, refuse one byte, too. They are for those who make films and
+want every byte accounted for. A default call and a strict one give the same answer and leave the same memory, unless exactly
+one byte is left over and nothing else is wrong: then the default call accepts the packet, and the strict one refuses it by
+MVE_ERROR_DATA_LEFT. Calls of both forms may be mixed, also within one picture.
 
     code     bytes           pixels
     0        0               the same block of front
@@ -329,23 +364,59 @@ picture.
 The fields of 7 to A, of one bit or two, run left to right, then down, from the low end of each byte. docs/RULES.md says
 how the colours choose a form, and what the offsets are.
 
+THE PACKET WITH TRUE COLOUR
+
+The packet of a film with true colour has two parts. It begins with a word, the offset, counted from the packet's first byte.
+The first part lies between this word and the offset, the second from the offset on. A packet under 2 bytes, and an offset
+below 2 or above the packet's length, are refused by MVE_ERROR_PARTS. An offset that is the length is taken: the second part
+is empty then. The map is that of an 8-bit packet.
+
+A pixel is a word, with the low byte first. There are three pictures. "Last" is the one that is shown, "oldest" the one that
+was shown before it, and "new" the one that is drawn on. With front f, picture f is the last, f + 1 the new one and f + 2 the
+oldest, where 3 means 0 and 4 means 1, and pictures 0, 1 and 2 are c, d and e.
+
+    code     first part       second part   pixels
+    0        0                0             the same block of last
+    1, F     0                0             the same block of oldest
+    2        0                1             copied from oldest, forward offset
+    3        0                1             copied from new, the negated offset
+    4        0                1             copied from last, nibble offsets
+    5        2                0             copied from last, byte offsets
+    6        2                0             copied from oldest, byte offsets
+    7        12, 6            0             two colours, a bit a pixel or a 2x2
+    8        24, 16           0             two colours for each quarter or half
+    9        24, 12, 16, 16   0             four colours, two bits a pixel, 2x2, 2 wide or 2 high
+    A        48, 32           0             four colours for each quarter or half
+    B to E   128, 32, 8, 2    0             a word a pixel, 2x2, 4x4, 8x8
+
+Colours have two bytes; the fields of 7 to A are those of an 8-bit packet. Where the order of two colours chooses the form of
+an 8-bit block, bit 15 of the first of the two does here: where it is 1 the pair counts as falling. In every other colour bit
+15 means nothing. It is never stored: each word that is stored, also by a copy, has bit 15 cleared. Every block is stored,
+that of code 1, too, so each has 65 stores. Offsets are those of an 8-bit packet, and a copied 8x8 lies inside its picture.
+
+One byte may be left over at the end of the second part, in the strict forms none. No byte may be left over in the first
+part.
+
+mve_origin and mve_encode are of 8-bit packets alone.
+
 THE ROWS TOUCHED
 
-A row of blocks is touched by a packet where it holds a block other than code 1; code 0 counts, whatever it copies. If there
-is such a row, `touched` is 1, and `first_row` and `last_row` are the first and the last of them, counted from 0 (8 rows of
-pixels each). If there is none, all three are 0. They come with MVE_ACCEPTED of mve_check, and with MVE_WHOLE and
-MVE_UNFINISHED of mve_draw and of mve_step at an 0x11, in both forms. They are always those of the whole packet, whatever the
-place and the count of stores. Every other answer has none. A drawing leaves all pixels of the other rows, and the whole
-front picture, as they are.
+A row of blocks is touched by a packet where it holds a block other than code 1; code 0 counts, whatever it copies. With true
+colour every row is touched, because every block is stored. If there is a touched row, `touched` is 1, and `first_row` and
+`last_row` are the first and the last of them, counted from 0 (8 rows of pixels each). If there is none, all three are 0.
+They come with MVE_ACCEPTED of the checks, and with MVE_WHOLE and MVE_UNFINISHED of the drawing calls and of mve_step at an
+0x11, in both forms. They are always those of the whole packet, whatever the place and the count of stores. Every other
+answer has none. A drawing leaves all pixels of the other rows, and all pictures but the one that it is drawn on, as they
+are.
 
-A display with a slow link may keep a copy of each of the two pictures, as each was last sent, and be sent the touched
-rows alone. For this, keep the rows touched since the last sending, for each of the two pictures. Begin with no row if the
+A display with a slow link may keep a copy of each of the film's pictures, as each was last sent, and be sent the touched
+rows alone. For this, keep the rows touched since the last sending, for each of the pictures. Begin with no row if the
 copies begin as the pictures do, else with all. Then:
 
     When a step answers MVE_WHOLE, join its rows to those of the picture drawn on: b if the front of the state that went in
-    is 0, a if it is 1.
+    is 0, a if it is 1; with true colour d if it is 0, e if it is 1, c if it is 2.
     When mve_is_sent tells that a picture was sent, it is now the front. Send the rows kept for it, from the first to the
-    last, to its copy; then keep none for it. The other copy stays as it is: its picture was not drawn on.
+    last, to its copy; then keep none for it. The other copies stay as they are.
 
 The rows of the last packet alone may be too few: a frame that is never sent is drawn over, and its rows are still to be
 sent.
@@ -377,8 +448,8 @@ mve_salvage walks over a film chunk by chunk and writes what is left of it to th
     unless the last kept chunk has opcode 0x00, a chunk that has nothing else: 04 00 05 00 00 00 00 00.
 
 Of an opcode, refusals 3, 4 and 5 are tested as a step tests them, and 0x03, 0x08 and 0x09 whatever the stream. 0x11 needs 14
-bytes. Of 0x0C and 0x0D, 5 means that the content does not fill the body exactly. Nothing else is tested, so the new film may
-still be refused where it is played: for a packet that does not fit, for instance.
+bytes, also in a film with true colour. Of 0x0C and 0x0D, 5 means that the content does not fill the body exactly. Nothing
+else is tested, so the new film may still be refused where it is played: for a packet that does not fit, for instance.
 
 The list gets MVE_LOSS_NUMBERS numbers for each chunk left out, in the order of the film:
 
@@ -427,9 +498,9 @@ leaves any part of the room written; call it anew.
 
 PICTURES OF YOUR OWN
 
-mve_encode writes map and packet that give a wanted picture, from the two pictures that a player has before it: front, the
-one shown, and back, the one that is drawn on. The map is the body of opcode 0x0F. The packet goes to body with 14 zero bytes
-in front of it: that is the body of opcode 0x11.
+mve_encode writes map and packet of an 8-bit film that give a wanted picture, from the two pictures that a player has before
+it: front, the one shown, and back, the one that is drawn on. The map is the body of opcode 0x0F. The packet goes to body
+with 14 zero bytes in front of it: that is the body of opcode 0x11.
 
     mve_check_strict accepts map and packet, and mve_draw_strict from place 0 on back gives the wanted picture exactly. What
     back has beyond the size stays.
@@ -481,13 +552,16 @@ extern "C" {
 
 /* The version of this interface. It changes with every change of the calls, of the structs, of the names, of the packets
    that are accepted and of the pictures that they give. CHANGELOG.md says what changed in each. */
-#define MVE_VERSION 15
+#define MVE_VERSION 16
 
 /* The bytes of the palette: 256 entries of red, green and blue. */
 #define MVE_PALETTE_BYTES 768
 
-/* The bytes of the largest picture: 640x480 pixels. Pictures of this length are always enough. */
+/* The bytes of the largest picture of an 8-bit film: 640x480 pixels. Pictures of this length are always enough. */
 #define MVE_PICTURE_BYTES 307200
+
+/* The words of the largest picture of a film with true colour, which is as large. */
+#define MVE_PICTURE_WORDS 307200
 
 /* The bytes of a room that is always enough: a word counts a packet's samples, and each has two bytes at most. */
 #define MVE_ROOM_BYTES 131070
@@ -510,7 +584,7 @@ extern "C" {
 #define MVE_NO_STREAM 16
 
 /* How many numbers a state and an answer about a film have, and the list of mve_salvage for each chunk left out. */
-enum { MVE_STATE_NUMBERS = 17, MVE_STEPPED_NUMBERS = 25, MVE_LOSS_NUMBERS = 3 };
+enum { MVE_STATE_NUMBERS = 18, MVE_STEPPED_NUMBERS = 26, MVE_LOSS_NUMBERS = 3 };
 
 /* The forms of a step: how many bytes a packet may leave over. Any other number means the strict form, too. */
 enum mve_form {
@@ -520,7 +594,7 @@ enum mve_form {
 
 /* What a call answers. */
 enum mve_kind {
-    MVE_ACCEPTED = 0,   /* mve_check: the packet gives a picture, and no more bytes are left over than may be */
+    MVE_ACCEPTED = 0,   /* a check: the packet gives a picture, and no more bytes are left over than may be */
     MVE_FOUND = 0,      /* mve_origin: the byte or the pixel is named */
     MVE_TAKEN = 0,      /* mve_begin, mve_open, mve_step: done; no pixel was drawn */
     MVE_WHOLE = 1,      /* the picture is drawn to its end */
@@ -529,14 +603,16 @@ enum mve_kind {
     MVE_REFUSED = 4     /* nothing is changed but out; the number says why */
 };
 
-/* The numbers of refusal. A call gives the first that it meets. mve_step meets 2 to 19, and tests them in the order of this
+/* The numbers of refusal. A call gives the first that it meets. mve_step meets 2 to 20, and tests them in the order of this
    list; an out that is too short (MEMORY) comes before them, and has no number. The other calls test in these orders:
 
        mve_open                        1
        mve_begin                       1, 8 for the palette; then at each step 2 to 7, 9, 17, 18, as mve_step does; 21 at the
                                        film's end
        mve_check, mve_check_strict     6, 10, the blocks, 15
+       mve_check_words and _strict     6, 10, 20, the blocks, 15
        mve_draw, mve_draw_strict       6, 8, 10, 11, the blocks, 15
+       mve_draw_words and _strict      6, 8, 10, 11, 20, the blocks, 15
        mve_origin                      6, 8, 10, the blocks, 15, 22
        mve_salvage                     1, 19
        mve_strip                       1, the first of 2 to 5 in the order of the film, 19
@@ -547,21 +623,23 @@ enum mve_kind {
 enum mve_refusal {
     MVE_ERROR_STATE = 16,        /* from is no state (MEMORY), or one with position, chunk end, map, front, size or sound
                                     format out of bounds */
-    MVE_ERROR_LENT_LENGTH = 8,   /* palette not 768 bytes, or a picture shorter than the frame */
+    MVE_ERROR_LENT_LENGTH = 8,   /* palette not 768 bytes, or a picture of the film's kind shorter than the frame */
     MVE_ERROR_HEADER = 1,        /* film header wrong or short (not mve_step) */
     MVE_ERROR_CHUNK = 2,         /* a chunk or its head passes the end of the film */
     MVE_ERROR_OPCODE = 3,        /* an opcode or its head passes its chunk, or bytes follow 0x00 or 0x01 */
     MVE_ERROR_TYPE = 4,          /* opcode type or version not taken */
-    MVE_ERROR_BODY_LENGTH = 5,   /* opcode body of a wrong length */
-    MVE_ERROR_FRAME_SIZE = 6,    /* columns not 1 to 80, rows not 1 to 60, true-colour word wrong, or a second size */
+    MVE_ERROR_BODY_LENGTH = 5,   /* opcode body of a wrong length: of 0x11 under 14 bytes, with true colour under 16 */
+    MVE_ERROR_FRAME_SIZE = 6,    /* columns not 1 to 80, rows not 1 to 60, or a second size */
     MVE_ERROR_PALETTE = 7,       /* palette range or colour component too large */
     MVE_ERROR_NO_FRAME = 9,      /* 0x11 without a frame size or a map */
     MVE_ERROR_MAP_LENGTH = 10,   /* map length does not fit the frame size */
     MVE_ERROR_PLACE = 11,        /* place above the block count */
+    MVE_ERROR_PARTS = 20,        /* with true colour: packet under 2 bytes, or offset below 2 or past the packet's end */
     MVE_ERROR_CODE_6 = 12,       /* code 6, which 8-bit films do not have */
     MVE_ERROR_DATA_SHORT = 13,   /* too few data bytes */
     MVE_ERROR_COPY_OUTSIDE = 14, /* copied from outside the picture */
-    MVE_ERROR_DATA_LEFT = 15,    /* two data bytes or more left over; in the strict forms one or more */
+    MVE_ERROR_DATA_LEFT = 15,    /* two data bytes or more left over; in the strict forms, and in the first part of a packet
+                                    with true colour, one or more */
     MVE_ERROR_SOUND_FORMAT = 17, /* 0x08 or 0x09 of the stream before a 0x03, or a 0x03 both 8-bit and compressed */
     MVE_ERROR_SOUND_LENGTH = 18, /* data not as long as the count of samples says, a count that is odd in stereo, or
                                     below the channels in the first compressed 0x08 */
@@ -581,9 +659,9 @@ static inline const char *mve_refusal_text(size_t number) {
     case MVE_ERROR_HEADER: return "the film does not begin with the header of an MVE film";
     case MVE_ERROR_CHUNK: return "a chunk or its head passes the end of the film";
     case MVE_ERROR_OPCODE: return "an opcode or its head passes its chunk, or bytes follow the chunk's last opcode";
-    case MVE_ERROR_TYPE: return "this type or version of opcode is not one of an 8-bit film";
+    case MVE_ERROR_TYPE: return "this type or version of opcode is not one that the player takes";
     case MVE_ERROR_BODY_LENGTH: return "the opcode's body has a wrong length";
-    case MVE_ERROR_FRAME_SIZE: return "the frame size is out of bounds, given twice, or for true colour";
+    case MVE_ERROR_FRAME_SIZE: return "the frame size is out of bounds or given twice";
     case MVE_ERROR_PALETTE: return "a palette range or a colour component is too large";
     case MVE_ERROR_LENT_LENGTH: return "the palette or a picture that was lent has a wrong length";
     case MVE_ERROR_NO_FRAME: return "video data comes before a frame size or without a map";
@@ -597,6 +675,7 @@ static inline const char *mve_refusal_text(size_t number) {
     case MVE_ERROR_SOUND_FORMAT: return "sound comes before its format, or a format is both 8-bit and compressed";
     case MVE_ERROR_SOUND_LENGTH: return "the sound's data or its count of samples has a wrong length";
     case MVE_ERROR_ROOM: return "a room is too small for what is to be written there";
+    case MVE_ERROR_PARTS: return "the packet does not say where its second part begins, or it begins outside the packet";
     case MVE_ERROR_NO_SIZE: return "the film ends without a frame size";
     case MVE_ERROR_POSITION: return "the position lies outside the picture";
     case MVE_ERROR_PACKET_LENGTH: return "the picture needs a packet longer than an opcode can be";
@@ -623,28 +702,29 @@ enum mve_source {
 /* Where a walk over a film is. It goes into a step, and the next state comes back. Change nothing in it.
 
    A step takes any numbers; left or right above 65,535 is refused (MEMORY). has_map, unsent, has_format, stereo, wide,
-   compressed and begun are flags: one that is not 0 counts as 1. Where has_map is 0, map_start and map_length are not used;
-   where has_format is 0, nothing behind it is. The state that comes back with MVE_TAKEN or MVE_WHOLE has 0 or 1 in each
-   flag, and 0 in each field that is not used. With MVE_UNFINISHED, MVE_ENDED and MVE_REFUSED every number comes back as it
-   went in. */
+   compressed, begun and true_colour are flags: one that is not 0 counts as 1. Where has_map is 0, map_start and map_length
+   are not used; where has_format is 0, nothing from there to right is. The state that comes back with MVE_TAKEN or MVE_WHOLE
+   has 0 or 1 in each flag, and 0 in each field that is not used. With MVE_UNFINISHED, MVE_ENDED and MVE_REFUSED every number
+   comes back as it went in. */
 struct mve_state {
-    size_t position;   /* in the film */
+    size_t position;    /* in the film */
     size_t chunk_end;
-    size_t columns;    /* of 8x8 blocks; 0 by 0 before opcode 0x05 */
+    size_t columns;     /* of 8x8 blocks; 0 by 0 before opcode 0x05 */
     size_t rows;
-    size_t front;      /* 0: picture a is shown, 1: picture b */
-    size_t has_map;    /* 0: no map is pending */
-    size_t map_start;  /* the pending map's part of the film */
+    size_t front;       /* 0: picture a is shown, 1: picture b; with true colour 0: c, 1: d, 2: e */
+    size_t has_map;     /* 0: no map is pending */
+    size_t map_start;   /* the pending map's part of the film */
     size_t map_length;
-    size_t unsent;     /* 0: no frame is finished and unsent */
-    size_t stream;     /* of sound; above 15: none */
-    size_t has_format; /* 0: no 0x03 was taken yet */
-    size_t stereo;     /* 0: one channel */
-    size_t wide;       /* 0: 8-bit samples, else 16-bit */
+    size_t unsent;      /* 0: no frame is finished and unsent */
+    size_t stream;      /* of sound; above 15: none */
+    size_t has_format;  /* 0: no 0x03 was taken yet */
+    size_t stereo;      /* 0: one channel */
+    size_t wide;        /* 0: 8-bit samples, else 16-bit */
     size_t compressed;
-    size_t begun;      /* 0: no compressed 0x08 was taken since the last 0x03 */
-    size_t left;       /* the last samples of compressed sound; of one channel, left */
+    size_t begun;       /* 0: no compressed 0x08 was taken since the last 0x03 */
+    size_t left;        /* the last samples of compressed sound; of one channel, left */
     size_t right;
+    size_t true_colour; /* 1: a film with true colour; 0: an 8-bit film, or no size yet */
 };
 
 /* number and block: of a refusal, else 0; block only for 12 to 14. stores: how many the call made (of a check none).
@@ -709,6 +789,13 @@ static inline uint64_t mve_timer(const uint8_t *film, size_t film_length, const 
 static inline uint8_t mve_widened(uint8_t component) {
     unsigned least = component > 63 ? 63 : component;
     return (uint8_t)(least << 2 | least >> 4);
+}
+
+/* A component of a word with true colour, 0 to 31, as 8 bits: the three high bits come again as the low ones, so that 0 is 0
+   and 31 is 255. What is above 31 counts as 31. Of a word w, red is w >> 10 & 31, green w >> 5 & 31 and blue w & 31. */
+static inline uint8_t mve_widened_5(uint8_t component) {
+    unsigned least = component > 31 ? 31 : component;
+    return (uint8_t)(least << 3 | least >> 2);
 }
 
 /* Where a pixel comes from. number: of a refusal, else 0. block: the pixel's, or that of a refusal. code: the block's.
@@ -780,22 +867,31 @@ size_t mve_begin(const uint8_t *film, size_t film_length, size_t stream, struct 
 
 /* One step from the state `from`, by at most `allowed` stores (STOPS). MVE_TAKEN: a chunk's head or an opcode other than
    0x11 was taken. MVE_WHOLE: opcode 0x11 was drawn to its end. MVE_UNFINISHED: a palette, 0x0F or 0x11 ran short of stores;
-   the state stays. a and b are the two pictures; once the size is known, each has at least 64 times columns times rows
-   bytes. The place starts at 0. Only sound writes to the room. A step is refused by 2 to 19. from_numbers is
-   MVE_STATE_NUMBERS. `form` is MVE_DEFAULT or MVE_STRICT: at opcode 0x11 a packet may leave one byte over, or none. */
+   the state stays. a and b are the pictures of an 8-bit film, c, d and e those of a film with true colour, their lengths in
+   words; once the size is known, each of the film's own kind has at least 64 times columns times rows bytes or words. The
+   others are not read and stay as they are; they may be of length 0, and their addresses are not null. The place starts at
+   0. Only sound writes to the room. A step is refused by 2 to 20. from_numbers is MVE_STATE_NUMBERS. `form` is MVE_DEFAULT
+   or MVE_STRICT: at opcode 0x11 a packet may leave one byte over, or none. */
 size_t mve_step(const uint8_t *film, size_t film_length, const struct mve_state *from, size_t from_numbers,
                 struct mve_stepped *out, size_t out_numbers, uint8_t *palette, size_t palette_length,
-                uint8_t *a, size_t a_length, uint8_t *b, size_t b_length, size_t *place,
-                uint8_t *room, size_t room_length, size_t allowed, size_t form);
+                uint8_t *a, size_t a_length, uint8_t *b, size_t b_length, uint16_t *c, size_t c_length,
+                uint16_t *d, size_t d_length, uint16_t *e, size_t e_length, size_t *place, uint8_t *room,
+                size_t room_length, size_t allowed, size_t form);
 
-/* How many bytes of the front picture (a where from->front is 0, b where it is 1) are shown: 64 times columns times rows
-   (8 times columns for each row of pixels), or 0 where no size is known yet, front is above 1, the size is not one that 0x05
-   may give, that picture is shorter, or from is no state (MEMORY). */
+/* How many bytes of the front picture of an 8-bit film (a where from->front is 0, b where it is 1) are shown: 64 times
+   columns times rows (8 times columns for each row of pixels), or 0 where no size is known yet, front is above 1, the size
+   is not one that 0x05 may give, that picture is shorter, the film has true colour, or from is no state (MEMORY). */
 size_t mve_shown(const struct mve_state *from, size_t from_numbers, const uint8_t *a, size_t a_length,
                  const uint8_t *b, size_t b_length);
 
-/* Whether a packet is accepted for a picture of columns by rows blocks: MVE_ACCEPTED with the rows that it touches, or
-   MVE_REFUSED by 6, 10, 12 to 15. */
+/* How many words of the front picture of a film with true colour (c where from->front is 0, d where it is 1, e where it is
+   2) are shown: 64 times columns times rows, or 0 where no size is known yet, front is above 2, the size is not one that
+   0x05 may give, that picture is shorter, the film is 8-bit, or from is no state (MEMORY). */
+size_t mve_shown_words(const struct mve_state *from, size_t from_numbers, const uint16_t *c, size_t c_length,
+                       const uint16_t *d, size_t d_length, const uint16_t *e, size_t e_length);
+
+/* Whether a packet of an 8-bit film is accepted for a picture of columns by rows blocks: MVE_ACCEPTED with the rows that it
+   touches, or MVE_REFUSED by 6, 10, 12 to 15. */
 struct mve_answer mve_check(size_t columns, size_t rows, const uint8_t *map, size_t map_length,
                             const uint8_t *data, size_t data_length);
 
@@ -803,8 +899,8 @@ struct mve_answer mve_check(size_t columns, size_t rows, const uint8_t *map, siz
 struct mve_answer mve_check_strict(size_t columns, size_t rows, const uint8_t *map, size_t map_length,
                                    const uint8_t *data, size_t data_length);
 
-/* Draws a packet on `back`, a picture of columns by rows blocks, from the block *place on, by at most `allowed` stores:
-   MVE_WHOLE, MVE_UNFINISHED, or MVE_REFUSED by 6, 8, 10 to 15. A call that is refused makes no store. */
+/* Draws a packet of an 8-bit film on `back`, a picture of columns by rows blocks, from the block *place on, by at most
+   `allowed` stores: MVE_WHOLE, MVE_UNFINISHED, or MVE_REFUSED by 6, 8, 10 to 15. A call that is refused makes no store. */
 struct mve_answer mve_draw(size_t columns, size_t rows, const uint8_t *map, size_t map_length,
                            const uint8_t *data, size_t data_length, const uint8_t *front,
                            size_t front_length, uint8_t *back, size_t back_length, size_t *place,
@@ -816,9 +912,34 @@ struct mve_answer mve_draw_strict(size_t columns, size_t rows, const uint8_t *ma
                                   size_t front_length, uint8_t *back, size_t back_length, size_t *place,
                                   size_t allowed);
 
-/* Which byte or pixel gives the pixel at x, y its value, in the picture of columns by rows blocks that a packet gives where
-   front and back are as mve_draw finds them at place 0: MVE_FOUND, or MVE_REFUSED by 6, 8, 10, 12 to 15, then 22. One byte
-   may be left over. Nothing is drawn. */
+/* Whether a packet with true colour is accepted for a picture of columns by rows blocks: MVE_ACCEPTED with the rows that it
+   touches, all of them, or MVE_REFUSED by 6, 10, 20, 13 to 15. The packet, data, begins with its offset (THE PACKET WITH
+   TRUE COLOUR). */
+struct mve_answer mve_check_words(size_t columns, size_t rows, const uint8_t *map, size_t map_length,
+                                  const uint8_t *data, size_t data_length);
+
+/* The strict form of mve_check_words: one byte left over in the second part is refused by refusal 15, too. */
+struct mve_answer mve_check_words_strict(size_t columns, size_t rows, const uint8_t *map, size_t map_length,
+                                         const uint8_t *data, size_t data_length);
+
+/* Draws a packet with true colour on `drawn`, a picture of columns by rows blocks, from the block *place on, by at most
+   `allowed` stores: MVE_WHOLE, MVE_UNFINISHED, or MVE_REFUSED by 6, 8, 10, 11, 20, 13 to 15. `last` is the picture that is
+   shown and `oldest` the one that was shown before it; both are only read, and may be the same memory. The lengths of the
+   three are counted in words. A call that is refused makes no store. */
+struct mve_answer mve_draw_words(size_t columns, size_t rows, const uint8_t *map, size_t map_length,
+                                 const uint8_t *data, size_t data_length, const uint16_t *last, size_t last_length,
+                                 const uint16_t *oldest, size_t oldest_length, uint16_t *drawn, size_t drawn_length,
+                                 size_t *place, size_t allowed);
+
+/* The strict form of mve_draw_words: one byte left over in the second part is refused by refusal 15, too. */
+struct mve_answer mve_draw_words_strict(size_t columns, size_t rows, const uint8_t *map, size_t map_length,
+                                        const uint8_t *data, size_t data_length, const uint16_t *last, size_t last_length,
+                                        const uint16_t *oldest, size_t oldest_length, uint16_t *drawn,
+                                        size_t drawn_length, size_t *place, size_t allowed);
+
+/* Which byte or pixel gives the pixel at x, y its value, in the picture of columns by rows blocks that an 8-bit packet gives
+   where front and back are as mve_draw finds them at place 0: MVE_FOUND, or MVE_REFUSED by 6, 8, 10, 12 to 15, then 22. One
+   byte may be left over. Nothing is drawn. */
 struct mve_traced mve_origin(size_t columns, size_t rows, const uint8_t *map, size_t map_length,
                              const uint8_t *data, size_t data_length, const uint8_t *front,
                              size_t front_length, const uint8_t *back, size_t back_length, size_t x,
@@ -836,9 +957,9 @@ struct mve_salvaged mve_salvage(const uint8_t *film, size_t film_length, uint8_t
 struct mve_stripped mve_strip(const uint8_t *film, size_t film_length, size_t stream, uint8_t *room,
                               size_t room_length);
 
-/* Writes map and body that give the wanted picture (PICTURES OF YOUR OWN). Reads wanted, front and back. Refused by 6 for
-   the size, 8 where one of the three pictures is shorter than it, 23 where the body would be too long, 19 where map or body
-   is too short; both are then as they were. What lies in them behind what is written stays. */
+/* Writes map and body of an 8-bit film that give the wanted picture (PICTURES OF YOUR OWN). Reads wanted, front and back.
+   Refused by 6 for the size, 8 where one of the three pictures is shorter than it, 23 where the body would be too long, 19
+   where map or body is too short; both are then as they were. What lies in them behind what is written stays. */
 struct mve_encoded mve_encode(size_t columns, size_t rows, const uint8_t *wanted, size_t wanted_length,
                               const uint8_t *front, size_t front_length, const uint8_t *back, size_t back_length,
                               uint8_t *map, size_t map_length, uint8_t *body, size_t body_length);

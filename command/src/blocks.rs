@@ -23,13 +23,15 @@ The film is played until it sends picture PICTURE. OUT.png is that picture witho
 each of its blocks of 8x8 pixels has that of its code instead, a quarter as bright where the
 picture is black. A legend below has the colour of each code, its digit and how many blocks have
 it. Standard output has the same in words. Where a picture is drawn more than once before it is
-sent, the last drawing is shown.
+sent, the last drawing is shown. Films with true colour, whose codes mean other things, are not
+shown.
 
 ";
 
 const STATUS: &str = "
 Exit status: 0 if the picture is written, 1 if the film is refused before the picture or does
-not send it, 2 if a file cannot be read or written or the command is used wrongly.";
+not send it, 2 if the film has true colour, a file cannot be read or written or the command is
+used wrongly.";
 
 /// The widest result for small pictures, and the largest pixel.
 const WIDE: usize = 640;
@@ -64,7 +66,7 @@ fn run(matches: &ArgMatches) -> Result<u8, Failure> {
     let target = arguments::path(matches, "output").unwrap_or(path);
     overwrite.check(target)?;
     let film = film::read(path).map_err(|unread| unread.failure(path))?;
-    let played = Played::to(path, &film, wanted)?;
+    let played = Played::to(path, &film, wanted, SUBCOMMAND.name)?;
     let codes = played.drawings.last().map(codes_of).unwrap_or_default();
     let picture = played.picture();
     let canvas = painted(&picture, &codes);

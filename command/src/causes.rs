@@ -1,7 +1,7 @@
 //! Some numbers of refusal have several causes. Which one it is stands in the film, where the refused
 //! step began. The number is the library's; these words are not proved.
 
-use crate::opcodes::{kind, Opcode, HEAD};
+use crate::opcodes::{kind, Opcode, HEAD, SKIPPED};
 use mve::{Error, Sound, State};
 
 /// The cause, where the number has more than one.
@@ -50,11 +50,14 @@ fn of_opcode(opcode: &Opcode<'_>, state: &State, error: Error) -> Option<String>
     let length = body.len();
     match error {
         Error::Type if matches!(kind, 0x06 | 0x0E | 0x10 | 0x16..) => {
-            Some(format!("opcode 0x{kind:02X} is not one of an 8-bit film"))
+            Some(format!("opcode 0x{kind:02X} is not one that the player takes"))
         }
         Error::Type => Some(format!("opcode 0x{kind:02X} has no version {version}")),
         Error::BodyLength if matches!(kind, kind::PALETTE | kind::PALETTE_MASKS) => {
             Some(format!("opcode 0x{kind:02X} does not fill its {length} bytes exactly"))
+        }
+        Error::BodyLength if kind == kind::VIDEO && state.true_colour => {
+            Some(format!("opcode 0x11 of a film with true colour cannot have {length} bytes"))
         }
         Error::BodyLength => {
             Some(format!("opcode 0x{kind:02X}, version {version}, cannot have {length} bytes"))
@@ -65,6 +68,7 @@ fn of_opcode(opcode: &Opcode<'_>, state: &State, error: Error) -> Option<String>
             Some("a picture comes before the size of the pictures".into())
         }
         Error::NoFrame => Some("a picture comes without the map of its blocks' codes".into()),
+        Error::Parts => parts(opcode),
         Error::SoundFormat if kind == kind::SOUND_FORMAT => {
             Some("the sound is both 8-bit and compressed".into())
         }
@@ -77,12 +81,20 @@ fn of_opcode(opcode: &Opcode<'_>, state: &State, error: Error) -> Option<String>
 fn size(opcode: &Opcode<'_>, state: &State) -> Option<String> {
     let [columns, rows] = [opcode.word(0)?, opcode.word(1)?];
     let is_second = state.columns > 0;
-    let is_true_colour = opcode.version == 2 && opcode.word(3) != Some(0);
-    Some(match (is_second, is_true_colour) {
-        (true, _) => "the size of the pictures is given a second time".into(),
-        (false, true) => "the pictures have 16-bit colours (true colour)".into(),
-        _ => format!("pictures of {columns}x{rows} blocks: 1x1 to 80x60 are possible"),
+    Some(match is_second {
+        true => "the size of the pictures is given a second time".into(),
+        false => format!("pictures of {columns}x{rows} blocks: 1x1 to 80x60 are possible"),
     })
+}
+
+/// The packet's offset, which leads outside.
+fn parts(opcode: &Opcode<'_>) -> Option<String> {
+    let packet = opcode.body.get(SKIPPED..)?;
+    let offset = u16::from_le_bytes(*packet.first_chunk()?);
+    let length = packet.len();
+    Some(format!(
+        "the second part of the packet is said to begin at byte {offset}: 2 to {length} are possible"
+    ))
 }
 
 fn palette(opcode: &Opcode<'_>) -> Option<String> {

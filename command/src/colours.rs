@@ -7,6 +7,44 @@ pub fn widened(palette: &[u8; PALETTE_BYTES]) -> [u8; PALETTE_BYTES] {
     palette.map(mve::widened)
 }
 
+/// A palette of at most 256 colours for words of 15 bits, components of 8 bits, with an entry for each word; and
+/// whether it has just their colours, which stand in rising order. Else it is fixed: an entry has the three high
+/// bits of red, then of green, then the two of blue, and what is lost is not dithered.
+pub fn indexed(words: &[u16]) -> (Vec<u8>, [u8; PALETTE_BYTES], bool) {
+    let mut colours: Vec<u16> = words.iter().map(|word| word % TRUE_COLOURS).collect();
+    colours.sort_unstable();
+    colours.dedup();
+    let mut palette = [0; PALETTE_BYTES];
+    let is_exact = colours.len() <= PALETTE_BYTES / 3;
+    if is_exact {
+        let entry = |word: u16| colours.partition_point(|&colour| colour < word % TRUE_COLOURS);
+        let pixels = words.iter().map(|&word| entry(word) as u8).collect();
+        for (entry, &colour) in palette.chunks_exact_mut(3).zip(&colours) {
+            entry.copy_from_slice(&mve::word_colour(colour));
+        }
+        return (pixels, palette, true);
+    }
+    let pixels = words.iter().map(|&word| reduced(word)).collect();
+    for (number, entry) in (0..=255).zip(palette.chunks_exact_mut(3)) {
+        entry.copy_from_slice(&reduced_colour(number));
+    }
+    (pixels, palette, false)
+}
+
+/// How many colours words of 15 bits have.
+const TRUE_COLOURS: u16 = 1 << 15;
+
+/// The entry of a word in the fixed palette.
+fn reduced(word: u16) -> u8 {
+    (word >> 12 & 7) as u8 * 32 + (word >> 7 & 7) as u8 * 4 + (word >> 3 & 3) as u8
+}
+
+/// The colour of an entry in the fixed palette: from 0 to 255 in even steps, rounded down.
+fn reduced_colour(entry: u8) -> [u8; 3] {
+    let [red, green, blue] = [entry / 32, entry / 4 % 8, entry % 4].map(u32::from);
+    [red * 255 / 7, green * 255 / 7, blue * 85].map(|component| component as u8)
+}
+
 /// What a component of 16 bits has for each one of 8.
 const SIXTEEN: i32 = 257;
 
@@ -67,6 +105,27 @@ mod tests {
             assert_eq!(exact, far(found) == 0, "{component}");
         }
         assert_eq!((narrow(-9).0, narrow(99_999).0), (0, 63));
+    }
+
+    /// Up to 256 colours are kept; more are reduced, black and white to themselves.
+    #[test]
+    fn palettes_of_words() {
+        let few: Vec<u16> = (0..256).map(|number| 0x8000 + 127 * (255 - number)).collect();
+        let (pixels, palette, is_exact) = indexed(&few);
+        assert!(is_exact && pixels.iter().rev().copied().eq(0..=255));
+        for (&word, &pixel) in few.iter().zip(&pixels) {
+            assert_eq!(palette[3 * usize::from(pixel)..][..3], mve::word_colour(word));
+        }
+        let many: Vec<u16> = (0..TRUE_COLOURS).collect();
+        let (pixels, palette, is_exact) = indexed(&many);
+        assert!(!is_exact);
+        for (word, &pixel) in (0..TRUE_COLOURS).zip(&pixels) {
+            let colour = &palette[3 * usize::from(pixel)..][..3];
+            let far = |part: usize| colour[part].abs_diff(mve::word_colour(word)[part]);
+            assert!(far(0) < 37 && far(1) < 37 && far(2) < 86, "{word:04x}: {colour:?}");
+        }
+        assert_eq!((palette[..3].to_vec(), palette[765..].to_vec()), (vec![0; 3], vec![255; 3]));
+        assert_eq!((pixels[0], pixels[0x7FFF], pixels[0x7C00], pixels[0x1F]), (0, 255, 0xE0, 3));
     }
 
     /// The colour bars of BT.601 at full brightness.

@@ -64,9 +64,14 @@ pub struct Played<'a> {
 }
 
 impl<'a> Played<'a> {
-    /// Plays a film until it sends the picture with this number, counted from 0.
-    pub fn to(path: &Path, film: &'a [u8], number: usize) -> Result<Played<'a>, Failure> {
-        Played::holding(path, film, number, 0)
+    /// Plays an 8-bit film until it sends the picture with this number, counted from 0, for this subcommand.
+    pub fn to(
+        path: &Path,
+        film: &'a [u8],
+        number: usize,
+        subcommand: &'static str,
+    ) -> Result<Played<'a>, Failure> {
+        Played::holding(path, film, number, 0, subcommand)
     }
 
     /// The same, and holds so many pictures as they were drawn.
@@ -75,6 +80,7 @@ impl<'a> Played<'a> {
         film: &'a [u8],
         number: usize,
         pictures: usize,
+        subcommand: &'static str,
     ) -> Result<Played<'a>, Failure> {
         let refused =
             |refused: Refused, sent| Failure::Refused(path.into(), refused, Kept::OnlyBefore(sent));
@@ -87,6 +93,9 @@ impl<'a> Played<'a> {
             let Some(passed) = walk.pass().map_err(|why| refused(why, sent))? else {
                 return Err(Failure::NotSent(path.into(), sent));
             };
+            if walk.state().true_colour {
+                return Err(Failure::TrueColour(path.into(), subcommand));
+            }
             let video = passed.opcode.filter(|opcode| opcode.kind == kind::VIDEO);
             if let (Some(video), Some((start, length))) = (video, before.map) {
                 drawings.push(Drawing {

@@ -33,7 +33,8 @@ than one in a table:
                  stays for the usual 66728 microseconds, and the number has a star
   SOUND          samples a second, channels x bits, c where the film has it compressed, + where
                  another format follows; then the streams that have sound
-  PALETTE        opcodes that change the palette
+  PALETTE        opcodes that change the palette; 15-bit of a film with true colour, which has
+                 15 bits a pixel and no palette
   RESULT         plays, or the number of the refusal; below the table in words
 
 Of one film it is also told what players differ in: pictures that are drawn and never sent,

@@ -31,7 +31,7 @@ pub fn row(name: &str, report: &Report) -> [String; HEADS.len()] {
         report.pictures.to_string(),
         seconds(report, 2),
         short_sound(report),
-        report.palette_changes.to_string(),
+        if report.true_colour { "15-bit".into() } else { report.palette_changes.to_string() },
         report.bytes.to_string(),
         result,
     ]
@@ -57,7 +57,7 @@ pub fn lines(name: &str, stream: usize, report: &Report) -> String {
         ("pictures", format!("{} sent", report.pictures)),
         ("duration", duration(report)),
         ("sound", sound(report)),
-        ("palette", palette(report.palette_changes)),
+        ("palette", palette(report)),
         ("bytes", report.bytes.to_string()),
         ("result", result(report)),
     ];
@@ -134,8 +134,14 @@ fn size(report: &Report) -> String {
     })
 }
 
-fn palette(changes: usize) -> String {
-    format!("{changes} {}", plural(changes, "change", "changes"))
+/// How often the palette changes; of true colour also that it has none.
+fn palette(report: &Report) -> String {
+    let changes = report.palette_changes;
+    let changes = format!("{changes} {}", plural(changes, "change", "changes"));
+    match report.true_colour {
+        true => format!("none: true colour, 15 bits a pixel ({changes} that no pixel reads)"),
+        false => changes,
+    }
 }
 
 /// The duration, rounded; with a star where the timer is assumed.
@@ -200,6 +206,7 @@ pub fn object(name: &str, stream: usize, report: &Report) -> Value {
         "file": name,
         "bytes": report.bytes,
         "size": size,
+        "true_colour": report.true_colour,
         "pictures": report.pictures,
         "duration_us": report.clock.elapsed(),
         "pictures_a_second": report.pictures_a_second().map(|rate| rate as f64 / 1000.0),

@@ -48,6 +48,8 @@ pub enum Failure {
     NoPicture(PathBuf, usize),
     /// A film that does not send the picture that is asked for: it sends so many.
     NotSent(PathBuf, usize),
+    /// A film with true colour, where an 8-bit one is needed by this subcommand.
+    TrueColour(PathBuf, &'static str),
     /// A position outside the film's pictures, which are so wide and high.
     Outside(PathBuf, u16, u16),
     /// A film without sound in the stream, and the streams that it has.
@@ -185,6 +187,11 @@ impl fmt::Display for Failure {
             Failure::NotSent(path, count) => {
                 let (path, last) = (name(path), count - 1);
                 write!(f, "{path}: the film sends pictures 0 to {last} only: give one of these")
+            }
+            Failure::TrueColour(path, subcommand) => {
+                let path = name(path);
+                write!(f, "{path}: has true colour, and mve {subcommand} is for 8-bit films: ")?;
+                write!(f, "mve play shows its pictures")
             }
             Failure::Outside(path, width, height) => {
                 let (path, right, bottom) = (name(path), width - 1, height - 1);

@@ -76,6 +76,11 @@ impl<'a> Opcode<'a> {
         self.word(2).filter(|_| self.kind == kind::SOUND_FORMAT)
     }
 
+    /// Whether the size is that of a film with true colour.
+    pub fn true_colour(&self) -> bool {
+        self.kind == kind::SIZE && self.version == 2 && self.word(3).is_some_and(|word| word != 0)
+    }
+
     /// The streams that sound is for, a bit each. Silence (opcode 09) has a mask, too, but it fills up
     /// the streams that a film does not have.
     pub fn streams(&self) -> Option<u16> {

@@ -32,6 +32,11 @@ Colours. A film's colours have 6 bits a component, 0 to 63. They are widened to 
 indices, so every pixel is exact. Y4M is 4:4:4: YCbCr by ITU-R BT.601 in limited range, each
 number rounded to the nearest.
 
+True colour. A film with true colour has 5 bits a component, which are widened as
+(v << 3) | (v >> 2). Its PNG pictures have red, green and blue, and every pixel is exact. A GIF
+has 256 colours a picture: where a picture has no more, each has its own, else only the high
+bits are kept, 3 of red, 3 of green and 2 of blue, which is told.
+
 Times. A picture stays for the microseconds that the last timer (opcode 0x02) before it says;
 see mve info --help. A GIF counts in 1/100 s: what is lost by rounding is carried on to the
 next picture. Y4M has one time for all pictures, that of the first.

@@ -2,7 +2,7 @@
 //! also behind a refusal. Heads are walked as far as they go; nothing here is proved.
 
 use crate::opcodes::{kind, Opcode, HEAD, SKIPPED};
-use mve::{Error, State};
+use mve::{Error, Refusal, Rows, State};
 
 const HEADER: usize = 26;
 
@@ -46,6 +46,7 @@ struct Count<'a> {
     stream: usize,
     format: Option<Format>,
     size: Option<(usize, usize)>,
+    true_colour: bool,
     map: Option<&'a [u8]>,
     is_unsent: bool,
 }
@@ -88,6 +89,7 @@ impl<'a> Count<'a> {
                 let [columns, rows] =
                     [opcode.word(0), opcode.word(1)].map(|word| word.map(usize::from));
                 self.size = columns.zip(rows);
+                self.true_colour = opcode.true_colour();
             }
             kind::MAP => self.map = Some(opcode.body),
             kind::VIDEO => self.take_picture(opcode),
@@ -113,7 +115,9 @@ impl<'a> Count<'a> {
         self.readings.unsent += usize::from(self.is_unsent);
         self.is_unsent = true;
         let left = self.size.zip(self.map.take()).zip(opcode.body.get(SKIPPED..));
-        let Some(left) = left.and_then(|((size, map), data)| left_over(size, map, data)) else {
+        let strict = if self.true_colour { mve::check_words_strict } else { mve::check_strict };
+        let Some(left) = left.and_then(|((size, map), data)| left_over(strict, size, map, data))
+        else {
             return;
         };
         self.readings.left_over[left.min(2)] += 1;
@@ -149,10 +153,18 @@ impl Format {
     }
 }
 
-/// The bytes that a packet leaves over, where nothing else is wrong with it. The strict check refuses
-/// them by 15, and too few by 13: halving finds the length that it accepts.
-fn left_over((columns, rows): (usize, usize), map: &[u8], data: &[u8]) -> Option<usize> {
-    let check = |length: usize| mve::check_strict(columns, rows, map, &data[..length]);
+/// The strict check of a packet.
+type Check = fn(usize, usize, &[u8], &[u8]) -> Result<Option<Rows>, Refusal>;
+
+/// The bytes that a packet leaves over at its end, where nothing else is wrong with it. The strict check
+/// refuses them by 15, and too few by 13 or, of true colour, by 20: halving finds the length that it accepts.
+fn left_over(
+    strict: Check,
+    (columns, rows): (usize, usize),
+    map: &[u8],
+    data: &[u8],
+) -> Option<usize> {
+    let check = |length: usize| strict(columns, rows, map, &data[..length]);
     match check(data.len()) {
         Ok(_) => return Some(0),
         Err(refusal) if refusal.error != Error::DataLeft => return None,
@@ -161,8 +173,10 @@ fn left_over((columns, rows): (usize, usize), map: &[u8], data: &[u8]) -> Option
     let (mut low, mut high) = (0, data.len());
     while low < high {
         let middle = low + (high - low) / 2;
-        let is_short = check(middle).is_err_and(|refusal| refusal.error == Error::DataShort);
+        let is_short = check(middle)
+            .is_err_and(|refusal| matches!(refusal.error, Error::DataShort | Error::Parts));
         (low, high) = if is_short { (middle + 1, high) } else { (low, middle) };
     }
-    Some(data.len() - low)
+    // Else it is the first part of a packet with true colour that has bytes left over.
+    check(low).is_ok().then(|| data.len() - low)
 }

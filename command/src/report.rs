@@ -14,6 +14,8 @@ pub struct Report {
     pub bytes: u64,
     /// Columns and rows of blocks.
     pub size: Option<(usize, usize)>,
+    /// Whether the pictures have true colour, 15 bits a pixel.
+    pub true_colour: bool,
     /// Pictures sent.
     pub pictures: usize,
     pub clock: Clock,
@@ -64,6 +66,7 @@ impl Report {
         let Some(opcode) = passed.opcode else { return };
         self.clock.take(passed.timer);
         self.size = (after.columns > 0).then_some((after.columns, after.rows));
+        self.true_colour = after.true_colour;
         if passed.sent {
             self.pictures += 1;
             self.clock.show();

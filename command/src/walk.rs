@@ -3,7 +3,7 @@
 
 use crate::opcodes::Opcode;
 use crate::refusals::Refused;
-use mve::{Form, State, Step, PALETTE_BYTES, PICTURE_BYTES};
+use mve::{Form, Pictures, State, Step, PALETTE_BYTES, PICTURE_BYTES, PICTURE_WORDS};
 
 /// How a film is walked.
 #[derive(Clone, Copy, Debug)]
@@ -22,8 +22,10 @@ pub struct Walk<'a> {
     rules: Rules,
     state: State,
     palette: [u8; PALETTE_BYTES],
-    a: Vec<u8>,
-    b: Vec<u8>,
+    /// Of an 8-bit film.
+    bytes: [Vec<u8>; 2],
+    /// Of a film with true colour; empty until the film has told that it has it.
+    words: [Vec<u16>; 3],
     place: usize,
     room: Vec<u8>,
     stops: usize,
@@ -50,8 +52,10 @@ pub struct Picture<'a> {
     /// In pixels.
     pub width: u16,
     pub height: u16,
-    /// A palette entry for each pixel, row by row.
+    /// Of an 8-bit film a palette entry for each pixel, row by row; else empty.
     pub pixels: &'a [u8],
+    /// Of a film with true colour a word for each pixel, row by row; else empty.
+    pub words: &'a [u16],
     /// 256 entries of red, green and blue, 0 to 63.
     pub palette: &'a [u8; PALETTE_BYTES],
 }
@@ -61,6 +65,12 @@ impl Picture<'_> {
     pub fn colour(&self, entry: u8) -> [u8; 3] {
         let at = 3 * usize::from(entry);
         [self.palette[at], self.palette[at + 1], self.palette[at + 2]]
+    }
+
+    /// Red, green and blue of each pixel, 8 bits each, row by row.
+    pub fn rgb(&self) -> impl Iterator<Item = [u8; 3]> + '_ {
+        let entries = self.pixels.iter().map(|&entry| mve::colour(self.palette, entry));
+        entries.chain(self.words.iter().copied().map(mve::word_colour))
     }
 }
 
@@ -73,8 +83,8 @@ impl<'a> Walk<'a> {
             rules,
             state,
             palette: [0; PALETTE_BYTES],
-            a: vec![0; PICTURE_BYTES],
-            b: vec![0; PICTURE_BYTES],
+            bytes: [(); 2].map(|()| vec![0; PICTURE_BYTES]),
+            words: Default::default(),
             place: 0,
             room: vec![0; mve::ROOM_BYTES],
             stops: 0,
@@ -100,6 +110,9 @@ impl<'a> Walk<'a> {
             }
         };
         self.state = after;
+        if after.true_colour && !before.true_colour {
+            self.words = [(); 3].map(|()| vec![0; PICTURE_WORDS]);
+        }
         let sent = mve::is_sent(&before, &after);
         let opcode = Opcode::at(self.film, &before);
         let timer = mve::timer(self.film, &before);
@@ -107,9 +120,11 @@ impl<'a> Walk<'a> {
     }
 
     fn step(&mut self, allowed: usize) -> Result<Step, Refused> {
-        let Walk { film, rules, state, palette, a, b, place, room, .. } = self;
-        let form = rules.form;
-        let step = mve::step(film, *state, palette, a, b, place, room, allowed, form);
+        let Walk {
+            film, rules, state, palette, bytes: [a, b], words: [c, d, e], place, room, ..
+        } = self;
+        let (pictures, form) = (&mut Pictures { a, b, c, d, e }, rules.form);
+        let step = mve::step(film, *state, palette, pictures, place, room, allowed, form);
         step.map_err(|refusal| Refused::new(refusal, film, state))
     }
 
@@ -123,15 +138,16 @@ impl<'a> Walk<'a> {
         self.shown_at(&self.state)
     }
 
-    /// The picture that is drawn on.
+    /// The picture of an 8-bit film that is drawn on.
     pub fn drawn(&self) -> Picture<'_> {
         self.shown_at(&State { front: 1 - self.state.front, ..self.state })
     }
 
     fn shown_at(&self, state: &State) -> Picture<'_> {
-        let Walk { palette, a, b, .. } = self;
+        let Walk { palette, bytes: [a, b], words: [c, d, e], .. } = self;
         let [width, height] = [state.width() as u16, state.height() as u16];
-        Picture { width, height, pixels: mve::shown(state, a, b), palette }
+        let (pixels, words) = (mve::shown(state, a, b), mve::shown_words(state, c, d, e));
+        Picture { width, height, pixels, words, palette }
     }
 
     pub fn state(&self) -> &State {

@@ -46,12 +46,14 @@ that were touched; a click on a pixel shows its chain, with the earlier pictures
 bytes of the film. All of it is asked of the library when the page is made, pixel by pixel:
 that takes seconds for a picture of 640x480.
 
+Films with true colour are not explained: the library tells origins in 8-bit packets alone.
+
 ";
 
 const STATUS: &str = "
 Exit status: 0 if the pixel is explained or the page is written, 1 if the film is refused
-before the picture or does not send it, 2 if the position lies outside, a file cannot be read
-or written or the command is used wrongly.";
+before the picture or does not send it, 2 if the position lies outside, the film has true
+colour, a file cannot be read or written or the command is used wrongly.";
 
 fn describe(command: Command) -> Command {
     let number = |id, value| {
@@ -101,7 +103,7 @@ fn write_page(matches: &ArgMatches, target: &Path) -> Result<u8, Failure> {
     let overwrite = Overwrite::new(path, matches.get_flag("force"));
     overwrite.check(target)?;
     let film = film::read(path).map_err(|unread| unread.failure(path))?;
-    let played = Played::holding(path, &film, wanted, page::DRAWINGS)?;
+    let played = Played::holding(path, &film, wanted, page::DRAWINGS, SUBCOMMAND.name)?;
     let page = Page::of(path, &played, wanted);
     page.write(target, &overwrite)?;
     let (target, back_to) = (name(target), page.back_to);
@@ -115,7 +117,7 @@ fn tell_chain(matches: &ArgMatches) -> Result<u8, Failure> {
     let (wanted, x, y) = (number("picture"), number("x"), number("y"));
     let path = arguments::film_path(matches);
     let film = film::read(path).map_err(|unread| unread.failure(path))?;
-    let played = Played::to(path, &film, wanted)?;
+    let played = Played::to(path, &film, wanted, SUBCOMMAND.name)?;
     let picture = played.picture();
     // The packets were drawn, so a position outside is all that can be refused.
     let links = chain(&played.drawings, (x, y))

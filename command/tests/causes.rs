@@ -54,8 +54,8 @@ fn opcodes() {
             "3: opcode 0x07 passes the end of its chunk: it has 5 bytes, and 1 are left",
         ),
         (&[0, 0, 1, 0, 7, 7], "3: opcode 0x01 must be the last of its chunk, and 2 bytes follow"),
-        (&[0, 0, 6, 0], "4: opcode 0x06 is not one of an 8-bit film"),
-        (&[0, 0, 0x16, 0], "4: opcode 0x16 is not one of an 8-bit film"),
+        (&[0, 0, 6, 0], "4: opcode 0x06 is not one that the player takes"),
+        (&[0, 0, 0x16, 0], "4: opcode 0x16 is not one that the player takes"),
         (&[0, 0, 5, 3], "4: opcode 0x05 has no version 3"),
         (&[1, 0, 7, 0, 9], "5: opcode 0x07, version 0, cannot have 1 bytes"),
         (&[5, 0, 0x0C, 0, 0, 0, 0, 0, 9], "5: opcode 0x0C does not fill its 5 bytes exactly"),
@@ -79,8 +79,8 @@ fn sizes() {
         (&[4, 0, 5, 0, 0, 0, 1, 0], "6: pictures of 0x1 blocks: 1x1 to 80x60 are possible"),
         (&[4, 0, 5, 0, 81, 0, 61, 1], "6: pictures of 81x317 blocks: 1x1 to 80x60 are possible"),
         (
-            &[8, 0, 5, 2, 1, 0, 1, 0, 0, 0, 1, 0],
-            "6: the pictures have 16-bit colours (true colour)",
+            &[8, 0, 5, 2, 1, 0, 61, 0, 0, 0, 1, 0],
+            "6: pictures of 1x61 blocks: 1x1 to 80x60 are possible",
         ),
         (&[6, 0, 5, 1, 1, 0, 99, 0, 0, 0], "6: pictures of 1x99 blocks: 1x1 to 80x60 are possible"),
     ];

@@ -102,7 +102,7 @@ fn json_of_the_demonstration() {
     assert_eq!(ran.code, Some(2));
     let expected = format!(
         r#"[{{"file": "film.mve", "bytes": {}, "size": {{"width": 128, "height": 96, "columns": 16,
-        "rows": 12}}, "pictures": 40, "duration_us": 4000000, "pictures_a_second": 10.0,
+        "rows": 12}}, "true_colour": false, "pictures": 40, "duration_us": 4000000, "pictures_a_second": 10.0,
         "timer_assumed": false, "sound":
         [{{"rate": 22050, "channels": 1, "bits": 16, "compressed": false}}], "streams": [0], "stream":
         0, "palette_changes": 10, "plays": true, "refused": null, "readings": {{"sound_packets": 40,
@@ -123,6 +123,7 @@ fn assert_found(found: &Json, film: &[u8], stream: usize, case: &str) -> Option<
     assert_eq!(number("duration_us"), Json::number(second.duration as usize), "{case}");
     assert_eq!(number("palette_changes"), Json::number(second.palette_changes), "{case}");
     assert_eq!(found["timer_assumed"], Json::Bool(second.assumed), "{case}");
+    assert_eq!(found["true_colour"], Json::Bool(second.true_colour), "{case}");
     let unsized_film = (Refusal { number: 21, block: 0 }, film.len());
     let refused = second.refused.or(second.size.is_none().then_some(unsized_film));
     assert_eq!(found["plays"], Json::Bool(refused.is_none()), "{case}");
@@ -209,7 +210,7 @@ fn damaged_films() {
     }
     films.retain(|film| is_clear(film, 3));
     let numbers = assert_films("damaged", 3, &films);
-    assert_eq!(numbers, [1, 2, 3, 4, 5, 6, 7, 9, 10, 12, 13, 14, 17, 18, 21].into());
+    assert_eq!(numbers, [1, 2, 3, 4, 5, 6, 7, 9, 10, 12, 13, 14, 17, 18, 20, 21].into());
 }
 
 /// Rate and subdivision of a timer.

@@ -58,7 +58,13 @@ fn as_the_second_decoder() {
         if expected.ends_with("refused 1 0\n") {
             continue; // such a film is not opened, which is tested below
         }
-        assert_eq!(listed("listed", &film), (expected, Some(i32::from(is_refused))));
+        let listed = listed("listed", &film);
+        if let Some((size, _)) = expected.split_once("refused 8 ") {
+            // With true colour: the command lends pictures of words, and goes on.
+            assert!(listed.0.starts_with(size) && !listed.0.contains("refused 8 "));
+            continue;
+        }
+        assert_eq!(listed, (expected, Some(i32::from(is_refused))));
         *(if is_refused { &mut refused } else { &mut ended }) += 1;
     }
     assert!(ended >= 20 && refused >= 10, "{ended} {refused}");

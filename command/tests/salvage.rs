@@ -62,7 +62,7 @@ impl Expected {
         for (position, length, number) in &self.losses {
             let why = match number {
                 3 => "an opcode or its head passes its chunk, or bytes follow the chunk's last opcode",
-                4 => "this type or version of opcode is not one of an 8-bit film",
+                4 => "this type or version of opcode is not one that the player takes",
                 _ => "the opcode's body has a wrong length",
             };
             let chunk = format!("chunk at byte {position}, length {length}");

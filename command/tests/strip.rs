@@ -280,7 +280,7 @@ fn places() {
     let size = [4, 0, 0x05, 0, 0, 0, 0, 0];
     let cases: [(Vec<u8>, &str); 6] = [
         (chunk(&[&size[..], &[0, 0, 0x06, 0]].concat()),
-            "refusal 4 at byte 50: opcode 0x06 is not one of an 8-bit film."),
+            "refusal 4 at byte 50: opcode 0x06 is not one that the player takes."),
         (chunk(&[&size[..], &[1, 0, 0x03, 0, 9]].concat()),
             "refusal 5 at byte 50: opcode 0x03, version 0, cannot have 1 bytes."),
         (chunk(&[0, 0, 0x01, 0, 7]),

@@ -27,7 +27,8 @@ extern const struct given {
 extern const uint8_t film[];
 
 static struct mve_stepped answer;
-static uint8_t room[1]; /* for samples, of which there are none: sound is passed over */
+static uint8_t room[1];  /* for samples, of which there are none: sound is passed over */
+static uint16_t none[1]; /* no pictures of words: a film with true colour is refused by 8, right behind its size */
 static union record_words next;
 static bool is_copied[2]; /* since the reset: the display has a copy of this picture */
 
@@ -136,7 +137,7 @@ static void send_picture(void) {
 static void take_step(size_t *place, size_t allowed) {
     mve_step(film, given.film_length, &kept_record()->state, MVE_STATE_NUMBERS, &answer, MVE_STEPPED_NUMBERS,
              kept.palette, sizeof kept.palette, kept.pictures[0], sizeof kept.pictures[0], kept.pictures[1],
-             sizeof kept.pictures[1], place, room, sizeof room, allowed, MVE_DEFAULT);
+             sizeof kept.pictures[1], none, 0, none, 0, none, 0, place, room, sizeof room, allowed, MVE_DEFAULT);
 }
 
 /* The step with all its stores, so that it is never unfinished. */

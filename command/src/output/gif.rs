@@ -1,8 +1,9 @@
-//! An animated GIF. Each picture has its palette, so that every colour is exact.
+//! An animated GIF. Each picture has its palette, so that every colour is exact; of pictures with true colour
+//! those of 256 colours at most are.
 
 use super::{Finished, Part, Pictures};
-use crate::colours::widened;
-use crate::messages::Failure;
+use crate::colours::{indexed, widened};
+use crate::messages::{name, Failure};
 use crate::walk::Picture;
 use ::gif::{Encoder, EncodingError, Frame, Repeat};
 use mve::PALETTE_BYTES;
@@ -24,17 +25,19 @@ pub struct Gif {
     begun: Option<(Encoder<Shared>, [u8; PALETTE_BYTES])>,
     /// The microseconds of all pictures so far.
     elapsed: u64,
+    /// How many pictures have more colours than a palette.
+    reduced: usize,
 }
 
 impl Gif {
     pub fn begin(path: &Path) -> Result<Gif, Failure> {
         let (part, file) = Part::file(path)?;
         let file = Shared(Rc::new(RefCell::new(BufWriter::new(file))));
-        Ok(Gif { part, file, begun: None, elapsed: 0 })
+        Ok(Gif { part, file, begun: None, elapsed: 0, reduced: 0 })
     }
 
     fn write(&mut self, picture: &Picture<'_>, interval: u32) -> io::Result<()> {
-        let palette = widened(picture.palette);
+        let (pixels, palette) = self.indices(picture);
         let delay = self.delay(interval);
         let (encoder, first) = match &mut self.begun {
             Some(begun) => begun,
@@ -43,12 +46,22 @@ impl Gif {
         let frame = Frame {
             width: picture.width,
             height: picture.height,
-            buffer: Cow::Borrowed(picture.pixels),
+            buffer: pixels,
             palette: (palette != *first).then(|| palette.to_vec()),
             delay,
             ..Frame::default()
         };
         encoder.write_frame(&frame).map_err(plain)
+    }
+
+    /// A palette of 8 bits a component, and an entry of it for each pixel.
+    fn indices<'p>(&mut self, picture: &Picture<'p>) -> (Cow<'p, [u8]>, [u8; PALETTE_BYTES]) {
+        if picture.words.is_empty() {
+            return (Cow::Borrowed(picture.pixels), widened(picture.palette));
+        }
+        let (pixels, palette, is_exact) = indexed(picture.words);
+        self.reduced += usize::from(!is_exact);
+        (Cow::Owned(pixels), palette)
     }
 
     /// The delay of a picture: what is lost by rounding is carried on to the next.
@@ -65,14 +78,18 @@ impl Pictures for Gif {
     }
 
     fn finish(self: Box<Self>) -> Result<Finished, Failure> {
-        let Gif { part, mut file, begun, .. } = *self;
+        let Gif { part, mut file, begun, reduced, .. } = *self;
         // The encoder writes the last byte when it is dropped, and tells no error: there must be
         // room for it in the buffer.
         let emptied = file.flush();
         drop(begun);
         let flushed = emptied.and_then(|()| file.flush());
         flushed.map_err(|error| Failure::write(&part.target, error))?;
-        Ok(Finished { parts: vec![part], note: None })
+        let have = if reduced == 1 { "picture has" } else { "pictures have" };
+        let words = "more than 256 colours, of which GIF keeps the high bits";
+        let note =
+            (reduced > 0).then(|| format!("{}: {reduced} {have} {words}", name(&part.target)));
+        Ok(Finished { parts: vec![part], note })
     }
 }
 

@@ -1,4 +1,4 @@
-//! PNG pictures in a folder: their indices and their palette as in the film.
+//! PNG pictures in a folder: their indices and their palette as in the film, or their true colours.
 
 use super::{Finished, Overwrite, Part, Pictures};
 use crate::canvas::Canvas;
@@ -37,12 +37,20 @@ impl Pictures for Png {
 fn write(file: File, picture: &Picture<'_>) -> Result<(), EncodingError> {
     let mut file = BufWriter::new(file);
     let mut encoder = Encoder::new(&mut file, picture.width.into(), picture.height.into());
-    encoder.set_color(ColorType::Indexed);
     encoder.set_depth(BitDepth::Eight);
-    encoder.set_palette(widened(picture.palette).to_vec());
-    encoder.set_filter(FilterType::NoFilter); // neighbours of indices are no differences
+    let colours: Vec<u8>; // of a film with true colour
+    let data = if picture.words.is_empty() {
+        encoder.set_color(ColorType::Indexed);
+        encoder.set_palette(widened(picture.palette).to_vec());
+        encoder.set_filter(FilterType::NoFilter); // neighbours of indices are no differences
+        picture.pixels
+    } else {
+        encoder.set_color(ColorType::Rgb);
+        colours = picture.rgb().flatten().collect();
+        &colours
+    };
     let mut writer = encoder.write_header()?;
-    writer.write_image_data(picture.pixels)?;
+    writer.write_image_data(data)?;
     writer.finish()?;
     Ok(file.flush()?)
 }

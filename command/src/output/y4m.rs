@@ -1,7 +1,7 @@
 //! Y4M: uncompressed pictures that players take from a pipe.
 
 use super::{Finished, Part, Pictures};
-use crate::colours::{widened, ycbcr};
+use crate::colours::ycbcr;
 use crate::messages::{name, Failure};
 use crate::walk::Picture;
 use std::io::{self, BufWriter, Write};
@@ -69,12 +69,8 @@ impl Pictures for Y4m {
 
 /// The luma of all pixels, then the blue, then the red difference.
 fn planes(picture: &Picture<'_>) -> Vec<u8> {
-    let palette = widened(picture.palette);
-    let colours: Vec<[u8; 3]> =
-        palette.chunks_exact(3).map(|colour| ycbcr([colour[0], colour[1], colour[2]])).collect();
-    let plane = |part: usize| picture.pixels.iter().map(move |&pixel| (pixel, part));
-    let pixels = (0..3).flat_map(plane);
-    pixels.map(|(pixel, part)| colours[usize::from(pixel)][part]).collect()
+    let colours: Vec<[u8; 3]> = picture.rgb().map(ycbcr).collect();
+    (0..3).flat_map(|part| colours.iter().map(move |colour| colour[part])).collect()
 }
 
 /// A fraction in lowest terms.

@@ -43,8 +43,9 @@ pub fn drawings(film: &[u8]) -> (Vec<Drawing>, Vec<Sent>) {
     loop {
         let before = pictures.clone();
         let [picture_a, picture_b] = &mut pictures;
-        let lent =
-            Lent { palette: &mut palette, picture_a, picture_b, place: &mut place, room: &mut [] };
+        let (palette, place) = (&mut palette, &mut place);
+        let (room, words) = (&mut [], [(); 3].map(|()| &mut [][..])); // an 8-bit film
+        let lent = Lent { palette, picture_a, picture_b, place, room, words };
         let found = state;
         match step(film, state, lent, usize::MAX) {
             Stepped::Whole(after, ..) => {

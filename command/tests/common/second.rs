@@ -1,6 +1,6 @@
 //! What the second decoder finds in a film and plays of it. Times are read here, from opcode 02.
 
-use reference::film::{opcode_head, open, shown, step, Lent, State, Stepped};
+use reference::film::{opcode_head, open, shown, shown_words, step, Lent, State, Stepped};
 use reference::frame::MAX_PIXELS;
 use reference::Refusal;
 
@@ -9,8 +9,10 @@ use reference::Refusal;
 pub struct Sent {
     pub width: usize,
     pub height: usize,
-    /// A palette entry for each pixel.
+    /// Of an 8-bit film a palette entry for each pixel.
     pub pixels: Vec<u8>,
+    /// Of a film with true colour a word for each pixel.
+    pub words: Vec<u16>,
     /// 256 entries of 6-bit components.
     pub palette: Vec<u8>,
     /// When it is shown and for how long, in microseconds.
@@ -24,8 +26,13 @@ impl Sent {
         self.palette.iter().map(|component| component * 4 + component / 16).collect()
     }
 
-    /// Red, green and blue of each pixel.
+    /// Red, green and blue of each pixel. Of a word each has 5 bits: 8 times as much, and a quarter more.
     pub fn rgb(&self) -> Vec<u8> {
+        if !self.words.is_empty() {
+            let components = |&word: &u16| [word / 1024 % 32, word / 32 % 32, word % 32];
+            let wide = |component: u16| (component * 8 + component / 4) as u8;
+            return self.words.iter().flat_map(|word| components(word).map(wide)).collect();
+        }
         let colours = self.colours();
         self.pixels
             .iter()
@@ -85,6 +92,7 @@ pub struct Second {
     pub formats: Vec<Format>,
     pub streams: Vec<usize>,
     pub palette_changes: usize,
+    pub true_colour: bool,
     /// Where the film was refused, and why.
     pub refused: Option<(Refusal, usize)>,
 }
@@ -101,6 +109,7 @@ impl Second {
         let mut state = open(film, stream).map_err(|refusal| (refusal, 0))?;
         let (mut palette, mut place, mut room) = ([0; 768], 0, vec![0; 131_070]);
         let (mut a, mut b) = (vec![0; MAX_PIXELS], vec![0; MAX_PIXELS]);
+        let mut words = [(); 3].map(|()| vec![0; MAX_PIXELS]);
         let mut timer = None;
         loop {
             let before = state;
@@ -110,6 +119,7 @@ impl Second {
                 picture_b: &mut b,
                 place: &mut place,
                 room: &mut room,
+                words: words.each_mut().map(Vec::as_mut_slice),
             };
             let bytes = match step(film, state, lent, 312_000) {
                 Stepped::Refused(refusal) => return Err((refusal, state.position)),
@@ -125,10 +135,12 @@ impl Second {
                 }
             };
             self.size = (state.columns > 0).then_some((state.columns, state.rows));
+            self.true_colour = state.true_colour;
             self.opcode(film, &before, &state, &room[..bytes], &mut timer);
             if state.front != before.front {
-                let picture = shown(&state, &a, &b);
-                self.send(&state, picture, &palette, timer);
+                let pixels = shown(&state, &a, &b);
+                let words = shown_words(&state, words.each_ref().map(Vec::as_slice));
+                self.send(&state, (pixels, words), &palette, timer);
             }
         }
     }
@@ -183,13 +195,20 @@ impl Second {
         }
     }
 
-    fn send(&mut self, state: &State, picture: &[u8], palette: &[u8], timer: Option<u64>) {
+    fn send(
+        &mut self,
+        state: &State,
+        (pixels, words): (&[u8], &[u16]),
+        palette: &[u8],
+        timer: Option<u64>,
+    ) {
         let interval = timer.unwrap_or(66_728);
         self.assumed |= timer.is_none();
         self.sent.push(Sent {
             width: 8 * state.columns,
             height: 8 * state.rows,
-            pixels: picture.to_vec(),
+            pixels: pixels.to_vec(),
+            words: words.to_vec(),
             palette: palette.to_vec(),
             start: self.duration,
             interval,

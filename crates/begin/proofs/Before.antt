@@ -1,7 +1,7 @@
 -- A step where there is no size, by what code found: it draws nothing, whatever is lent.
 -- Assumes nothing.
 use mathlib.Core.Path.{_≡_, refl, sym, ap, _∙_}
-use mathlib.Core.Bool.{Bool, true, false}
+use mathlib.Core.Bool.{Bool, true, false, cond}
 use mathlib.Core.List.{List, [], _∷_, _++_}
 use Prim.Native.Nat.{ℕ, _+_, _-_, _≤_, _<_, zero-le}
 use native.Mathlib.Decide.{ℕ-discrete}
@@ -39,7 +39,7 @@ use Rattle.next.specs.Next.{nextAs, on, standingAt, nextOf, Ready}
 use Rattle.next.specs.Next as found′
 use Rattle.opcodes.specs.declared.Stepped.{Stepped}
 use Rattle.opcodes.specs.Opcodes.{Answer, Step, taken, refused, stored, quiet, steppedAs, quietAnswer, heardStep}
-use Rattle.film.specs.Film.{Lent, withPictures, Outcome, after, part, drawBy, paletteStep, act, actOn, hear, takeOn, stepOf}
+use Rattle.film.specs.Film.{Lent, withPictures, Outcome, after, part, isBodyShort, drawBy, paletteStep, act, actOn, hear, takeOn, shortest, standsAt, stepOf}
 use Rattle.walk.specs.Play.{most}
 use Rattle.film.proofs.Steps as laws
 use Rattle.begin.specs.Begin.{allowance, Course, goes, stops, courseOf, Early, judged}
@@ -58,10 +58,26 @@ module _ (st : State) (kind version : ℕ) (body : List ℕ) (p : ℕ) (x : Step
 
 -- ---- 11
 
-pub undrawn : (m : Map) (film : List ℕ) (st : State) (body : List ℕ) (p : ℕ) (allowed : Allowed) (l : Lent) → st .columns ≡ 0
+-- without a size it is refused, by 5 where the body is too short for a film with true colour
+abbrev pub unable : State → List ℕ → ℕ
+unable st body = cond (isBodyShort (st .deep) (length body)) 5 9
+
+unmapped : (m : Map) (film : List ℕ) (st : State) (body : List ℕ) (p : ℕ) (allowed : Allowed) (l : Lent) → false ≡ isBodyShort (st .deep) (length body) → st .columns ≡ 0
     → after (quiet (refused 9 0)) l ≡ drawBy m film st body p allowed l
-undrawn Missing film st body p allowed l z = laws.no-map Missing film st body p allowed l refl
-undrawn (Part start long) film st body p allowed l z = laws.no-size (Part start long) film st body p allowed l start long refl z
+unmapped Missing film st body p allowed l g z = laws.no-map Missing film st body p allowed l false g refl refl
+unmapped (Part start long) film st body p allowed l g z = laws.no-size (Part start long) film st body p allowed l false g refl start long refl z
+
+undrawn : (m : Map) (film : List ℕ) (st : State) (body : List ℕ) (p : ℕ) (allowed : Allowed) (l : Lent) → st .columns ≡ 0
+    → after (quiet (refused (unable st body) 0)) l ≡ drawBy m film st body p allowed l
+undrawn m film st body p allowed l z = by (isBodyShort (st .deep) (length body)) refl
+  where
+    by : (b : Bool) → b ≡ isBodyShort (st .deep) (length body) → after (quiet (refused (cond b 5 9) 0)) l ≡ drawBy m film st body p allowed l
+    by true g = laws.short-body m film st body p allowed l true g refl
+    by false g = unmapped m film st body p allowed l g z
+
+flat-unable : (st : State) (body : List ℕ) → st .deep ≡ false → unable st body ≡ 9
+unfolding isBodyShort
+flat-unable st body e = rw e
 
 -- what is allowed is enough
 pub ample : most ≤ allowance .stores
@@ -97,8 +113,8 @@ module _ (film : List ℕ) (st : State) (kind version s : ℕ) (body : List ℕ)
   pub acts-map : kind ≡ 15 → after (stored (taken (mapped st p (Part s (p - s)))) 1) (withPictures l (l .first) (l .second) 0) ≡ act film st kind version s body p allowed l
   acts-map e = laws.act-map film st kind version s body p allowed l _ 0 e some refl refl
 
-  pub acts-draw : kind ≡ 17 → st .columns ≡ 0 → after (quiet (refused 9 0)) l ≡ act film st kind version s body p allowed l
-  acts-draw e z = laws.act-draw film st kind version s body p allowed l (quiet (refused 9 0)) (l .first) (l .second) (l .place) e (λ m. undrawn (st .map) film st body p allowed _ z)
+  pub acts-draw : kind ≡ 17 → st .columns ≡ 0 → after (quiet (refused (unable st body) 0)) l ≡ act film st kind version s body p allowed l
+  acts-draw e z = laws.act-draw film st kind version s body p allowed l _ e (undrawn (st .map) film st body p allowed l z)
 
   -- what it answers
   abbrev pub Says : Answer → Type 0
@@ -132,8 +148,8 @@ module _ (film : List ℕ) (st : State) (kind version s : ℕ) (body : List ℕ)
   pub judges-map : (x : State) → kind ≡ 15 → x ≡ mapped st p (Part s (p - s)) → Says (taken x)
   judges-map x e f = says _ (laws.act-map film st kind version s body p allowed l x 0 e some f refl)
 
-  pub judges-draw : kind ≡ 17 → st .columns ≡ 0 → Says (refused 9 0)
-  judges-draw e z = says _ (acts-draw e z)
+  pub judges-draw : kind ≡ 17 → st .columns ≡ 0 → st .deep ≡ false → Says (refused 9 0)
+  judges-draw e z f = ap (λ (n : ℕ). refused n 0) (sym (flat-unable st body f)) ∙ says _ (acts-draw e z)
 
   pub judges-quiet : (x : Step) → (kind ≡ 11 → ⊥) → (kind ≡ 12 → ⊥) → (kind ≡ 13 → ⊥) → (kind ≡ 15 → ⊥) → (kind ≡ 17 → ⊥)
       → x ≡ quiet (quietAnswer (length film) st kind version body p) → Says (x .answer)
@@ -193,37 +209,37 @@ no-area : (columns rows : ℕ) → columns ≡ 0 → area columns rows ≡ 0
 unfolding area legalSize legal
 no-area columns rows z = rw z
 
-all-long : (n a b : ℕ) → lentVerdict 0 n a b ≡ lentVerdict 0 n 0 0
+all-long : (n s : ℕ) → lentVerdict 0 n s ≡ lentVerdict 0 n 0
 unfolding lentVerdict
-all-long n a b = rw (le-ltb a 0 zero-le, le-ltb b 0 zero-le)
+all-long n s = rw (le-ltb s 0 zero-le)
 
-pub same-next : (film : List ℕ) (st : State) (n a b : ℕ) → st .columns ≡ 0 → nextOf film st n a b ≡ nextOf film st n 0 0
+pub same-next : (film : List ℕ) (st : State) (n s : ℕ) → st .columns ≡ 0 → nextOf film st n s ≡ nextOf film st n 0
 unfolding nextOf
-same-next film st n a b z = rw (no-area (st .columns) (st .rows) z, all-long n a b)
+same-next film st n s z = rw (no-area (st .columns) (st .rows) z, all-long n s)
 
 -- what stands there, where the palette has 768 bytes
-pub next-early : (film : List ℕ) (st : State) (a b : ℕ) → Early (length film) st → nextOf film st 768 a b ≡ standingAt (chosen (st .sound .stream)) film (st .cursor)
+pub next-early : (film : List ℕ) (st : State) (s : ℕ) → Early (length film) st → nextOf film st 768 s ≡ standingAt (chosen (st .sound .stream)) film (st .cursor)
 unfolding nextOf on lentVerdict
-next-early film st a b e = rw (e .possible, no-area (st .columns) (st .rows) (e .unsized), le-ltb a 0 zero-le, le-ltb b 0 zero-le)
+next-early film st s e = rw (e .possible, no-area (st .columns) (st .rows) (e .unsized), le-ltb s 0 zero-le)
 
 -- else the step is refused
-pub short-palette : (film : List ℕ) (st : State) (n a b : ℕ) → Early (length film) st → (n ≡ 768 → ⊥) → nextOf film st n a b ≡ found′.refused 8 0
+pub short-palette : (film : List ℕ) (st : State) (n s : ℕ) → Early (length film) st → (n ≡ 768 → ⊥) → nextOf film st n s ≡ found′.refused 8 0
 unfolding nextOf on lentVerdict
-short-palette film st n a b e h = rw (e .possible, ne-eqb n 768 h)
+short-palette film st n s e h = rw (e .possible, ne-eqb n 768 h)
 
 -- an opcode that stands there is there in full
 pub early-ready : (film : List ℕ) (st : State) (b : Bool) (x : Next) (o : Opcode) → Early (length film) st → b ≡ chosen (st .sound .stream) → nextAs x ≡ standingAt b film (st .cursor)
     → x ≡ found.Opcode o → Ready (length film) (st .cursor) o
 early-ready film st b x o e h f q =
-    laws.step-ready film st 768 0 0 x o (f ∙ ap (λ (c : Bool). standingAt c film (st .cursor)) h ∙ sym (next-early film st 0 0 e)) q .1
+    laws.step-ready film st 768 0 x o (f ∙ ap (λ (c : Bool). standingAt c film (st .cursor)) h ∙ sym (next-early film st 0 e)) q .1
 
 module _ (film : List ℕ) (st : State) (y : Early (length film) st) (b : Bool) (h : b ≡ chosen (st .sound .stream)) (x : Next) (e : nextAs x ≡ standingAt b film (st .cursor))
     (l : Lent) (allowed : Allowed) (g : length (l .palette) ≡ 768) where
-  stands : nextAs x ≡ nextOf film st (length (l .palette)) (length (l .first)) (length (l .second))
+  stands : nextAs x ≡ standsAt film st l
   stands =
       e ∙ ap (λ (c : Bool). standingAt c film (st .cursor)) h
-      ∙ sym (next-early film st (length (l .first)) (length (l .second)) y)
-      ∙ ap (λ (m : ℕ). nextOf film st m (length (l .first)) (length (l .second))) (sym g)
+      ∙ sym (next-early film st (shortest st l) y)
+      ∙ ap (λ (m : ℕ). nextOf film st m (shortest st l)) (sym g)
 
   abbrev pub Leads : Course → Type 0
   Leads c = c ≡ courseOf (stepOf film st allowed l .step .answer)
@@ -233,18 +249,18 @@ module _ (film : List ℕ) (st : State) (y : Early (length film) st) (b : Bool) 
 
   pub sees-refusal : (r : Refusal) → x ≡ found.Refused r → Leads (stops (number r) (block r))
   unfolding courseOf
-  sees-refusal r q = leads _ (laws.step-refused film st allowed l x stands r q)
+  sees-refusal r q = leads _ (laws.step-refused film st allowed l x (shortest st l) refl stands r q)
 
   pub sees-end : x ≡ found.Ended → Leads (stops 21 0)
   unfolding courseOf
-  sees-end q = leads _ (laws.step-ended film st allowed l x stands q)
+  sees-end q = leads _ (laws.step-ended film st allowed l x (shortest st l) refl stands q)
 
   pub sees-chunk : (c : Cursor) (y : State) → x ≡ found.Chunk c → y ≡ into st c → Leads (goes y)
   unfolding courseOf
-  sees-chunk c y q f = leads _ (laws.step-chunk film st allowed l x stands c y q f)
+  sees-chunk c y q f = leads _ (laws.step-chunk film st allowed l x (shortest st l) refl stands c y q f)
 
   pub sees-opcode : (o : Opcode) (y : Answer) (c : Course) → x ≡ found.Opcode o → c ≡ courseOf y → y ≡ takeOn film st o allowed l .step .answer → Leads c
-  sees-opcode o y c q f h = f ∙ ap courseOf h ∙ leads _ (laws.step-opcode film st allowed l x stands o _ q refl)
+  sees-opcode o y c q f h = f ∙ ap courseOf h ∙ leads _ (laws.step-opcode film st allowed l x (shortest st l) refl stands o _ q refl)
 
   -- what the step leaves
   abbrev pub Kept : List ℕ → ℕ → Type 0
@@ -254,17 +270,17 @@ module _ (film : List ℕ) (st : State) (y : Early (length film) st) (b : Bool) 
   keeps o f = (ap (λ (o : Outcome). o .lent .palette) f, ap (λ (o : Outcome). o .lent .place) f)
 
   pub keeps-refused : (r : Refusal) → x ≡ found.Refused r → Kept (l .palette) (l .place)
-  keeps-refused r q = keeps _ (laws.step-refused film st allowed l x stands r q)
+  keeps-refused r q = keeps _ (laws.step-refused film st allowed l x (shortest st l) refl stands r q)
 
   pub keeps-ended : x ≡ found.Ended → Kept (l .palette) (l .place)
-  keeps-ended q = keeps _ (laws.step-ended film st allowed l x stands q)
+  keeps-ended q = keeps _ (laws.step-ended film st allowed l x (shortest st l) refl stands q)
 
   pub keeps-chunk : (c : Cursor) → x ≡ found.Chunk c → Kept (l .palette) (l .place)
-  keeps-chunk c q = keeps _ (laws.step-chunk film st allowed l x stands c (into st c) q refl)
+  keeps-chunk c q = keeps _ (laws.step-chunk film st allowed l x (shortest st l) refl stands c (into st c) q refl)
 
   module _ (o : Opcode) (f : x ≡ found.Opcode o) (c : Bool) (i : c ≡ hears b (o .kind)) where
     step-is : (y : Outcome) → y ≡ takeOn film st o allowed l → y ≡ stepOf film st allowed l
-    step-is y j = laws.step-opcode film st allowed l x stands o y f j
+    step-is y j = laws.step-opcode film st allowed l x (shortest st l) refl stands o y f j
 
     pub keeps-sound : c ≡ true → Kept (l .palette) (l .place)
     unfolding hear

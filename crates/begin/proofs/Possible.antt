@@ -1,10 +1,12 @@
--- The first state of an opening is one before a size that 16 accepts: `first-early`. So is every state that a step leads to (`walk`): 16 is never met.
+-- The first state of an opening is one before a size that 16 accepts: `first-early`. So is every state that a step leads to (`walk`): 16 is never met. Before a size no film
+-- has true colour: `early-flat`.
 -- Assumes nothing.
 use mathlib.Core.Path.{_≡_, refl, subst}
+use mathlib.Core.Bool.{true, false, false≢true}
 use mathlib.Core.List.{List}
 use Prim.Native.Nat.{ℕ, _≤_}
 use native.Mathlib.Omega.{arith}
-use borrow.Author.Tests.{ltb-false}
+use borrow.Author.Tests.{eq-eqb, ltb-false}
 use lib.Dec.{ltb}
 use lib.ListN.{length}
 use Rattle.words.proofs.Tests.{first, not-first}
@@ -12,20 +14,28 @@ use Rattle.refusal.specs.Number.{accept}
 use Rattle.draw.specs.declared.Allowed.{Allowed}
 use Rattle.sound.specs.Format.{possibleFormat}
 use Rattle.state.specs.declared.State.{State}
-use Rattle.state.specs.State.{possibleSize, mapInside, possible, stateVerdict}
+use Rattle.state.specs.State.{mostFront, possibleSize, mapInside, possible, stateVerdict}
 use Rattle.opening.specs.Opening.{started, firstState, openingOf, begins}
 use Rattle.opening.specs.Opening as opening
 use Rattle.opcodes.specs.Opcodes.{Answer, taken, whole, unfinished, ended, refused}
 use Rattle.film.specs.Film.{Lent, stepOf}
 use Rattle.walk.specs.Possible.{OfState, Follows}
-use Rattle.walk.proofs.Possible.{Kept, accepts}
+use Rattle.walk.proofs.Possible.{Kept, kept-is, accepts, unsized-flat}
 use Rattle.walk.proofs.Possible as walk
 use Rattle.begin.specs.Begin.{goes, courseOf, Early}
+
+-- ---- a state before a size
+
+pub early-flat : (film : ℕ) (st : State) → Early film st → st .deep ≡ false
+unfolding possible
+early-flat film st y =
+    let a = first (possibleSize (st .deep) (st .columns) (st .rows)) _ _ _ false≢true (kept-is st film (y .possible) .rest) in
+    unsized-flat (st .deep) (st .columns) (st .rows) (eq-eqb _ _ (y .unsized)) (a .0)
 
 -- ---- the first state
 
 kept-first : (film stream : ℕ) → Kept film (firstState stream)
-unfolding firstState mapInside possible possibleSize possibleFormat
+unfolding firstState mapInside mostFront possible possibleSize possibleFormat
 kept-first film stream = record { map = refl; front = omega arith; rest = refl }
 
 early-first : (film stream : ℕ) → 26 ≤ film → Early film (firstState stream)

@@ -15,9 +15,9 @@ use Rattle.sound.specs.Format.{chosen}
 use Rattle.state.specs.declared.State.{State}
 use Rattle.heads.specs.declared.Opcode.{Opcode}
 use Rattle.heads.specs.Heads.{hears}
-use Rattle.next.specs.Next.{Standing, nextOf}
+use Rattle.next.specs.Next.{Standing}
 use Rattle.next.specs.Next as found
-use Rattle.film.specs.Film.{Lent, Outcome, part, act, actOn, hear, takeOn, standing, stepOf}
+use Rattle.film.specs.Film.{Lent, Outcome, part, act, actOn, hear, takeOn, standing, standsAt, stepOf}
 use Rattle.walk.specs.Play.{most}
 use Rattle.begin.proofs.Before.{acts-draw, leaves-map, leaves-gradient, leaves-entries, leaves-groups, leaves-others}
 
@@ -73,4 +73,4 @@ module _ (film : List ℕ) (st : State) (z : st .columns ≡ 0) (allowed : Allow
 
   pub step-long : Long (stepOf film st allowed l)
   unfolding stepOf
-  step-long = standing-long (nextOf film st (length (l .palette)) (length (l .first)) (length (l .second)))
+  step-long = standing-long (standsAt film st l)

@@ -20,7 +20,7 @@ use Rattle.opening.specs.declared.Opened.{Opened}
 use Rattle.opening.specs.declared.Opened.the-variants as opened
 use Rattle.opening.specs.Opening.{openedAs, openingOf}
 use Rattle.opcodes.specs.Opcodes.{Answer, taken, whole, unfinished, ended, refused}
-use Rattle.film.specs.Film.{Lent, lent, standing, stepOf}
+use Rattle.film.specs.Film.{Words, words, Lent, lent, standing, stepOf}
 use Rattle.walk.specs.Walk.{Forward, Moves}
 use Rattle.walk.specs.Play.{most}
 use Rattle.walk.proofs.Walk.{step-moves}
@@ -123,7 +123,7 @@ pub short-stops : (film : List ℕ) (st : State) (palette : List ℕ) (place : �
     → came (stopped 8 0 st) palette place ≡ kept palette place (toSize film st palette place)
 unfolding stepOf standing courseOf
 short-stops film st palette place y h =
-    let e : courseOf (stepBefore film st palette place .step .answer) ≡ stops 8 0 = rw (short-palette film st (length palette) _ _ y h) refl in
+    let e : courseOf (stepBefore film st palette place .step .answer) ≡ stops 8 0 = rw (short-palette film st (length palette) _ y h) refl in
     kept-stopped palette place _ 8 0 st (ap (λ (c : Came). c .answer) (sym (until-stops film (length film) st palette place (y .unsized) 8 0 e)))
 
 -- ---- a turn, by what `foresee` says
@@ -140,7 +140,7 @@ roomy = omega (arith, zeros-long enough)
 
 module _ (film : List ℕ) (st : State) (y : Early (length film) st) (r : Turn) (s : Foreseen film st r) (t : State) (q : turnAs r ≡ goes t) where
   abbrev some : Lent
-  some = lent (zeros 768) [] [] 0 (zeros enough)
+  some = lent (zeros 768) [] [] 0 (zeros enough) (words [] [] [])
 
   leads : courseOf (stepOf film st allowance some .step .answer) ≡ goes t
   leads = sym (s some (zeros-long 768) (omega (arith, zeros-long enough))) ∙ q
@@ -233,7 +233,7 @@ module _ (film : List ℕ) (first : State) (palette₀ : List ℕ) (place₀ : �
 
     module _ (z : st .columns ≡ 0) (r : Turn) (s : Foreseen film st r) where
       said : (q : List ℕ) (k : ℕ) → length q ≡ 768 → turnAs r ≡ courseOf (stepBefore film st q k .step .answer)
-      said q k h = s (lent q [] [] k (zeros enough)) h roomy
+      said q k h = s (lent q [] [] k (zeros enough) (words [] [] [])) h roomy
 
       -- a refusal, which only the first time can bring
       pub passes-stops : (i k : ℕ) → turnAs r ≡ stops i k → came (stopped i k st) palette place ≡ kept palette₀ place₀ (toSize film first palette₀ place₀)
@@ -266,7 +266,7 @@ module _ (film : List ℕ) (first : State) (palette₀ : List ℕ) (place₀ : �
                     record {
                       palette = o .lent .palette;
                       place = o .lent .place;
-                      long = step-long film st z allowance ample (lent (v .palette) [] [] (v .place) (zeros enough)) ∙ v .long;
+                      long = step-long film st z allowance ample (lent (v .palette) [] [] (v .place) (zeros enough) (words [] [] [])) ∙ v .long;
                       onward =
                           onward-more film first palette₀ place₀ st (v .palette) (v .place) (v .onward) z t (sym q ∙ said (v .palette) (v .place) (v .long)) _ _ refl refl;
                     },
@@ -276,8 +276,8 @@ module _ (film : List ℕ) (first : State) (palette₀ : List ℕ) (place₀ : �
             }
 
         pub passes-stored : storing ≡ true → (p : List ℕ) (k : ℕ)
-            → ((a b room : List ℕ) → p ≡ stepOf film st allowance (lent palette a b place room) .lent .palette)
-            → ((a b room : List ℕ) → k ≡ stepOf film st allowance (lent palette a b place room) .lent .place)
+            → ((a b room : List ℕ) (w : Words) → p ≡ stepOf film st allowance (lent palette a b place room w) .lent .palette)
+            → ((a b room : List ℕ) (w : Words) → k ≡ stepOf film st allowance (lent palette a b place room w) .lent .place)
             → length p ≡ length palette → Passes t p k storing
         unfolding Pass
         passes-stored e p k ep ek long =
@@ -292,7 +292,7 @@ module _ (film : List ℕ) (first : State) (palette₀ : List ℕ) (place₀ : �
                   record {
                     onward =
                         onward-more film first palette₀ place₀ st palette place (y .onward) z t (sym q ∙ said palette place (w .long)) p k
-                        (ep [] [] (zeros enough)) (ek [] [] (zeros enough));
+                        (ep [] [] (zeros enough) (words [] [] [])) (ek [] [] (zeros enough) (words [] [] []));
                     reached = y .reached;
                     end = y .end;
                   });
@@ -320,6 +320,6 @@ pub begin-early : (film : List ℕ) (stream : ℕ) (o : Opened) (st : State) →
 begin-early film stream o st e q = first-early film stream st (sym e ∙ ap openedAs q)
 
 pub is-nowhere : (s : Sound) → s ≡ firstSound 0
-    → record { cursor = record { position = 0; «chunk_end» = 0 }; columns = 0; rows = 0; front = 0; map = Missing; unsent = false; sound = s } ≡ nowhere
+    → record { cursor = record { position = 0; «chunk_end» = 0 }; columns = 0; rows = 0; deep = false; front = 0; map = Missing; unsent = false; sound = s } ≡ nowhere
 unfolding nowhere
 is-nowhere s e = rw e

@@ -18,7 +18,7 @@ use Rattle.state.specs.Moves.{behind}
 use Rattle.state.specs.State.{stateVerdict}
 use Rattle.opening.specs.Opening.{Opening, started, refuses, openingOf}
 use Rattle.opcodes.specs.Opcodes.{Answer, taken, whole, unfinished, ended, refused}
-use Rattle.film.specs.Film.{lent, Outcome, stepOf}
+use Rattle.film.specs.Film.{words, lent, Outcome, stepOf}
 use Rattle.walk.specs.Play.{most}
 use Rattle.begin.specs.declared.Turn.{Turn}
 use Rattle.begin.specs.declared.Turn.the-variants.{On, Off}
@@ -37,7 +37,7 @@ allowance = within most default
 -- a step that is lent a palette and a place, no pictures, since before a size nothing is drawn, and a room that is always enough. With other pictures, another such
 -- room or more stores it does the same: `separate/specs/Separate`
 abbrev pub stepBefore : List ℕ → State → List ℕ → ℕ → Outcome
-stepBefore film st palette place = stepOf film st allowance (lent palette [] [] place (zeros enough))
+stepBefore film st palette place = stepOf film st allowance (lent palette [] [] place (zeros enough) (words [] [] []))
 
 -- what a step leads to: on with a state, or the walk stops, by a refusal's number and block
 pub data Course : Type 0 where
@@ -117,7 +117,7 @@ kept palette place c = keptBy (c .answer) palette place c
 -- a state of zeros
 unfoldable pub nowhere : State
 nowhere =
-    record { cursor = record { position = 0; «chunk_end» = 0 }; columns = 0; rows = 0; front = 0; map = Missing; unsent = false; sound = firstSound 0 }
+    record { cursor = record { position = 0; «chunk_end» = 0 }; columns = 0; rows = 0; deep = false; front = 0; map = Missing; unsent = false; sound = firstSound 0 }
 
 unfoldable pub beginAt : Opening → List ℕ → List ℕ → ℕ → Came
 beginAt (started st) film palette place = kept palette place (toSize film st palette place)

@@ -35,7 +35,7 @@ ghost use Rattle.palette.specs.Update.{told};
 ghost use Rattle.sound.specs.Step.{enough};
 ghost use Rattle.next.specs.Next.{Ready};
 ghost use Rattle.opcodes.specs.Opcodes.{quiet, steppedAs};
-ghost use Rattle.film.specs.Film.{Lent, lent, actOn, hear, takeOn, stepOf};
+ghost use Rattle.film.specs.Film.{Words, Lent, lent, actOn, hear, takeOn, stepOf};
 ghost use Rattle.begin.specs.Begin.{allowance, Early, judged, courseOf, turnAs, begunAs, came, toSize, kept, beginOf};
 
 // What a step leads to: on with a state, or a refusal; 21 at the film's end.
@@ -83,7 +83,7 @@ fn judged_step(st: State, p: usize, u: Updated) -> Stepped
 // An opcode that is taken and is no sound, where there is no size and the palette has 768 bytes. Without a size 11 is refused. Nothing is stored, so none is counted.
 fn act(film: &[u8], st: State, o: Opcode) -> Stepped
     requires { ⌜ Ready (length (now film)) (st .cursor) o ⌝ }
-    requires { ⌜ st .columns ≡ 0 ⌝ }
+    requires { ⌜ Early (length (now film)) st ⌝ }
     ensures { λ r. ⌜ ((l : Lent) → length (l .palette) ≡ 768 → steppedAs r .answer ≡ actOn (now (film .entry)) st o allowance l .step .answer) ⌝ }
 {
     let s = o.start;
@@ -109,7 +109,7 @@ fn act(film: &[u8], st: State, o: Opcode) -> Stepped
 // An opcode that is taken.
 fn take(film: &[u8], st: State, o: Opcode, empty: &mut [u8]) -> Stepped
     requires { ⌜ Ready (length (now film)) (st .cursor) o ⌝ }
-    requires { ⌜ st .columns ≡ 0 ⌝ }
+    requires { ⌜ Early (length (now film)) st ⌝ }
     requires { ⌜ length (now empty) ≡ 0 ⌝ }
     ensures { λ r. ⌜ ((l : Lent) → length (l .palette) ≡ 768 → enough ≤ length (l .room) → steppedAs r .answer ≡ takeOn (now (film .entry)) st o allowance l .step .answer) ⌝ }
 {
@@ -155,8 +155,8 @@ fn foresee(film: &[u8], st: State, palette: &mut [u8]) -> Turn
 fn store_opcode(film: &[u8], st: State, o: Opcode, palette: &mut [u8], place: &mut usize)
     requires { ⌜ Ready (length (now film)) (st .cursor) o ⌝ }
     requires { ⌜ st .columns ≡ 0 ⌝ }
-    ensures { λ _. ⌜ ((a b room : List ℕ) → now (palette .exit) ≡ actOn (now (film .entry)) st o allowance (lent (now (palette .entry)) a b (now (place .entry)) room) .lent .palette) ⌝ }
-    ensures { λ _. ⌜ ((a b room : List ℕ) → now (place .exit) ≡ actOn (now (film .entry)) st o allowance (lent (now (palette .entry)) a b (now (place .entry)) room) .lent .place) ⌝ }
+    ensures { λ _. ⌜ ((a b room : List ℕ) (w : Words) → now (palette .exit) ≡ actOn (now (film .entry)) st o allowance (lent (now (palette .entry)) a b (now (place .entry)) room w) .lent .palette) ⌝ }
+    ensures { λ _. ⌜ ((a b room : List ℕ) (w : Words) → now (place .exit) ≡ actOn (now (film .entry)) st o allowance (lent (now (palette .entry)) a b (now (place .entry)) room w) .lent .place) ⌝ }
 {
     let s = o.start;
     let p = s + o.long;
@@ -181,8 +181,8 @@ fn store_opcode(film: &[u8], st: State, o: Opcode, palette: &mut [u8], place: &m
 // The stores of a step where there is no size: the palette and the place are then as the step leaves them.
 fn store(film: &[u8], st: State, palette: &mut [u8], place: &mut usize)
     requires { ⌜ Early (length (now film)) st × (length (now palette) ≡ 768) ⌝ }
-    ensures { λ _. ⌜ ((a b room : List ℕ) → now (palette .exit) ≡ stepOf (now (film .entry)) st allowance (lent (now (palette .entry)) a b (now (place .entry)) room) .lent .palette) ⌝ }
-    ensures { λ _. ⌜ ((a b room : List ℕ) → now (place .exit) ≡ stepOf (now (film .entry)) st allowance (lent (now (palette .entry)) a b (now (place .entry)) room) .lent .place) ⌝ }
+    ensures { λ _. ⌜ ((a b room : List ℕ) (w : Words) → now (palette .exit) ≡ stepOf (now (film .entry)) st allowance (lent (now (palette .entry)) a b (now (place .entry)) room w) .lent .palette) ⌝ }
+    ensures { λ _. ⌜ ((a b room : List ℕ) (w : Words) → now (place .exit) ≡ stepOf (now (film .entry)) st allowance (lent (now (palette .entry)) a b (now (place .entry)) room w) .lent .place) ⌝ }
 {
     let c = st.cursor;
     let sound = st.sound;
@@ -253,6 +253,7 @@ pub fn begin(film: &[u8], stream: usize, palette: &mut [u8], place: &mut usize) 
                     },
                     columns: 0,
                     rows: 0,
+                    deep: false,
                     front: 0,
                     map: Map::Missing,
                     unsent: false,

@@ -1,7 +1,9 @@
--- The drawing of an accepted packet has at most 312,000 stores, and is lawful: no two pixels have one target, each target is inside the picture, and no block reads a pixel of its own.
+-- The drawing of an accepted packet has at most 312,000 stores, and is lawful, for both widths: no two pixels have one target, each target is inside the picture, and no block
+-- reads a pixel of its own, the older pictures being fixed.
 -- Assumes nothing.
 use mathlib.Core.Path.{_≡_, refl, sym, ap, _∙_, subst}
 use mathlib.Core.Logic.{_⊎_, ⊎-elim, _≢_}
+use mathlib.Core.Bool.{Bool, true, false, cond}
 use mathlib.Core.List.{List}
 use Prim.Native.Nat.{ℕ, _+_, _-_, _*_, _/_, _%_, _≤_, _<_}
 use native.Mathlib.Omega.{arith}
@@ -9,21 +11,23 @@ use native.Mathlib.Nat.{mul-le-mul-right}
 use lib.ListN.{length}
 use Rattle.motion.specs.declared.Vector.{Vector}
 use Rattle.motion.specs.Motion.{PointsInside, rasterIndex, copiedIndex}
+use Rattle.block.specs.declared.Picture.{Picture}
+use Rattle.block.specs.declared.Picture.the-variants.{Last, New, Oldest}
 use Rattle.block.specs.declared.Source.{Source}
-use Rattle.block.specs.declared.Source.the-variants.{Data, Front, Back}
-use Rattle.block.specs.Block.{Kind, kept, source, fetched}
+use Rattle.block.specs.declared.Source.the-variants.{Data, Copied}
+use Rattle.block.specs.Block.{Kind, kept, source, stored, fetched}
 use Rattle.paint.proofs.Painting.{square-below}
-use Rattle.paint.specs.Value.{pixelCount, pixelValue}
+use Rattle.paint.specs.Value.{pixelCount, Older, pixelValue}
 use Rattle.paint.proofs.Counts.{count-few}
 use Rattle.packet.specs.Packet.{Packet, blocks, width, height, left, top, dataOf, kind, blockOf}
 use Rattle.packet.specs.Asked.{Sized}
 use Rattle.packet.specs.Accepted.{Whole}
 use Rattle.packet.proofs.Grid.{column-below, row-below, raster-row, raster-column, own-block}
-use Rattle.packet.proofs.Apart.{reads-no-own}
+use Rattle.packet.proofs.Apart.{DrawnOn, reads-no-own}
 use Rattle.packet.proofs.Walk.{blocks-few}
 use Rattle.stores.specs.Stores.{due, Off, Own, Lawful}
 use Rattle.stores.proofs.Steps.{due-few}
-use Rattle.draw.specs.Drawing.{sizeAt, targetAt, valueAt, plan}
+use Rattle.draw.specs.Drawing.{sizeAt, targetAt, valueAt, planOver}
 
 -- the 8x8 at x, y stands in a picture w by h, which is no larger than any
 pub record Framed (w h x y : ℕ) : Type 0 where
@@ -56,11 +60,11 @@ module _ (p : Packet) (z : Sized p) where
   few k i h = omega (arith, count-few (kind p k))
 
   -- at most 312,000 stores a picture: 65 a block, 4800 blocks
-  pub stores-few : (front : List ℕ) (k : ℕ) → k ≤ blocks p → length (due (plan p front) k) ≤ 312000
+  pub stores-few : (older : Older) (k : ℕ) → k ≤ blocks p → length (due (planOver p older) k) ≤ 312000
   unfolding sizeAt
-  stores-few front k h =
+  stores-few older k h =
       let e : k + (blocks p - k) ≡ blocks p = omega arith in
-      omega (arith, due-few (plan p front) 64 (λ j l. count-few (kind p j)) (blocks p - k) k e, blocks-few p z)
+      omega (arith, due-few (planOver p older) 64 (λ j l. count-few (kind p j)) (blocks p - k) k e, blocks-few p z)
 
   -- pixel i of block k stands in block k
   pub target-block : (k i : ℕ) → i < 64 → blockOf (p .columns) (targetAt p k i) ≡ k
@@ -99,29 +103,33 @@ module _ (p : Packet) (z : Sized p) where
   unfolding targetAt
   inside k i h hi = raster-below (width p) (height p) (left p k) (top p k) i (framed k h) hi
 
-  module _ (w : Whole p) (front : List ℕ) (n : ℕ) where
-    -- a source in back is no pixel of the block, in a block that is drawn
-    off : (k i j : ℕ) → k < blocks p → i < sizeAt p k → source (kind p k) (dataOf p k) (width p) (left p k) (top p k) i ≡ Back j → Off (plan p front) k j
+  module _ (w : Whole p) (older : Older) (n : ℕ) where
+    -- a source in the picture that is drawn on is no pixel of the block, in a block that is drawn
+    off : (k i : ℕ) (q : Picture) (j : ℕ) → k < blocks p → i < sizeAt p k → DrawnOn (p .deep) q
+        → source (p .deep) (kind p k) (dataOf p k) (width p) (left p k) (top p k) i ≡ Copied q j → Off (planOver p older) k j
     unfolding sizeAt pixelCount
-    off k i j h hi e m hm q =
+    off k i q j h hi d e m hm f =
         ⊎-elim
         (λ (x : kind p k ≡ kept). none-kept x)
-        (λ (x : blockOf (p .columns) j ≢ k). x (ap (blockOf (p .columns)) q ∙ target-block k m (few k m hm)))
-        (reads-no-own p some k i (few k i hi) (w k h .inside) j e)
+        (λ (x : blockOf (p .columns) j ≢ k). x (ap (blockOf (p .columns)) f ∙ target-block k m (few k m hm)))
+        (reads-no-own p some k i (few k i hi) (w k h .inside) q j d e)
       where
         none-kept : kind p k ≡ kept → ⊥
         none-kept x = let l : i < 0 = subst (λ (κ : Kind). i < pixelCount κ) x hi in omega arith
 
-    own : (k : ℕ) → k < blocks p → Own (plan p front) n k
+    own : (k : ℕ) → k < blocks p → Own (planOver p older) n k
     unfolding valueAt pixelValue fetched
-    own k h i hi a b la lb agree = by (source (kind p k) (dataOf p k) (width p) (left p k) (top p k) i) refl
+    own k h i hi a b la lb agree = by (p .deep) refl (source (p .deep) (kind p k) (dataOf p k) (width p) (left p k) (top p k) i) refl
       where
-        by : (u : Source) → source (kind p k) (dataOf p k) (width p) (left p k) (top p k) i ≡ u → fetched u (dataOf p k) front a ≡ fetched u (dataOf p k) front b
-        by (Data j) e = refl
-        by (Front j) e = refl
-        by (Back j) e = agree j (off k i j h hi e)
+        by : (deep : Bool) → p .deep ≡ deep → (u : Source) → source (p .deep) (kind p k) (dataOf p k) (width p) (left p k) (top p k) i ≡ u
+            → fetched deep u (dataOf p k) (older .last) a (cond deep (older .oldest) a) ≡ fetched deep u (dataOf p k) (older .last) b (cond deep (older .oldest) b)
+        by deep g (Data j) e = refl
+        by deep g (Copied Last j) e = refl
+        by deep g (Copied New j) e = ap (stored deep) (agree j (off k i New j h hi tt e))
+        by false g (Copied Oldest j) e = agree j (off k i Oldest j h hi (subst (λ (d : Bool). DrawnOn d Oldest) (sym g) tt) e)
+        by true g (Copied Oldest j) e = refl
 
-    pub plan-lawful : height p * width p ≤ n → Lawful (plan p front) n
+    pub plan-lawful : height p * width p ≤ n → Lawful (planOver p older) n
     plan-lawful long =
         record {
           distinct = λ k k′ i i′ h h′ hi hi′ e. distinct k k′ i i′ (few k i hi) (few k′ i′ hi′) e;

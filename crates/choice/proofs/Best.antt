@@ -10,8 +10,8 @@ use Rattle.pattern.specs.declared.Form.{Form}
 use Rattle.pattern.specs.declared.Form.the-variants.{Two1x1, Two2x2}
 use Rattle.pattern.specs.Form.{shape, falling, form7}
 use Rattle.pattern.specs.Pattern.{colours, cells, partLength, patternLength, patternSource}
-use Rattle.block.specs.Block.{Kind, patterned, pixels, kinds, kindOf, dataLength, source, fetched}
-use Rattle.paint.specs.Value.{pixelValue}
+use Rattle.block.specs.Block.{Kind, patterned, pixels, kinds, kindOf, byteKind, dataLength, source, fetched}
+use Rattle.paint.specs.Value.{pixelValue, byteValue}
 use Rattle.choice.specs.declared.Way.{Way}
 use Rattle.choice.specs.declared.Way.the-variants.{Same, Kept, One, Dither, Coarse, Four, Fine, Two, Raw}
 use Rattle.choice.specs.Choice.{Chosen, code-0, code-1, code-7, code-B, code-C, code-D, code-E, code-F, pixelAt, Reproduces, Best, sameAll, celledBy, ditheredBy, twoColours, byCells, codeOf, dataBy, lengthBy, drawnBy, choice, fineData, coarseData}
@@ -126,8 +126,8 @@ module _ (wanted front back : List ℕ) (w x y : ℕ) where
   h = pixelAt back w x y
 
   -- code 7, by its form
-  seven : (s : List ℕ) (t : Bool) → falling s 0 ≡ t → length s ≡ dataLength (kindOf 7 s)
-      → ((i : ℕ) → i < 64 → pixelValue (kindOf 7 s) s w x y front i back ≡ f i) → W f g h ≤ 16 * length s + 7
+  seven : (s : List ℕ) (t : Bool) → falling false s 0 ≡ t → length s ≡ dataLength false (byteKind 7 s)
+      → ((i : ℕ) → i < 64 → byteValue 7 s w x y front i back ≡ f i) → W f g h ≤ 16 * length s + 7
   unfolding kindOf kinds dataLength pixelValue source fetched form7 patternLength partLength cells colours
   seven s true e l v =
       let n : length s ≡ 4 = rw e at l in
@@ -136,12 +136,12 @@ module _ (wanted front back : List ℕ) (w x y : ℕ) where
       let n : length s ≡ 10 = rw e at l in
       omega (arith, least-fine f g h (fine-says f s (rw e at v)))
 
-  least : {c : ℕ} → Chosen c → (s : List ℕ) → length s ≡ dataLength (kindOf c s)
-      → ((i : ℕ) → i < 64 → pixelValue (kindOf c s) s w x y front i back ≡ f i) → W f g h ≤ 16 * length s + c
+  least : {c : ℕ} → Chosen c → (s : List ℕ) → length s ≡ dataLength false (byteKind c s)
+      → ((i : ℕ) → i < 64 → byteValue c s w x y front i back ≡ f i) → W f g h ≤ 16 * length s + c
   unfolding kindOf kinds dataLength pixelValue source fetched
   least code-0 s l v = omega (arith, least-0 f g h (same-is f g (λ i q. sym (v i q))))
   least code-1 s l v = omega (arith, least-1 f g h (same-is f h (λ i q. sym (v i q))))
-  least code-7 s l v = by-bool (λ t. falling s 0 ≡ t → W f g h ≤ 16 * length s + 7) (falling s 0) (λ _ e. seven s true e l v) (λ _ e. seven s false e l v) refl
+  least code-7 s l v = by-bool (λ t. falling false s 0 ≡ t → W f g h ≤ 16 * length s + 7) (falling false s 0) (λ _ e. seven s true e l v) (λ _ e. seven s false e l v) refl
   least code-B s l v = omega (arith, least-B f g h)
   least code-C s l v = omega (arith, least-C f g h (cells-alike 2 celled-2 f s v))
   least code-D s l v = omega (arith, least-D f g h (cells-alike 4 celled-4 f s v))

@@ -5,7 +5,7 @@ use mathlib.Core.Bool.{Bool, true, false, cond}
 use mathlib.Core.Logic.{_⊎_, inl, inr, ⊎-elim}
 use mathlib.Core.List.{List, [], _∷_}
 use Prim.Native.Nat.{ℕ, zero, suc, _+_, _*_, _/_, _%_, _^_, _≤_, _<_}
-use native.Mathlib.Nat.{zero-add, not-suc-le-zero, eq-or-lt-of-le}
+use native.Mathlib.Nat.{zero-add, one-mul, not-suc-le-zero, eq-or-lt-of-le}
 use native.Mathlib.Decide.{ℕ-discrete}
 use native.Mathlib.Omega.{arith}
 use lib.Dec.{eqb, ltb}
@@ -117,20 +117,20 @@ bits-at f u c h = by c h (mark-few (f 0) u) (mark-few (f 1) u) (mark-few (f 2) u
 
 -- ---- the fields of code 7
 
-fine-source : (s : List ℕ) (i : ℕ) → i < 64 → patternSource (shape Two1x1) s i ≡ fieldAt s 2 1 i
+fine-source : (s : List ℕ) (i : ℕ) → i < 64 → patternSource (shape false Two1x1) s i ≡ fieldAt s 2 1 i
 unfolding patternSource partStart partLength colours cells fieldNumber
 fine-source s i h =
     let e : (i % 8 / 8 * 1 + i / 8 / 8) * 10 ≡ 0 = omega arith in
     let n : i / 8 % 8 / 1 * 8 + i % 8 % 8 / 1 ≡ i = omega arith in
-    rw (e, n) (zero-add _)
+    rw (e, n) (zero-add _ ∙ one-mul _)
 
-coarse-source : (s : List ℕ) (i : ℕ) → i < 64 → patternSource (shape Two2x2) s i ≡ fieldAt s 2 1 (cellSource 2 i)
+coarse-source : (s : List ℕ) (i : ℕ) → i < 64 → patternSource (shape false Two2x2) s i ≡ fieldAt s 2 1 (cellSource 2 i)
 unfolding patternSource partStart partLength colours cells fieldNumber cellSource
 coarse-source s i h =
     let e : (i % 8 / 8 * 1 + i / 8 / 8) * 4 ≡ 0 = omega arith in
     let a : i / 8 % 8 ≡ i / 8 = omega arith in
     let b : i % 8 % 8 ≡ i % 8 = omega arith in
-    rw (e, a, b) (zero-add _)
+    rw (e, a, b) (zero-add _ ∙ one-mul _)
 
 field-few : (s : List ℕ) (n : ℕ) → fieldAt s 2 1 n < 2
 unfolding fieldAt
@@ -165,22 +165,22 @@ named a b v l o =
 -- ---- what the data of the choice gives
 
 module _ (f : ℕ → ℕ) (more : celledBy 8 f ≡ false) (two : twoColours f ≡ true) where
-  pub fine-form : form7 (fineData f) ≡ Two1x1
+  pub fine-form : form7 false (fineData f) ≡ Two1x1
   unfolding form7 falling fineData
   fine-form = let l = ordered f more in rw (le-ltb (higher f) (lower f) (omega arith))
 
-  pub coarse-form : form7 (coarseData f) ≡ Two2x2
+  pub coarse-form : form7 false (coarseData f) ≡ Two2x2
   unfolding form7 falling coarseData
   coarse-form = rw (lt-ltb (lower f) (higher f) (ordered f more))
 
-  pub fine-gives : (i : ℕ) → i < 64 → getD (fineData f) (patternSource (shape Two1x1) (fineData f) i) 0 ≡ f i
+  pub fine-gives : (i : ℕ) → i < 64 → getD (fineData f) (patternSource (shape false Two1x1) (fineData f) i) 0 ≡ f i
   unfolding fineData
   fine-gives i h =
       let e : 8 * (i / 8) + i % 8 ≡ i = omega arith in
       rw (fine-source (fineData f) i h, field-bits (lower f) (higher f) 8 (λ r c. f (cellFirst 1 (8 * r + c))) (higher f) i (omega arith), e, pixel-cell i h)
       (named (lower f) (higher f) (f i) (drop 2 (fineData f)) (two-at f two i h))
 
-  pub coarse-gives : celledBy 2 f ≡ true → (i : ℕ) → i < 64 → getD (coarseData f) (patternSource (shape Two2x2) (coarseData f) i) 0 ≡ f i
+  pub coarse-gives : celledBy 2 f ≡ true → (i : ℕ) → i < 64 → getD (coarseData f) (patternSource (shape false Two2x2) (coarseData f) i) 0 ≡ f i
   unfolding coarseData celledBy byCells
   coarse-gives cells i h =
       let n = cellSource 2 i in
@@ -204,10 +204,10 @@ coarse-long f = ap (λ (n : ℕ). suc (suc n)) (listed-length 2 _ 0)
 
 -- ---- what data that gives the pixels says of them
 
-pub fine-says : (f : ℕ → ℕ) (s : List ℕ) → ((i : ℕ) → i < 64 → getD s (patternSource (shape Two1x1) s i) 0 ≡ f i) → twoColours f ≡ true
+pub fine-says : (f : ℕ → ℕ) (s : List ℕ) → ((i : ℕ) → i < 64 → getD s (patternSource (shape false Two1x1) s i) 0 ≡ f i) → twoColours f ≡ true
 fine-says f s v = two-is f (getD s 0 0) (getD s 1 0) (λ i h. of-two s i (f i) (rw (← fine-source s i h) (v i h)))
 
-pub coarse-says : (f : ℕ → ℕ) (s : List ℕ) → ((i : ℕ) → i < 64 → getD s (patternSource (shape Two2x2) s i) 0 ≡ f i) → (celledBy 2 f ≡ true) × (twoColours f ≡ true)
+pub coarse-says : (f : ℕ → ℕ) (s : List ℕ) → ((i : ℕ) → i < 64 → getD s (patternSource (shape false Two2x2) s i) 0 ≡ f i) → (celledBy 2 f ≡ true) × (twoColours f ≡ true)
 unfolding celledBy byCells
 coarse-says f s v = (
   same-is f _

@@ -8,8 +8,8 @@ use Prim.Native.Nat.{ℕ, zero, suc, _+_, _-_, _*_, _/_, _%_, _^_, _≤_, _<_}
 use lib.Dec.{eqb, ltb}
 use lib.ListN.{length, getD}
 use Rattle.motion.specs.Motion.{rasterIndex}
-use Rattle.block.specs.Block.{kindOf, dataLength, cellSource, ditherSource}
-use Rattle.paint.specs.Value.{pixelValue}
+use Rattle.block.specs.Block.{byteKind, dataLength, cellSource, ditherSource}
+use Rattle.paint.specs.Value.{byteValue}
 use Rattle.choice.specs.declared.Way.{Way}
 use Rattle.choice.specs.declared.Way.the-variants.{Same, Kept, One, Dither, Coarse, Four, Fine, Two, Raw}
 
@@ -33,8 +33,8 @@ pixelAt picture w x y i = getD picture (rasterIndex w x y i) 0
 -- a code with data bytes, just as many as it has, that give the wanted 8x8 in its place
 pub record Reproduces (wanted front back : List ℕ) (w x y code : ℕ) (bytes : List ℕ) : Type 0 where
   pub chosen : Chosen code
-  pub long : length bytes ≡ dataLength (kindOf code bytes)
-  pub same : (i : ℕ) → i < 64 → pixelValue (kindOf code bytes) bytes w x y front i back ≡ pixelAt wanted w x y i
+  pub long : length bytes ≡ dataLength false (byteKind code bytes)
+  pub same : (i : ℕ) → i < 64 → byteValue code bytes w x y front i back ≡ pixelAt wanted w x y i
 
 -- no other choice has fewer data bytes, and none of as many has a lower code
 pub record Best (wanted front back : List ℕ) (w x y code : ℕ) (bytes : List ℕ) : Type 0 where

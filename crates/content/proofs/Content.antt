@@ -11,9 +11,10 @@ use Rattle.words.specs.Word.{wordAt}
 use Rattle.packet.specs.declared.Touched.{Touched}
 use Rattle.packet.specs.Verdict.{legalSize}
 use Rattle.stores.specs.Stores.{memory}
+use Rattle.stores.specs.Calls.{step}
 use Rattle.stores.specs.Calls as drawing
 use Rattle.draw.specs.declared.Allowed.{Allowed}
-use Rattle.draw.specs.Call.{Reason, Request, request, report}
+use Rattle.draw.specs.Call.{Reason, Request, asking, calling, report}
 use Rattle.palette.specs.Update.{Update, Change, changeOn}
 use Rattle.palette.specs.Update as palette
 use Rattle.palette.specs.Gradient.{createGradient}
@@ -31,8 +32,8 @@ use Rattle.state.specs.declared.State.{State}
 use Rattle.state.specs.Moves.{at, shownNext, sized, sent, mapped, heard, finished}
 use Rattle.heads.specs.declared.Opcode.{Opcode}
 use Rattle.heads.specs.Heads.{hears}
-use Rattle.opcodes.specs.Opcodes.{Answer, taken, refused, quiet, colourOf, sizeAnswer, quietAnswer, heardStep, drawnAs}
-use Rattle.film.specs.Film.{Lent, withRoom, swap, Outcome, after, called, drawSecond, drawOn, part, drawBy, paletteStep, update, mapTo, act, heardBy, hear, takeOn}
+use Rattle.opcodes.specs.Opcodes.{Answer, taken, refused, quiet, isDeep, colourOf, sizeAnswer, quietAnswer, heardStep, drawnAs, drawnStep}
+use Rattle.film.specs.Film.{Lent, withRoom, Turn, turnBy, turnOf, lastIn, newIn, oldestIn, withNew, drawnAt, Outcome, after, requestOf, drawOn, part, drawMapped, isBodyShort, drawBy, paletteStep, update, mapTo, act, heardBy, hear, takeOn}
 use Rattle.content.specs.Content.{map-bytes, pending, Alike, SameAnswer, both-taken, both-whole, both-unfinished, both-refused, SameOutcome, SameOpcode}
 
 module _ (film film′ : List ℕ) (st st′ : State) (h : Alike film st film′ st′) where
@@ -59,46 +60,51 @@ module _ (film film′ : List ℕ) (st st′ : State) (h : Alike film st film′
   drawn-same : (p p′ : ℕ) (x : drawing.Answer Reason) (n : ℕ) (t : Touched) (l : Lent) → Same (after (drawnAs st p x n t) l) (after (drawnAs st′ p′ x n t) l)
   unfolding drawnAs finished pending
   drawn-same p p′ drawing.whole n t l =
-      record { answer = both-whole (record { columns = h .columns; rows = h .rows; front = h .front; map = refl; unsent = refl; sound = h .sound }); stores = refl; bytes = refl; rows = refl; lent = refl }
+      record { answer = both-whole (record { columns = h .columns; rows = h .rows; deep = h .deep; front = h .front; map = refl; unsent = refl; sound = h .sound }); stores = refl; bytes = refl; rows = refl; lent = refl }
   drawn-same p p′ drawing.unfinished n t l = record { answer = both-unfinished h; stores = refl; bytes = refl; rows = refl; lent = refl }
   drawn-same p p′ (drawing.refusal r) n t l = refuses (r .number) (r .block) l
 
-  called-same : (p p′ : ℕ) (q : Request) (l : Lent) → Same (called st p q l) (called st′ p′ q l)
-  unfolding called
-  called-same p p′ q l =
-      let r = report (memory (l .second) (l .place)) q in
-      drawn-same p p′ (r .answer) (r .count) (r .rows) _
+  -- which picture is shown, and the drawing call
+  turn-same : turnOf st ≡ turnOf st′
+  turn-same = ap₂ turnBy (h .deep) (h .front)
 
-  second-same : (p p′ : ℕ) (map packet : List ℕ) (allowed : Allowed) (l : Lent) → Same (drawSecond st p map packet allowed l) (drawSecond st′ p′ map packet allowed l)
-  second-same p p′ map packet allowed l =
-      subst (λ (q : Request). Same (drawSecond st p map packet allowed l) (called st′ p′ q l))
-      (ap₂ (λ (c r : ℕ). request c r map packet (l .first) allowed) (h .columns) (h .rows))
-      (called-same p p′ (request (st .columns) (st .rows) map packet (l .first) allowed) l)
+  request-same : (map packet : List ℕ) (allowed : Allowed) (l : Lent) → requestOf st map packet allowed l ≡ requestOf st′ map packet allowed l
+  request-same map packet allowed l =
+      λ i. asking (h .deep i) (h .columns i) (h .rows i) map packet (lastIn (turn-same i) l) (oldestIn (turn-same i) l) allowed
 
   on-same : (p p′ : ℕ) (map packet : List ℕ) (allowed : Allowed) (l : Lent) → Same (drawOn st p map packet allowed l) (drawOn st′ p′ map packet allowed l)
   unfolding drawOn
   on-same p p′ map packet allowed l =
-      let x = second-same p p′ map packet allowed (swap l) in
-      same-test _ _ (ap (λ (n : ℕ). eqb n 0) (h .front)) (second-same p p′ map packet allowed l)
-      (record { answer = x .answer; stores = x .stores; bytes = x .bytes; rows = x .rows; lent = ap swap (x .lent) })
+      subst (λ (x : Turn). Same (drawOn st p map packet allowed l) (comes x (requestOf st′ map packet allowed l))) turn-same
+      (subst (λ (q : Request). Same (drawOn st p map packet allowed l) (comes (turnOf st) q)) (request-same map packet allowed l)
+      (let r = report (drawnAt st l) (requestOf st map packet allowed l) in drawn-same p p′ (r .answer) (r .count) (r .rows) _))
+    where
+      comes : Turn → Request → Outcome
+      comes x q = after (drawnStep st′ p′ (report (memory (newIn x l) (l .place)) q)) (withNew x l (step calling (memory (newIn x l) (l .place)) q))
 
-  by-same : (m m′ : Map) → pending film m ≡ pending film′ m′ → (body : List ℕ) (p p′ : ℕ) (allowed : Allowed) (l : Lent)
-      → Same (drawBy m film st body p allowed l) (drawBy m′ film′ st′ body p′ allowed l)
-  unfolding drawBy pending
-  by-same Missing Missing e body p p′ allowed l = refuses 9 0 l
-  by-same Missing (Part s n) e body p p′ allowed l = absurd (let z : _≡_ {A = ℕ} 0 1 = cc in let y : ⊥ = omega arith in y)
-  by-same (Part s n) Missing e body p p′ allowed l = absurd (let z : _≡_ {A = ℕ} 0 1 = cc in let y : ⊥ = omega arith in y)
-  by-same (Part s n) (Part s′ n′) e body p p′ allowed l =
+  mapped-same : (m m′ : Map) → pending film m ≡ pending film′ m′ → (body : List ℕ) (p p′ : ℕ) (allowed : Allowed) (l : Lent)
+      → Same (drawMapped m film st body p allowed l) (drawMapped m′ film′ st′ body p′ allowed l)
+  unfolding drawMapped pending
+  mapped-same Missing Missing e body p p′ allowed l = refuses 9 0 l
+  mapped-same Missing (Part s n) e body p p′ allowed l = absurd (let z : _≡_ {A = ℕ} 0 1 = cc in let y : ⊥ = omega arith in y)
+  mapped-same (Part s n) Missing e body p p′ allowed l = absurd (let z : _≡_ {A = ℕ} 0 1 = cc in let y : ⊥ = omega arith in y)
+  mapped-same (Part s n) (Part s′ n′) e body p p′ allowed l =
       let q : part film s (s + n) ≡ part film′ s′ (s′ + n′) = cc in
       same-test _ _ (ap (λ (n : ℕ). eqb n 0) (h .columns)) (refuses 9 0 l)
       (rw (← q) (on-same p p′ (part film s (s + n)) (part body 14 (length body)) allowed l))
+
+  by-same : (m m′ : Map) → pending film m ≡ pending film′ m′ → (body : List ℕ) (p p′ : ℕ) (allowed : Allowed) (l : Lent)
+      → Same (drawBy m film st body p allowed l) (drawBy m′ film′ st′ body p′ allowed l)
+  unfolding drawBy
+  by-same m m′ e body p p′ allowed l =
+      same-test _ _ (ap (λ (d : Bool). isBodyShort d (length body)) (h .deep)) (refuses 5 0 l) (mapped-same m m′ e body p p′ allowed l)
 
   -- ---- the others
 
   -- the same but for the cursor
   moved : (c c′ : Cursor) → Alike film (at st c) film′ (at st′ c′)
   unfolding at
-  moved c c′ = record { columns = h .columns; rows = h .rows; front = h .front; map = h .map; unsent = h .unsent; sound = h .sound }
+  moved c c′ = record { columns = h .columns; rows = h .rows; deep = h .deep; front = h .front; map = h .map; unsent = h .unsent; sound = h .sound }
 
   -- by what became of the palette's change
   change-same : (p p′ : ℕ) (x : Change) (l : Lent) → Same (after (paletteStep st p x) l) (after (paletteStep st′ p′ x) l)
@@ -112,14 +118,13 @@ module _ (film film′ : List ℕ) (st st′ : State) (h : Alike film st film′
 
   size-same : (p p′ columns rows colour : ℕ) → SameAnswer film film′ (sizeAnswer st p columns rows colour) (sizeAnswer st′ p′ columns rows colour)
   unfolding sizeAnswer sized
-  size-same p p′ columns rows colour = rw (← h .columns) (by (eqb (st .columns) 0) (legalSize columns rows) (eqb colour 0))
+  size-same p p′ columns rows colour = rw (← h .columns) (by (eqb (st .columns) 0) (legalSize columns rows))
     where
-      by : (a b c : Bool)
-          → SameAnswer film film′ (cond a (cond b (cond c (taken (sized st p columns rows)) (refused 6 0)) (refused 6 0)) (refused 6 0)) (cond a (cond b (cond c (taken (sized st′ p′ columns rows)) (refused 6 0)) (refused 6 0)) (refused 6 0))
-      by true true true = both-taken (record { columns = refl; rows = refl; front = h .front; map = h .map; unsent = h .unsent; sound = h .sound })
-      by true true false = both-refused 6 0
-      by true false c = both-refused 6 0
-      by false b c = both-refused 6 0
+      by : (a b : Bool)
+          → SameAnswer film film′ (cond a (cond b (taken (sized st p columns rows (isDeep colour))) (refused 6 0)) (refused 6 0)) (cond a (cond b (taken (sized st′ p′ columns rows (isDeep colour))) (refused 6 0)) (refused 6 0))
+      by true true = both-taken (record { columns = refl; rows = refl; deep = refl; front = h .front; map = h .map; unsent = h .unsent; sound = h .sound })
+      by true false = both-refused 6 0
+      by false b = both-refused 6 0
 
   answer-by : (b : Bool) {x y x′ y′ : Answer} → SameAnswer film film′ x x′ → SameAnswer film film′ y y′ → SameAnswer film film′ (cond b x y) (cond b x′ y′)
   answer-by true p q = p
@@ -131,7 +136,7 @@ module _ (film film′ : List ℕ) (st st′ : State) (h : Alike film st film′
       answer-by (eqb kind 0) (both-taken (moved _ _))
       (answer-by (eqb kind 5) (size-same p p′ (wordAt body 0) (wordAt body 2) (colourOf body version))
       (answer-by (eqb kind 7)
-      (both-taken (record { columns = h .columns; rows = h .rows; front = ap₂ shownNext (h .unsent) (h .front); map = h .map; unsent = refl; sound = h .sound }))
+      (both-taken (record { columns = h .columns; rows = h .rows; deep = h .deep; front = λ i. shownNext (h .deep i) (h .unsent i) (h .front i); map = h .map; unsent = refl; sound = h .sound }))
       (both-taken (moved _ _))))
 
   -- 0F: the body is the map
@@ -142,7 +147,7 @@ module _ (film film′ : List ℕ) (st st′ : State) (h : Alike film st film′
       let q : s + n - s ≡ n = omega arith in
       let q′ : s′ + n′ - s′ ≡ n′ = omega arith in
       rw (q, q′)
-      (record { columns = h .columns; rows = h .rows; front = h .front; map = ap map-bytes e; unsent = h .unsent; sound = h .sound })
+      (record { columns = h .columns; rows = h .rows; deep = h .deep; front = h .front; map = ap map-bytes e; unsent = h .unsent; sound = h .sound })
 
   to-same : (next next′ : State) → Alike film next film′ next′ → (n : ℕ) (l : Lent) → Same (mapTo st next n l) (mapTo st′ next′ n l)
   unfolding mapTo
@@ -151,7 +156,7 @@ module _ (film film′ : List ℕ) (st st′ : State) (h : Alike film st film′
   heard-same : (p p′ : ℕ) (x : sound.Answer) (l : Lent) → Same (after (heardStep st p x) l) (after (heardStep st′ p′ x) l)
   unfolding heardStep heard
   heard-same p p′ (sound.heard s n) l =
-      record { answer = both-taken (record { columns = h .columns; rows = h .rows; front = h .front; map = h .map; unsent = h .unsent; sound = refl }); stores = refl; bytes = refl; rows = refl; lent = refl }
+      record { answer = both-taken (record { columns = h .columns; rows = h .rows; deep = h .deep; front = h .front; map = h .map; unsent = h .unsent; sound = refl }); stores = refl; bytes = refl; rows = refl; lent = refl }
   heard-same p p′ (sound.refusal n k) l = refuses n k l
 
   -- ---- an opcode

@@ -19,7 +19,6 @@ use Rattle.palette.specs.Gradient.{createGradient}
 use Rattle.palette.specs.Entries.{setPalette}
 use Rattle.palette.specs.Mask.{setPaletteCompressed}
 use Rattle.sound.specs.Format.{chosen}
-use Rattle.sound.specs.Sound.{answer}
 use Rattle.sound.specs.Sound as sound
 use Rattle.state.specs.declared.Map.{Map}
 use Rattle.state.specs.declared.Map.the-variants.{Missing, Part}
@@ -27,8 +26,8 @@ use Rattle.state.specs.declared.State.{State}
 use Rattle.state.specs.Moves.{cursorBehind, at, atEnd, sized, sent, mapped, heard, finished}
 use Rattle.heads.specs.declared.Opcode.{Opcode}
 use Rattle.heads.specs.Heads.{hears, isSound}
-use Rattle.opcodes.specs.Opcodes.{Answer, taken, whole, unfinished, refused, quiet, colourOf, sizeAnswer, quietAnswer, heardStep, drawnAs}
-use Rattle.film.specs.Film.{Lent, swap, Outcome, after, called, drawSecond, drawOn, part, drawBy, paletteStep, mapTo, act, hear, takeOn}
+use Rattle.opcodes.specs.Opcodes.{Answer, taken, whole, unfinished, refused, quiet, isDeep, colourOf, sizeAnswer, quietAnswer, heardStep, drawnAs}
+use Rattle.film.specs.Film.{Lent, Outcome, after, drawOn, part, drawMapped, isBodyShort, drawBy, paletteStep, mapTo, act, hear, takeOn}
 
 -- behind p, or where it was
 pub data Placed (st : State) (p : ℕ) : Answer → Type 0 where
@@ -51,16 +50,14 @@ module _ (film : List ℕ) (st : State) (p : ℕ) (allowed : Allowed) (l : Lent)
   drawn-placed drawing.unfinished n t = stays
   drawn-placed (drawing.refusal r) n t = is-refused _ _
 
-  second-placed : (map packet : List ℕ) (m : Lent) → At st p (drawSecond st p map packet allowed m)
-  unfolding called
-  second-placed map packet m = record { is = drawn-placed _ _ _ }
+  mapped-placed : (map : Map) (body : List ℕ) → At st p (drawMapped map film st body p allowed l)
+  unfolding drawMapped drawOn
+  mapped-placed Missing body = record { is = is-refused _ _ }
+  mapped-placed (Part s n) body = placed-by (eqb (st .columns) 0) (record { is = is-refused _ _ }) (record { is = drawn-placed _ _ _ })
 
   by-placed : (map : Map) (body : List ℕ) → At st p (drawBy map film st body p allowed l)
-  unfolding drawBy drawOn
-  by-placed Missing body = record { is = is-refused _ _ }
-  by-placed (Part s n) body =
-      placed-by (eqb (st .columns) 0) (record { is = is-refused _ _ })
-      (placed-by (eqb (st .front) 0) (second-placed (part film s (s + n)) (part body 14 (length body)) l) (record { is = second-placed (part film s (s + n)) (part body 14 (length body)) (swap l) .is }))
+  unfolding drawBy
+  by-placed map body = placed-by (isBodyShort (st .deep) (length body)) (record { is = is-refused _ _ }) (mapped-placed map body)
 
   palette-placed : (x : Change) → Placed st p (paletteStep st p x .answer)
   unfolding paletteStep at
@@ -72,12 +69,11 @@ module _ (film : List ℕ) (st : State) (p : ℕ) (allowed : Allowed) (l : Lent)
   unfolding mapTo mapped
   map-placed m n = placed-by (eqb n 0) (record { is = stays }) (record { is = on-taken refl })
 
-  size-placed : (a b c : Bool) (columns rows : ℕ) → Placed st p (cond a (cond b (cond c (taken (sized st p columns rows)) (refused 6 0)) (refused 6 0)) (refused 6 0))
+  size-placed : (a b : Bool) (columns rows : ℕ) (deep : Bool) → Placed st p (cond a (cond b (taken (sized st p columns rows deep)) (refused 6 0)) (refused 6 0))
   unfolding sized
-  size-placed true true true columns rows = on-taken refl
-  size-placed true true false columns rows = is-refused 6 0
-  size-placed true false c columns rows = is-refused 6 0
-  size-placed false b c columns rows = is-refused 6 0
+  size-placed true true columns rows deep = on-taken refl
+  size-placed true false columns rows deep = is-refused 6 0
+  size-placed false b columns rows deep = is-refused 6 0
 
   answer-by : (b : Bool) {x y : Answer} → Placed st p x → Placed st p y → Placed st p (cond b x y)
   answer-by true u v = u
@@ -87,7 +83,7 @@ module _ (film : List ℕ) (st : State) (p : ℕ) (allowed : Allowed) (l : Lent)
   unfolding quietAnswer sizeAnswer sent at
   quiet-placed kind version body n =
       rw (ne-eqb kind 0 n)
-      (answer-by (eqb kind 5) (size-placed (eqb (st .columns) 0) (legalSize (wordAt body 0) (wordAt body 2)) (eqb (colourOf body version) 0) (wordAt body 0) (wordAt body 2))
+      (answer-by (eqb kind 5) (size-placed (eqb (st .columns) 0) (legalSize (wordAt body 0) (wordAt body 2)) (wordAt body 0) (wordAt body 2) (isDeep (colourOf body version)))
       (answer-by (eqb kind 7) (on-taken refl) (on-taken refl)))
 
   act-placed : (kind version s : ℕ) (body : List ℕ) → (kind ≡ 0 → ⊥) → At st p (act film st kind version s body p allowed l)

@@ -24,6 +24,7 @@ pending film (Part start long) = map-bytes (part film start (start + long))
 pub record Alike (film : List ℕ) (st : State) (film′ : List ℕ) (st′ : State) : Type 0 where
   pub columns : st .columns ≡ st′ .columns
   pub rows : st .rows ≡ st′ .rows
+  pub deep : st .deep ≡ st′ .deep
   pub front : st .front ≡ st′ .front
   pub map : pending film (st .map) ≡ pending film′ (st′ .map)
   pub unsent : st .unsent ≡ st′ .unsent

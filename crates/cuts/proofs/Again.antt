@@ -1,24 +1,23 @@
 -- `cut-step`: a step that was cut and is called again comes to what the uncut step comes to, its count of stores apart.
 -- Assumes nothing.
-use mathlib.Core.Path.{_≡_, refl, sym, ap, _∙_, subst}
+use mathlib.Core.Path.{_≡_, refl, sym, ap, ap₂, _∙_, subst}
 use mathlib.Core.Bool.{Bool, true, false, cond}
 use mathlib.Core.List.{List, [], _∷_}
-use Prim.Native.Nat.{ℕ, zero, suc, _+_, _-_, _≤_, min}
+use Prim.Native.Nat.{ℕ, _+_, _-_, _≤_, min}
 use native.Mathlib.Decide.{decLt}
 use borrow.Author.Tests.{le-ltb}
 use native.Mathlib.Omega.{arith}
 use lib.Dec.{eqb}
-use lib.ListN.{length, set, take, drop, length-append, length-take, length-drop, length-set}
+use lib.ListN.{length, take, drop, length-append, length-take, length-drop, length-set}
 use lib.Seq.{take-all, take-at, take-nil, take-take, take-length}
 use Rattle.room.specs.Room.{written}
 use Rattle.refusal.specs.Number.{Verdict, accept, refuse}
 use Rattle.packet.specs.declared.Touched.{Touched}
 use Rattle.stores.specs.Stores.{Plan, Memory, memory}
 use Rattle.stores.specs.Stores as drawing
-use Rattle.stores.specs.Calls.{step, reply}
+use Rattle.stores.specs.Calls.{step}
 use Rattle.stores.specs.Calls as calls
-use Rattle.draw.specs.Drawing.{plan}
-use Rattle.draw.specs.Call.{Reason, Request, request, within, packetOf, drawVerdict, calling, report}
+use Rattle.draw.specs.Call.{Reason, Request, within, asking, callPlan, drawVerdict, calling, report}
 use Rattle.listed.specs.Store as palette
 use Rattle.listed.specs.Order.{Begun}
 use Rattle.listed.proofs.Lists.{applied-length}
@@ -38,13 +37,16 @@ use Rattle.state.specs.declared.Map.the-variants.{Missing, Part}
 use Rattle.state.specs.declared.State.{State}
 use Rattle.state.specs.Moves.{mapped}
 use Rattle.heads.specs.Heads.{hears}
-use Rattle.next.specs.Next.{Standing, nextOf}
+use Rattle.next.specs.Next.{Standing}
 use Rattle.next.specs.Next as found
-use Rattle.opcodes.specs.Opcodes.{Answer, quiet, heardStep, drawnAs}
-use Rattle.film.specs.Film.{Lent, withPictures, withRoom, swap, Outcome, after as outcome, called, drawSecond, drawOn, part, drawBy, paletteStep, update, mapTo, act, heardBy, hear, takeOn, standing, stepOf}
+use Rattle.opcodes.specs.Opcodes.{Answer, quiet, heardStep, drawnAs, drawnStep}
+use Rattle.film.specs.Film.{Lent, withPalette, withRoom, standsAt, Outcome, after as outcome, turnOf, newOf, drawnAt, withDrawn, requestOf, drawOn, part, drawMapped, isBodyShort, drawBy, paletteStep, update, mapTo, act, heardBy, hear, takeOn, standing, stepOf}
+use Rattle.film.proofs.Pictures.{drawn-back, drawn-palette, drawn-room, drawn-twice, drawn-at, drawn-request}
 use Rattle.walk.specs.Play.{most}
-use Rattle.cuts.specs.Cuts.{Store, colour, drawn, ofDrawing, Stores, nothing, noPlan, paletteDue, callDue, requestDue, drawDue, opcodeDue, standingDue, dueOf, make, run, Same, CutAgain}
-use Rattle.cuts.proofs.Runs.{run-colours, run-draws}
+use Rattle.walk.specs.Pictures.{Pictures}
+use Rattle.walk.proofs.Pictures.{all-kept, beside, drawn-holds}
+use Rattle.cuts.specs.Cuts.{Store, colour, drawn, Stores, nothing, noPlan, paletteDue, callDue, requestDue, mappedDue, drawDue, opcodeDue, standingDue, dueOf, make, run, Same, CutAgain}
+use Rattle.cuts.proofs.Runs.{run-colours, run-draws, run-map, roomed}
 use Rattle.cuts.proofs.Calls.{SameCall, listed-again}
 
 -- ---- the palette
@@ -85,7 +87,7 @@ module _ (st : State) (l : Lent) where
   still : (x : Answer) → Again nothing (λ m. outcome (quiet x) m)
   still x =
       idle (λ m. outcome (quiet x) m)
-      (λ room e. record { answer = refl; bytes = refl; rows = refl; palette = refl; first = refl; second = refl; place = refl; samples = refl; room = e })
+      (λ room e. record { answer = refl; bytes = refl; rows = refl; others = refl; samples = refl; room = e })
 
   -- ---- 0B, 0C, 0D
 
@@ -98,117 +100,92 @@ module _ (st : State) (l : Lent) where
       by accept e i room h =
           let f : length (u .stores) ≤ most = omega (arith, few e) in
           rw (run-colours st noPlan i (u .stores) l, applied-length (take i (u .stores)) (l .palette), e, le-ltb most (length (u .stores)) f)
-          (record { answer = refl; bytes = refl; rows = refl; palette = part-again (u .stores) f i (l .palette); first = refl; second = refl; place = refl; samples = refl; room = h })
+          (record { answer = refl; bytes = refl; rows = refl; others = ap (withPalette l) (part-again (u .stores) f i (l .palette)); samples = refl; room = h })
       by (refuse n k) e i room h =
           rw (take-nil {A = Store} i, e)
-          (record { answer = refl; bytes = refl; rows = refl; palette = refl; first = refl; second = refl; place = refl; samples = refl; room = h })
+          (record { answer = refl; bytes = refl; rows = refl; others = refl; samples = refl; room = h })
 
   -- ---- 0F
 
   map-again : (next : State) → Again (record { plan = noPlan; list = drawn (drawing.place 0) ∷ [] }) (mapTo st next most)
-  unfolding mapTo ofDrawing drawing.run drawing.apply
+  unfolding mapTo
   map-again next =
       record {
         again =
             λ i room h.
-            rw (run-draws st noPlan i (drawing.place 0 ∷ []) l)
-            (record { answer = refl; bytes = refl; rows = refl; palette = refl; first = first i (eqb (st .front) 0); second = second i (eqb (st .front) 0); place = refl; samples = refl; room = h });
+            subst (λ (k : Lent). Same (mapTo st next most (withRoom k room)) (mapTo st next most l)) (sym (run-map st i l))
+            (record { answer = refl; bytes = refl; rows = refl; others = refl; samples = refl; room = h });
       }
-    where
-      set : (i : ℕ) (m : Memory) → drawing.run noPlan m (take i (drawing.place 0 ∷ [])) .picture ≡ m .picture
-      set zero m = refl
-      set (suc i) m = rw (take-nil {A = drawing.Store} i)
-
-      first : (i : ℕ) (b : Bool) → cond b (l .first) (drawing.run noPlan (memory (cond b (l .second) (l .first)) (l .place)) (take i (drawing.place 0 ∷ [])) .picture) ≡ l .first
-      first i true = refl
-      first i false = set i (memory (l .first) (l .place))
-
-      second : (i : ℕ) (b : Bool) → cond b (drawing.run noPlan (memory (cond b (l .second) (l .first)) (l .place)) (take i (drawing.place 0 ∷ [])) .picture) (l .second) ≡ l .second
-      second i true = set i (memory (l .second) (l .place))
-      second i false = refl
 
   -- ---- 11
 
-  -- the picture drawn on is the second, or the first
-  called-again : (p : ℕ) (q : Request) (k m : Lent) → k .palette ≡ m .palette → k .first ≡ m .first → length (k .room) ≡ length (m .room)
-      → SameCall q (memory (k .second) (k .place)) (memory (m .second) (m .place)) → Same (called st p q k) (called st p q m)
-  unfolding called drawnAs
-  called-again p q k m e f g c =
-      let x = ends p (reply calling (memory (k .second) (k .place)) q .answer) (reply calling (memory (m .second) (m .place)) q .answer) (c .answer)
-      (reply calling (memory (k .second) (k .place)) q .count) (reply calling (memory (m .second) (m .place)) q .count)
-      (report (memory (k .second) (k .place)) q .rows) (report (memory (m .second) (m .place)) q .rows) (c .rows) in
-      record {
-        answer = x .0;
-        bytes = x .1;
-        rows = x .2;
-        palette = e;
-        first = f;
-        second = ap (λ (y : Memory). y .picture) (c .leaves);
-        place = ap (λ (y : Memory). y .place) (c .leaves);
-        samples =
-            rw (
-              none p (reply calling (memory (k .second) (k .place)) q .answer) (reply calling (memory (k .second) (k .place)) q .count) (report (memory (k .second) (k .place)) q .rows),
-              none p (reply calling (memory (m .second) (m .place)) q .answer) (reply calling (memory (m .second) (m .place)) q .count) (report (memory (m .second) (m .place)) q .rows),
-            );
-        room = g;
-      }
+  -- a drawing tells no bytes, and what it tells but its count goes by its answer and rows
+  none : (p : ℕ) (x : calls.Answer Reason) (n : ℕ) (t : Touched) → drawnAs st p x n t .bytes ≡ 0
+  unfolding drawnAs
+  none p calls.whole n t = refl
+  none p calls.unfinished n t = refl
+  none p (calls.refusal r) n t = refl
+
+  tells : (p : ℕ) (x y : calls.Answer Reason) → x ≡ y → (n n′ : ℕ) (t t′ : Touched) → t ≡ t′
+      → (drawnAs st p x n t .answer ≡ drawnAs st p y n′ t′ .answer) × (drawnAs st p x n t .rows ≡ drawnAs st p y n′ t′ .rows)
+  unfolding drawnAs
+  tells p x y e n n′ t t′ q = rw (e, q) (same y)
     where
-      none : (p : ℕ) (x : calls.Answer Reason) (n : ℕ) (t : Touched) → drawnAs st p x n t .bytes ≡ 0
-      none p calls.whole n t = refl
-      none p calls.unfinished n t = refl
-      none p (calls.refusal r) n t = refl
-
-      ends : (p : ℕ) (x y : calls.Answer Reason) → x ≡ y → (n n′ : ℕ) (t t′ : Touched) → t ≡ t′
-          → (drawnAs st p x n t .answer ≡ drawnAs st p y n′ t′ .answer) × (drawnAs st p x n t .bytes ≡ drawnAs st p y n′ t′ .bytes) × (drawnAs st p x n t .rows ≡ drawnAs st p y n′ t′ .rows)
-      ends p x y e n n′ t t′ q = rw (e, q) (same y)
-        where
-          same : (y : calls.Answer Reason) → (drawnAs st p y n t′ .answer ≡ drawnAs st p y n′ t′ .answer) × (drawnAs st p y n t′ .bytes ≡ drawnAs st p y n′ t′ .bytes) × (drawnAs st p y n t′ .rows ≡ drawnAs st p y n′ t′ .rows)
-          same calls.whole = (refl, refl, refl)
-          same calls.unfinished = (refl, refl, refl)
-          same (calls.refusal r) = (refl, refl, refl)
-
-  swapped : (x y : Outcome) → Same x y → Same (outcome (x .step) (swap (x .lent))) (outcome (y .step) (swap (y .lent)))
-  swapped x y s =
-      record { answer = s .answer; bytes = s .bytes; rows = s .rows; palette = s .palette; first = s .second; second = s .first; place = s .place; samples = s .samples; room = s .room }
+      same : (y : calls.Answer Reason) → (drawnAs st p y n t′ .answer ≡ drawnAs st p y n′ t′ .answer) × (drawnAs st p y n t′ .rows ≡ drawnAs st p y n′ t′ .rows)
+      same calls.whole = (refl, refl)
+      same calls.unfinished = (refl, refl)
+      same (calls.refusal r) = (refl, refl)
 
   module _ (p : ℕ) (map packet : List ℕ) (spare : ℕ) where
-    -- by which picture is front
-    abbrev asked : Bool → Request
-    asked b = request (st .columns) (st .rows) map packet (cond b (l .first) (l .second)) (within most spare)
+    abbrev q : Request
+    q = requestOf st map packet (within most spare) l
 
-    abbrev found-at : Bool → Memory
-    found-at b = memory (cond b (l .second) (l .first)) (l .place)
+    abbrev drawn-on : Lent → Outcome
+    drawn-on k = drawOn st p map packet (within most spare) k
 
-    abbrev drawn-on : Bool → Lent → Outcome
-    drawn-on b k =
-        cond b (drawSecond st p map packet (within most spare) k)
-        (outcome (drawSecond st p map packet (within most spare) (swap k) .step) (swap (drawSecond st p map packet (within most spare) (swap k) .lent)))
+    -- what is left by a call that was cut: another picture drawn on and place, and any bytes in the room
+    left-is : (m : Memory) (room : List ℕ)
+        → drawn-on (withRoom (withDrawn st l m) room) ≡ outcome (drawnStep st p (report m q)) (withRoom (withDrawn st l (step calling m q)) room)
+    unfolding drawOn
+    left-is m room =
+        let k = withDrawn st l m in
+        let x = roomed (turnOf st) k room in
+        let f : Request → Memory → Outcome = λ a n. outcome (drawnStep st p (report n a)) (withDrawn st (withRoom k room) (step calling n a)) in
+        (λ i. f (asking (st .deep) (st .columns) (st .rows) map packet (x .last i) (x .oldest i) (within most spare)) (memory (x .new i) (k .place)))
+        ∙ ap₂ f (drawn-request st l m map packet (within most spare)) (drawn-at st l m)
+        ∙ ap (outcome (drawnStep st p (report m q))) (x .drawn (step calling m q) ∙ ap (λ (z : Lent). withRoom z room) (drawn-twice st l m (step calling m q)))
 
-    abbrev left : Bool → Memory → List ℕ → Lent
-    left b m room = withRoom (withPictures l (cond b (l .first) (m .picture)) (cond b (m .picture) (l .second)) (m .place)) room
+    on-again : (m : Memory) (room : List ℕ) → length room ≡ length (l .room) → SameCall q m (drawnAt st l) → Same (drawn-on (withRoom (withDrawn st l m) room)) (drawn-on l)
+    unfolding drawOn
+    on-again m room h c =
+        let r = report m q in
+        let u = report (drawnAt st l) q in
+        let x = tells p (r .answer) (u .answer) (c .answer) (r .count) (u .count) (r .rows) (u .rows) (c .rows) in
+        let y = none p (r .answer) (r .count) (r .rows) in
+        let z = none p (u .answer) (u .count) (u .rows) in
+        subst (λ (o : Outcome). Same o (drawn-on l)) (sym (left-is m room))
+        (record {
+          answer = x .0;
+          bytes = y ∙ sym z;
+          rows = x .1;
+          others = ap (λ (n : Memory). withRoom (withDrawn st l n) (withDrawn st l (step calling (drawnAt st l) q) .room)) (c .leaves);
+          samples = rw (y, z);
+          room = h ∙ sym (ap length (drawn-room st l (step calling (drawnAt st l) q)));
+        })
 
-    on-again : (b : Bool) (m : Memory) (room : List ℕ) → length room ≡ length (l .room) → SameCall (asked b) m (found-at b) → Same (drawn-on b (left b m room)) (drawn-on b l)
-    on-again true m room h c = called-again p (asked true) (left true m room) l refl refl h c
-    on-again false m room h c = swapped _ _ (called-again p (asked false) (swap (left false m room)) (swap l) refl refl h c)
-
-    draw-again : Again (requestDue (asked (eqb (st .front) 0)) (found-at (eqb (st .front) 0))) (drawOn st p map packet (within most spare))
-    unfolding callDue drawOn run
-    draw-again = record { again = by (drawVerdict (asked (eqb (st .front) 0)) (found-at (eqb (st .front) 0))) refl }
+    draw-again : Again (requestDue q (drawnAt st l)) (drawOn st p map packet (within most spare))
+    unfolding callDue run
+    draw-again = record { again = by (drawVerdict q (drawnAt st l)) refl }
       where
-        idle-same : (c : Bool) (room : List ℕ) → length room ≡ length (l .room) → Same (drawn-on c (withRoom l room)) (drawn-on c l)
-        idle-same true room h = called-again p (asked true) (withRoom l room) l refl refl h (record { answer = refl; rows = refl; leaves = refl })
-        idle-same false room h = swapped _ _ (called-again p (asked false) (swap (withRoom l room)) (swap l) refl refl h (record { answer = refl; rows = refl; leaves = refl }))
-
-        by : (v : Verdict) → drawVerdict (asked (eqb (st .front) 0)) (found-at (eqb (st .front) 0)) ≡ v → (i : ℕ) (room : List ℕ) → length room ≡ length (l .room)
-            → Same (drawOn st p map packet (within most spare) (withRoom (run st (callDue v (plan (packetOf (asked (eqb (st .front) 0))) (asked (eqb (st .front) 0) .front)) (l .place) .plan) l (take i (callDue v (plan (packetOf (asked (eqb (st .front) 0))) (asked (eqb (st .front) 0) .front)) (l .place) .list))) room))
-            (drawOn st p map packet (within most spare) l)
+        by : (v : Verdict) → drawVerdict q (drawnAt st l) ≡ v → (i : ℕ) (room : List ℕ) → length room ≡ length (l .room)
+            → Same (drawn-on (withRoom (run st (callDue v (callPlan q) (l .place) .plan) l (take i (callDue v (callPlan q) (l .place) .list))) room)) (drawn-on l)
         by accept e i room h =
-            let q = asked (eqb (st .front) 0) in
-            let d = plan (packetOf q) (q .front) in
-            subst (λ (k : Lent). Same (drawOn st p map packet (within most spare) (withRoom k room)) (drawOn st p map packet (within most spare) l))
-            (sym (run-draws st d i (drawing.due d (l .place)) l))
-            (on-again (eqb (st .front) 0) _ room h (listed-again q (found-at (eqb (st .front) 0)) refl i e))
-        by (refuse n k) e i room h = rw (take-nil {A = Store} i) (idle-same (eqb (st .front) 0) room h)
+            subst (λ (k : Lent). Same (drawn-on (withRoom k room)) (drawn-on l)) (sym (run-draws st (callPlan q) i (drawing.due (callPlan q) (l .place)) l))
+            (on-again _ room h (listed-again q (drawnAt st l) refl i e))
+        by (refuse n k) e i room h =
+            rw (take-nil {A = Store} i)
+            (subst (λ (k : Lent). Same (drawn-on (withRoom k room)) (drawn-on l)) (drawn-back st l)
+            (on-again (drawnAt st l) room h (record { answer = refl; rows = refl; leaves = refl })))
 
   -- ---- sound
 
@@ -216,8 +193,8 @@ module _ (st : State) (l : Lent) where
       → Same (outcome (heardStep st p (answer x)) (withRoom l (sound.roomAfter x room))) (outcome (heardStep st p (answer x)) (withRoom l (sound.roomAfter x (l .room))))
   unfolding sound.roomAfter written heardStep answer
   heard-again p (sound.taken s bytes) room h =
-      record { answer = refl; bytes = refl; rows = refl; palette = refl; first = refl; second = refl; place = refl; samples = take-at bytes (drop (length bytes) room) (length bytes) refl ∙ sym (take-at bytes (drop (length bytes) (l .room)) (length bytes) refl); room = simp (length-append, length-drop) (ap (λ (n : ℕ). length bytes + (n - length bytes)) h) }
-  heard-again p (sound.refused n k) room h = record { answer = refl; bytes = refl; rows = refl; palette = refl; first = refl; second = refl; place = refl; samples = refl; room = h }
+      record { answer = refl; bytes = refl; rows = refl; others = refl; samples = take-at bytes (drop (length bytes) room) (length bytes) refl ∙ sym (take-at bytes (drop (length bytes) (l .room)) (length bytes) refl); room = simp (length-append, length-drop) (ap (λ (n : ℕ). length bytes + (n - length bytes)) h) }
+  heard-again p (sound.refused n k) room h = record { answer = refl; bytes = refl; rows = refl; others = refl; samples = refl; room = h }
 
   hear-again : (kind version : ℕ) (body : List ℕ) (p : ℕ) → Again nothing (hear st kind version body p)
   unfolding hear
@@ -227,10 +204,14 @@ module _ (st : State) (l : Lent) where
   -- ---- an opcode
 
   module _ (film : List ℕ) (spare : ℕ) where
+    mapped-again : (map : Map) (body : List ℕ) (p : ℕ) → Again (mappedDue map film st body spare l) (drawMapped map film st body p (within most spare))
+    unfolding mappedDue drawMapped
+    mapped-again Missing body p = still _
+    mapped-again (Part s n) body p = again-by (eqb (st .columns) 0) (still _) (draw-again p (part film s (s + n)) (part body 14 (length body)) spare)
+
     by-again : (map : Map) (body : List ℕ) (p : ℕ) → Again (drawDue map film st body spare l) (drawBy map film st body p (within most spare))
     unfolding drawDue drawBy
-    by-again Missing body p = still _
-    by-again (Part s n) body p = again-by (eqb (st .columns) 0) (still _) (draw-again p (part film s (s + n)) (part body 14 (length body)) spare)
+    by-again map body p = again-by (isBodyShort (st .deep) (length body)) (still _) (mapped-again map body p)
 
     act-again : (kind version s : ℕ) (body : List ℕ) (p : ℕ) → Again (opcodeDue film st kind body spare l) (act film st kind version s body p (within most spare))
     unfolding opcodeDue act
@@ -254,41 +235,42 @@ module _ (st : State) (l : Lent) where
 -- ---- a step
 
 -- no store changes a length
+abbrev AsLong : List ℕ → List ℕ → Type 0
+AsLong x y = length x ≡ length y
+
 record Long (k l : Lent) : Type 0 where
   palette : length (k .palette) ≡ length (l .palette)
-  first : length (k .first) ≡ length (l .first)
-  second : length (k .second) ≡ length (l .second)
+  pictures : Pictures AsLong k l
 
 one-long : (st : State) (d : Plan) (l : Lent) (s : Store) → Long (make st d l s) l
 unfolding make drawing.apply
-one-long st d l (colour s) = record { palette = length-set (l .palette) (s .index) (s .value); first = refl; second = refl }
-one-long st d l (drawn (drawing.place n)) = record { palette = refl; first = ap length (same (eqb (st .front) 0)); second = ap length (same′ (eqb (st .front) 0)) }
+one-long st d l (colour s) =
+    record { palette = length-set (l .palette) (s .index) (s .value); pictures = beside AsLong l l (all-kept AsLong (λ x. refl) l) _ _ _ _ _ _ }
+one-long st d l (drawn s) =
+    let m = drawing.apply d (drawnAt st l) s in
+    record { palette = ap length (drawn-palette st l m); pictures = drawn-holds AsLong (λ x. refl) st l m (same s) }
   where
-    same : (b : Bool) → cond b (l .first) (cond b (l .second) (l .first)) ≡ l .first
-    same true = refl
-    same false = refl
-
-    same′ : (b : Bool) → cond b (cond b (l .second) (l .first)) (l .second) ≡ l .second
-    same′ true = refl
-    same′ false = refl
-one-long st d l (drawn (drawing.pixel k i)) =
-    record { palette = refl; first = by (eqb (st .front) 0) (d .target k i) _; second = by′ (eqb (st .front) 0) (d .target k i) _ }
-  where
-    by : (b : Bool) (t v : ℕ) → length (cond b (l .first) (set (cond b (l .second) (l .first)) t v)) ≡ length (l .first)
-    by true t v = refl
-    by false t v = length-set (l .first) t v
-
-    by′ : (b : Bool) (t v : ℕ) → length (cond b (set (cond b (l .second) (l .first)) t v) (l .second)) ≡ length (l .second)
-    by′ true t v = length-set (l .second) t v
-    by′ false t v = refl
+    same : (s : drawing.Store) → length (drawing.apply d (drawnAt st l) s .picture) ≡ length (newOf st l)
+    same (drawing.place n) = refl
+    same (drawing.pixel k i) = length-set (newOf st l) (d .target k i) _
 
 run-long : (st : State) (d : Plan) (l : Lent) (s : List Store) → Long (run st d l s) l
 unfolding run
-run-long st d l [] = record { palette = refl; first = refl; second = refl }
+run-long st d l [] = record { palette = refl; pictures = all-kept AsLong (λ x. refl) l }
 run-long st d l (s ∷ ss) =
     let x = run-long st d (make st d l s) ss in
     let y = one-long st d l s in
-    record { palette = x .palette ∙ y .palette; first = x .first ∙ y .first; second = x .second ∙ y .second }
+    record {
+      palette = x .palette ∙ y .palette;
+      pictures =
+          record {
+            first = x .pictures .first ∙ y .pictures .first;
+            second = x .pictures .second ∙ y .pictures .second;
+            words0 = x .pictures .words0 ∙ y .pictures .words0;
+            words1 = x .pictures .words1 ∙ y .pictures .words1;
+            words2 = x .pictures .words2 ∙ y .pictures .words2;
+          };
+    }
 
 -- cut after j of the first n
 cut-first : {A : Type 0} (j n : ℕ) (s : List A) → take j (take n s) ≡ take (min j n) s
@@ -301,8 +283,9 @@ cut-first j n s =
 pub cut-step : (film : List ℕ) (st : State) (spare : ℕ) (l : Lent) → CutAgain film st spare l
 unfolding stepOf dueOf
 cut-step film st spare l n j room h =
-    let s = nextOf film st (length (l .palette)) (length (l .first)) (length (l .second)) in
+    let s = standsAt film st l in
     let d = standingDue s film st spare l in
     let x = run-long st (d .plan) l (take (min j n) (d .list)) in
+    let w = x .pictures in
     rw (cut-first j n (d .list))
-    (rw (x .palette, x .first, x .second) (standing-again st l film spare s .again (min j n) room h))
+    (rw (x .palette, w .first, w .second, w .words0, w .words1, w .words2) (standing-again st l film spare s .again (min j n) room h))

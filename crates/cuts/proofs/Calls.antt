@@ -1,20 +1,18 @@
 -- A drawing call that was cut, made again with enough stores, from any memory.
 -- Assumes nothing.
 use mathlib.Core.Path.{_≡_, refl, ap}
-use Prim.Native.Nat.{ℕ, _≤_, _-_}
+use Prim.Native.Nat.{ℕ, _≤_}
 use lib.Dec.{eqb}
 use lib.ListN.{length, take}
 use Rattle.refusal.specs.Number.{accept}
-use Rattle.packet.specs.Packet.{blocks}
 use Rattle.packet.proofs.Sizes.{is-size, is-sized}
 use Rattle.packet.specs.Asked.{Sized}
 use Rattle.stores.specs.Stores.{Plan, Memory, due, run, after}
-use Rattle.stores.specs.Calls.{allowed, answered, leave, outcome, step, reply}
+use Rattle.stores.specs.Calls.{answered, leave, outcome, step, reply}
 use Rattle.stores.proofs.Steps.{run-length, after-end, after-part, after-block, by-blocks}
 use Rattle.stores.proofs.Recover.{cut-again}
-use Rattle.draw.specs.Drawing.{plan}
-use Rattle.draw.specs.Taken.{DrawAccepts}
-use Rattle.draw.specs.Call.{Request, packetOf, drawVerdict, comes, calling, report}
+use Rattle.draw.specs.Taken.{DrawAcceptsIn}
+use Rattle.draw.specs.Call.{Request, packetOf, olderOf, callPlan, drawVerdict, comes, calling, report}
 use Rattle.draw.proofs.Exactly.{drawn-exactly}
 use Rattle.book.proofs.Lawful.{plan-lawful, stores-few}
 use Rattle.walk.specs.Play.{most}
@@ -39,21 +37,29 @@ pub record SameCall (q : Request) (m′ m : Memory) : Type 0 where
 
 module _ (q : Request) (m : Memory) (big : q .allowed .stores ≡ most) (i : ℕ) where
   abbrev d : Plan
-  d = plan (packetOf q) (q .front)
+  d = callPlan q
+
+  -- its tests at a memory
+  abbrev Accepted : Memory → Type 0
+  Accepted n =
+      DrawAcceptsIn (q .deep) (q .allowed .spare) (q .columns) (q .rows) (q .map) (q .bytes) (length (q .front)) (length (q .oldest)) (length (n .picture)) (n .place)
+
+  tests : (n : Memory) → (drawVerdict q n ≡ accept → Accepted n) × (Accepted n → drawVerdict q n ≡ accept)
+  tests n =
+      drawn-exactly (q .deep) (q .allowed .spare) (q .columns) (q .rows) (q .map) (q .bytes) (length (q .front)) (length (q .oldest)) (length (n .picture)) (n .place)
 
   pub drawn-again : drawVerdict q m ≡ accept → SameCall q (after d m i) m
   unfolding outcome leave comes answered
   drawn-again e =
-      let x = drawn-exactly (q .allowed .spare) (q .columns) (q .rows) (q .map) (q .bytes) (length (q .front)) (length (m .picture)) (m .place) .0 e in
+      let x = tests m .0 e in
       let a = x .accepted in
-      let z : Sized (packetOf q) = is-sized (q .columns) (q .rows) (q .map) (q .bytes) (is-size (q .columns) (q .rows) (a .wide) (a .high)) (a .mapped) in
-      let laws = plan-lawful (packetOf q) z (a .drawn) (q .front) (length (m .picture)) (x .back-long) in
-      let y : DrawAccepts (q .allowed .spare) (q .columns) (q .rows) (q .map) (q .bytes) (length (q .front)) (length (after d m i .picture)) (after d m i .place) =
-      record { accepted = a; front-long = x .front-long; back-long = rw (after-long d m i) (x .back-long); within = after-low d m i (x .within) } in
+      let z : Sized (packetOf q) = is-sized (packetOf q) (is-size (q .columns) (q .rows) (a .wide) (a .high)) (a .mapped) in
+      let laws = plan-lawful (packetOf q) z (a .drawn) (olderOf q) (length (m .picture)) (x .back-long) in
       let v : drawVerdict q (after d m i) ≡ accept =
-      drawn-exactly (q .allowed .spare) (q .columns) (q .rows) (q .map) (q .bytes) (length (q .front)) (length (after d m i .picture)) (after d m i .place) .1 y in
+      tests (after d m i) .1
+      (record { accepted = a; front-long = x .front-long; oldest-long = x .oldest-long; back-long = rw (after-long d m i) (x .back-long); within = after-low d m i (x .within) }) in
       let c : after d (after d m i) (q .allowed .stores) ≡ after d m (q .allowed .stores) =
-      cut-again d (length (m .picture)) (laws .own) m refl (x .within) i (q .allowed .stores) (rw big (stores-few (packetOf q) z (q .front) (m .place) (x .within))) in
+      cut-again d (length (m .picture)) (laws .own) m refl (x .within) i (q .allowed .stores) (rw big (stores-few (packetOf q) z (olderOf q) (m .place) (x .within))) in
       record {
         answer = rw (v, e) (ap (λ (n : Memory). answered (eqb (n .place) (d .blocks))) c);
         rows = rw (v, e);

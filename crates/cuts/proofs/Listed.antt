@@ -15,13 +15,12 @@ use Rattle.packet.specs.declared.Touched.{Touched}
 use Rattle.packet.specs.Rows.{touched}
 use Rattle.packet.specs.Verdict.{legalSize}
 use Rattle.words.specs.Word.{wordAt}
-use Rattle.stores.specs.Stores.{Plan, Memory, memory, after, count, due}
+use Rattle.stores.specs.Stores.{Plan, Memory, after, count, due}
 use Rattle.stores.specs.Stores as drawing
-use Rattle.stores.specs.Calls.{step, leave, outcome, answered}
+use Rattle.stores.specs.Calls.{leave, outcome, answered}
 use Rattle.stores.specs.Calls as calls
 use Rattle.stores.proofs.Steps.{due-end, due-length, after-end, after-part, after-block, by-blocks}
-use Rattle.draw.specs.Drawing.{plan}
-use Rattle.draw.specs.Call.{Reason, Request, request, within, packetOf, drawVerdict, comes}
+use Rattle.draw.specs.Call.{Reason, Request, within, packetOf, callPlan, drawVerdict, comes}
 use Rattle.draw.proofs.Exactly.{drawn-exactly}
 use Rattle.listed.specs.Store as palette
 use Rattle.palette.specs.Update.{Update, verdictOn, changeOf, changeBy, onAccept, paletteAfter}
@@ -36,12 +35,13 @@ use Rattle.state.specs.declared.Map.the-variants.{Missing, Part}
 use Rattle.state.specs.declared.State.{State}
 use Rattle.state.specs.Moves.{mapped}
 use Rattle.heads.specs.Heads.{hears}
-use Rattle.next.specs.Next.{Standing, nextOf}
+use Rattle.next.specs.Next.{Standing}
 use Rattle.next.specs.Next as found
-use Rattle.opcodes.specs.Opcodes.{Answer, taken, whole, unfinished, ended, refused, Step, quiet, colourOf, sizeAnswer, quietAnswer, heardStep, drawnAs}
-use Rattle.film.specs.Film.{Lent, withPalette, withPictures, withRoom, swap, Outcome, after as left, called, drawSecond, drawOn, part, drawBy, paletteStep, update, mapTo, act, heardBy, hear, takeOn, standing, stepOf}
-use Rattle.cuts.specs.Cuts.{Store, drawn, ofPalette, ofDrawing, Stores, nothing, noPlan, paletteDue, callDue, requestDue, drawDue, opcodeDue, standingDue, dueOf, withBack, run, Listed}
-use Rattle.cuts.proofs.Runs.{run-colours, run-draws}
+use Rattle.opcodes.specs.Opcodes.{Answer, taken, unfinished, refused, Step, quiet, sizeAnswer, quietAnswer, heardStep, drawnAs}
+use Rattle.film.specs.Film.{Lent, withPalette, withRoom, standsAt, Outcome, after as left, lastOf, newOf, oldestOf, drawnAt, withDrawn, requestOf, drawOn, part, drawMapped, isBodyShort, drawBy, paletteStep, update, mapTo, act, heardBy, hear, takeOn, standing, stepOf}
+use Rattle.film.proofs.Pictures.{drawn-back, drawn-room}
+use Rattle.cuts.specs.Cuts.{Store, drawn, ofPalette, ofDrawing, Stores, nothing, noPlan, paletteDue, callDue, requestDue, mappedDue, drawDue, opcodeDue, standingDue, dueOf, run, Listed}
+use Rattle.cuts.proofs.Runs.{run-colours, run-draws, run-map}
 
 -- ---- a call from any memory: it ends the drawing exactly where all that is due is allowed
 
@@ -139,114 +139,82 @@ module _ (st : State) (l : Lent) (n : ℕ) where
 
   -- ---- 11
 
-  -- a call that is not refused
-  call-is : (p : ℕ) (q : Request) (k : Lent) → drawVerdict q (memory (k .second) (k .place)) ≡ accept
-      → called st p q k
-      ≡ left (drawnAs st p (answered (eqb (after (plan (packetOf q) (q .front)) (memory (k .second) (k .place)) (q .allowed .stores) .place) (plan (packetOf q) (q .front) .blocks)))
-      (count (plan (packetOf q) (q .front)) (memory (k .second) (k .place)) (q .allowed .stores)) (touched (packetOf q)))
-      (withPictures k (k .first) (after (plan (packetOf q) (q .front)) (memory (k .second) (k .place)) (q .allowed .stores) .picture) (after (plan (packetOf q) (q .front)) (memory (k .second) (k .place)) (q .allowed .stores) .place))
-  unfolding called outcome leave comes
-  call-is p q k e = rw e
+  -- what the answer says of the place
+  whole-stores : (p : ℕ) (x : calls.Answer Reason) (c : ℕ) (t : Touched) → ((r : Reason) → x ≡ calls.refusal r → ⊥) → drawnAs st p x c t .stores ≡ c
+  unfolding drawnAs
+  whole-stores p calls.whole c t f = refl
+  whole-stores p calls.unfinished c t f = refl
+  whole-stores p (calls.refusal r) c t f = absurd (f r refl)
 
-  -- and one that is
-  call-not : (p : ℕ) (q : Request) (k : Lent) (m j : ℕ) → drawVerdict q (memory (k .second) (k .place)) ≡ refuse m j → called st p q k ≡ left (quiet (refused m j)) k
-  unfolding called outcome leave comes drawnAs
-  call-not p q k m j e = rw e
+  told : (t : Bool) (r : Reason) → _≡_ {A = calls.Answer Reason} (answered t) (calls.refusal r) → ⊥
+  unfolding answered
+  told true r e = let z : _≡_ {A = ℕ} 0 1 = cc in omega arith
+  told false r e = let z : _≡_ {A = ℕ} 0 1 = cc in omega arith
+
+  ended-whole : (p : ℕ) (t : Bool) → t ≡ true → (c : ℕ) (r : Touched) (u : State) → drawnAs st p (answered t) c r .answer ≡ unfinished u → ⊥
+  unfolding drawnAs answered
+  ended-whole p true e c r u z = let w : _≡_ {A = ℕ} 0 1 = cc in omega arith
+  ended-whole p false e c r u z = absurd (let w : _≡_ {A = ℕ} 0 1 = cc in let y : ⊥ = omega arith in y)
 
   module _ (p : ℕ) (map packet : List ℕ) (spare : ℕ) where
-    abbrev asked : Bool → Request
-    asked b = request (st .columns) (st .rows) map packet (cond b (l .first) (l .second)) (within n spare)
+    abbrev q : Request
+    q = requestOf st map packet (within n spare) l
 
-    abbrev at : Bool → Memory
-    at b = memory (cond b (l .second) (l .first)) (l .place)
+    abbrev m : Memory
+    m = drawnAt st l
 
-    abbrev d : Bool → Plan
-    d b = plan (packetOf (asked b)) (asked b .front)
+    abbrev d : Plan
+    d = callPlan q
 
-    abbrev made : Bool → Outcome
-    made b =
-        cond b (drawSecond st p map packet (within n spare) l)
-        (left (drawSecond st p map packet (within n spare) (swap l) .step) (swap (drawSecond st p map packet (within n spare) (swap l) .lent)))
+    -- the step of a call that is not refused
+    abbrev made : Step
+    made = drawnAs st p (answered (eqb (after d m n .place) (d .blocks))) (count d m n) (touched (packetOf q))
 
-    abbrev over : Bool → Memory → Lent
-    over b m = withPictures l (cond b (l .first) (m .picture)) (cond b (m .picture) (l .second)) (m .place)
+    made-is : drawVerdict q m ≡ accept → drawOn st p map packet (within n spare) l ≡ left made (withDrawn st l (after d m n))
+    unfolding drawOn outcome leave comes
+    made-is e = rw e
 
-    made-is : (b : Bool) → drawVerdict (asked b) (at b) ≡ accept
-        → made b ≡ left (drawnAs st p (answered (eqb (after (d b) (at b) n .place) (d b .blocks))) (count (d b) (at b) n) (touched (packetOf (asked b)))) (over b (after (d b) (at b) n))
-    made-is true e = call-is p (asked true) l e
-    made-is false e = ap (λ (o : Outcome). left (o .step) (swap (o .lent))) (call-is p (asked false) (swap l) e)
+    made-not : (k j : ℕ) → drawVerdict q m ≡ refuse k j → drawOn st p map packet (within n spare) l ≡ left (quiet (refused k j)) l
+    unfolding drawOn outcome leave comes drawnAs
+    made-not k j e = rw e (ap (left (quiet (refused k j))) (drawn-back st l))
 
-    made-not : (b : Bool) (m j : ℕ) → drawVerdict (asked b) (at b) ≡ refuse m j → made b ≡ left (quiet (refused m j)) l
-    made-not true m j e = call-not p (asked true) l m j e
-    made-not false m j e = ap (λ (o : Outcome). left (o .step) (swap (o .lent))) (call-not p (asked false) (swap l) m j e)
-
-    -- what the answer says of the place
-    whole-stores : (x : calls.Answer Reason) (c : ℕ) (t : Touched) → ((r : Reason) → x ≡ calls.refusal r → ⊥) → drawnAs st p x c t .stores ≡ c
-    unfolding drawnAs
-    whole-stores calls.whole c t f = refl
-    whole-stores calls.unfinished c t f = refl
-    whole-stores (calls.refusal r) c t f = absurd (f r refl)
-
-    told : (t : Bool) (r : Reason) → _≡_ {A = calls.Answer Reason} (answered t) (calls.refusal r) → ⊥
-    unfolding answered
-    told true r e = let z : _≡_ {A = ℕ} 0 1 = cc in omega arith
-    told false r e = let z : _≡_ {A = ℕ} 0 1 = cc in omega arith
-
-    ended-whole : (t : Bool) → t ≡ true → (c : ℕ) (r : Touched) (u : State) → drawnAs st p (answered t) c r .answer ≡ unfinished u → ⊥
-    unfolding drawnAs answered
-    ended-whole true e c r u z = let w : _≡_ {A = ℕ} 0 1 = cc in omega arith
-    ended-whole false e c r u z = absurd (let w : _≡_ {A = ℕ} 0 1 = cc in let y : ⊥ = omega arith in y)
-
-    accepted-listed : (b : Bool) → drawVerdict (asked b) (at b) ≡ accept → eqb (st .front) 0 ≡ b → (o : Outcome) → o ≡ made b → Listed st l n (record { plan = d b; list = ofDrawing (due (d b) (l .place)) }) o
+    accepted-listed : drawVerdict q m ≡ accept → Listed st l n (record { plan = d; list = ofDrawing (due d (l .place)) }) (left made (withDrawn st l (after d m n)))
     unfolding after count drawnAs answered
-    accepted-listed b e fr o eo =
-        let x = drawn-exactly spare (st .columns) (st .rows) map packet (length (asked b .front)) (length (at b .picture)) (l .place) .0 e in
-        let g = through (d b) (at b) n (x .within) in
-        let w = eo ∙ made-is b e in
+    accepted-listed e =
+        let x =
+        drawn-exactly (st .deep) spare (st .columns) (st .rows) map packet (length (lastOf st l)) (length (oldestOf st l)) (length (newOf st l)) (l .place) .0 e in
+        let g = through d m n (x .within) in
+        let a = all-draws (due d (l .place)) in
         record {
-          leaves =
-              ap (λ (y : Outcome). withRoom (y .lent) (l .room)) w
-              ∙ ap (λ (c : Bool). withPictures l (cond c (l .first) (drawing.run (d b) (at b) (take n (due (d b) (l .place))) .picture)) (cond c (drawing.run (d b) (at b) (take n (due (d b) (l .place))) .picture) (l .second)) (drawing.run (d b) (at b) (take n (due (d b) (l .place))) .place)) (sym fr)
-              ∙ ap (λ (c : Bool). withBack st l (drawing.run (d b) (memory (cond c (l .second) (l .first)) (l .place)) (take n (due (d b) (l .place))))) (sym fr)
-              ∙ sym (run-draws st (d b) n (due (d b) (l .place)) l);
-          counts = ap (λ (y : Outcome). y .step .stores) w ∙ whole-stores (answered (eqb (after (d b) (at b) n .place) (d b .blocks))) (count (d b) (at b) n) (touched (packetOf (asked b))) (told (eqb (after (d b) (at b) n .place) (d b .blocks))) ∙ sym (length-draws n (due (d b) (l .place)));
-          short = λ q. ap (λ (y : Outcome). y .step .answer) w ∙ rw (ne-eqb _ _ (λ z. below (g .0 (rw (all-draws (due (d b) (l .place))) at q)) z)) refl;
-          enough = λ q u z. ended-not (rw (all-draws (due (d b) (l .place))) at q) u (sym (ap (λ (y : Outcome). y .step .answer) w) ∙ z);
+          leaves = ap (withRoom (withDrawn st l (after d m n))) (sym (drawn-room st l (after d m n))) ∙ sym (run-draws st d n (due d (l .place)) l);
+          counts = whole-stores p _ (count d m n) _ (told (eqb (after d m n .place) (d .blocks))) ∙ sym (length-draws n (due d (l .place)));
+          short = λ h. rw (ne-eqb _ _ (below (g .0 (rw a at h)))) refl;
+          enough = λ h u z. ended-whole p (eqb (after d m n .place) (d .blocks)) (eq-eqb _ _ (g .1 (rw a at h))) (count d m n) (touched (packetOf q)) u z;
         }
       where
         below : {a c : ℕ} → a < c → a ≡ c → ⊥
         below h z = omega arith
 
-        ended-not : length (due (d b) (l .place)) ≤ n → (u : State)
-            → drawnAs st p (answered (eqb (after (d b) (at b) n .place) (d b .blocks))) (count (d b) (at b) n) (touched (packetOf (asked b))) .answer ≡ unfinished u → ⊥
-        ended-not h u z =
-            let x = drawn-exactly spare (st .columns) (st .rows) map packet (length (asked b .front)) (length (at b .picture)) (l .place) .0 e in
-            ended-whole (eqb (after (d b) (at b) n .place) (d b .blocks)) (eq-eqb _ _ (through (d b) (at b) n (x .within) .1 h)) (count (d b) (at b) n) (touched (packetOf (asked b))) u z
-
-    draw-listed : Listed st l n (requestDue (asked (eqb (st .front) 0)) (at (eqb (st .front) 0))) (drawOn st p map packet (within n spare) l)
-    unfolding callDue drawOn
-    draw-listed = by (eqb (st .front) 0) refl (drawVerdict (asked (eqb (st .front) 0)) (at (eqb (st .front) 0))) refl
+    draw-listed : Listed st l n (requestDue q m) (drawOn st p map packet (within n spare) l)
+    unfolding callDue
+    draw-listed = by (drawVerdict q m) refl
       where
-        by : (b : Bool) → eqb (st .front) 0 ≡ b → (v : Verdict) → drawVerdict (asked b) (at b) ≡ v → Listed st l n (callDue v (d b) (l .place)) (made b)
-        by b fr accept e = accepted-listed b e fr (made b) refl
-        by b fr (refuse m j) e = rw (made-not b m j e) (refuses m j)
+        by : (v : Verdict) → drawVerdict q m ≡ v → Listed st l n (callDue v d (l .place)) (drawOn st p map packet (within n spare) l)
+        by accept e = rw (made-is e) (accepted-listed e)
+        by (refuse k j) e = rw (made-not k j e) (refuses k j)
 
   -- ---- the others
 
   map-listed : (next : State) → Listed st l n (record { plan = noPlan; list = drawn (drawing.place 0) ∷ [] }) (mapTo st next n l)
-  unfolding mapTo ofDrawing run drawing.run drawing.apply
+  unfolding mapTo
   map-listed next = by n
     where
-      same : (b : Bool) → withPictures l (l .first) (l .second) 0 ≡ withPictures l (cond b (l .first) (cond b (l .second) (l .first))) (cond b (cond b (l .second) (l .first)) (l .second)) 0
-      same true = refl
-      same false = refl
-
       by : (m : ℕ) → Listed st l m (record { plan = noPlan; list = drawn (drawing.place 0) ∷ [] }) (mapTo st next m l)
-      by zero = record { leaves = refl; counts = refl; short = λ q. refl; enough = λ q. absurd (let y : ⊥ = omega arith in y) }
+      by zero = record { leaves = sym (run-map st zero l); counts = refl; short = λ q. refl; enough = λ q. absurd (let y : ⊥ = omega arith in y) }
       by (suc m) =
           rw (ne-eqb (suc m) 0 (λ e. let y : ⊥ = omega arith in y))
           (record {
-            leaves = same (eqb (st .front) 0) ∙ sym (run-draws st noPlan (suc m) (drawing.place 0 ∷ []) l ∙ rw (take-nil {A = drawing.Store} m));
+            leaves = sym (run-map st (suc m) l);
             counts = ap suc (sym (ap length (take-nil {A = Store} m)));
             short = λ q. absurd (let y : ⊥ = omega arith in y);
             enough = λ q u e. let z : _≡_ {A = ℕ} 0 1 = cc in omega arith;
@@ -273,17 +241,21 @@ module _ (st : State) (l : Lent) (n : ℕ) where
   unfolding quietAnswer sizeAnswer
   quiet-still film kind version body p =
       still-by (eqb kind 0) (takes _)
-      (still-by (eqb kind 5) (still-by (eqb (st .columns) 0) (still-by (legalSize (wordAt body 0) (wordAt body 2)) (still-by (eqb (colourOf body version) 0) (takes _) (refuses-it 6 0)) (refuses-it 6 0)) (refuses-it 6 0))
+      (still-by (eqb kind 5) (still-by (eqb (st .columns) 0) (still-by (legalSize (wordAt body 0) (wordAt body 2)) (takes _) (refuses-it 6 0)) (refuses-it 6 0))
       (still-by (eqb kind 7) (takes _) (takes _)))
 
   quiet-listed : (film kind version : ℕ) (body : List ℕ) (p : ℕ) → Listed st l n nothing (left (quiet (quietAnswer film st kind version body p)) l)
   quiet-listed film kind version body p = idle _ refl (is-still _ (quiet-still film kind version body p)) l refl
 
   module _ (film : List ℕ) (spare : ℕ) where
+    mapped-listed : (map : Map) (body : List ℕ) (p : ℕ) → Listed st l n (mappedDue map film st body spare l) (drawMapped map film st body p (within n spare) l)
+    unfolding mappedDue drawMapped
+    mapped-listed Missing body p = refuses 9 0
+    mapped-listed (Part s m) body p = lists-by (eqb (st .columns) 0) (refuses 9 0) (draw-listed p (part film s (s + m)) (part body 14 (length body)) spare)
+
     by-listed : (map : Map) (body : List ℕ) (p : ℕ) → Listed st l n (drawDue map film st body spare l) (drawBy map film st body p (within n spare) l)
     unfolding drawDue drawBy
-    by-listed Missing body p = refuses 9 0
-    by-listed (Part s m) body p = lists-by (eqb (st .columns) 0) (refuses 9 0) (draw-listed p (part film s (s + m)) (part body 14 (length body)) spare)
+    by-listed map body p = lists-by (isBodyShort (st .deep) (length body)) (refuses 5 0) (mapped-listed map body p)
 
     act-listed : (kind version s : ℕ) (body : List ℕ) (p : ℕ) → Listed st l n (opcodeDue film st kind body spare l) (act film st kind version s body p (within n spare) l)
     unfolding opcodeDue act
@@ -305,4 +277,4 @@ module _ (st : State) (l : Lent) (n : ℕ) where
 
     pub step-listed : Listed st l n (dueOf film st spare l) (stepOf film st (within n spare) l)
     unfolding dueOf stepOf
-    step-listed = standing-listed (nextOf film st (length (l .palette)) (length (l .first)) (length (l .second)))
+    step-listed = standing-listed (standsAt film st l)

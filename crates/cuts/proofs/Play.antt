@@ -2,14 +2,14 @@
 -- Assumes nothing.
 use mathlib.Core.Path.{_≡_, refl, sym, ap, ap₂, _∙_, subst}
 use mathlib.Core.Bool.{Bool, true, false}
-use mathlib.Core.List.{List, _++_}
+use mathlib.Core.List.{List, [], _∷_, _++_}
 use Prim.Native.Nat.{ℕ}
 use native.Mathlib.Omega.{arith}
 use lib.ListN.{length}
 use Rattle.draw.specs.Call.{within}
 use Rattle.state.specs.declared.State.{State}
-use Rattle.film.specs.Film.{Lent, lent, withRoom, Outcome}
-use Rattle.walk.specs.Play.{most, Event, samples, sentBy, eventsOf, End, leadOf, Plays}
+use Rattle.film.specs.Film.{Lent, withRoom, Outcome}
+use Rattle.walk.specs.Play.{most, Event, samples, shownBy, sentBy, eventsOf, End, leadOf, Plays}
 use Rattle.walk.specs.Play as walk
 use Rattle.walk.proofs.Play.{play-one, play-all}
 use Rattle.cuts.specs.Cuts.{run, Same}
@@ -19,14 +19,11 @@ use Rattle.cuts.proofs.Again.{cut-step}
 
 -- all that is lent, but for the bytes of the room
 record Near (k l : Lent) : Type 0 where
-  palette : k .palette ≡ l .palette
-  first : k .first ≡ l .first
-  second : k .second ≡ l .second
-  place : k .place ≡ l .place
+  others : withRoom k (l .room) ≡ l
   room : length (k .room) ≡ length (l .room)
 
 near-of : (x y : Outcome) → Same x y → Near (x .lent) (y .lent)
-near-of x y s = record { palette = s .palette; first = s .first; second = s .second; place = s .place; room = s .room }
+near-of x y s = record { others = s .others; room = s .room }
 
 turn : (x y : Outcome) → Same x y → Same y x
 turn x y s =
@@ -34,18 +31,15 @@ turn x y s =
       answer = sym (s .answer);
       bytes = sym (s .bytes);
       rows = sym (s .rows);
-      palette = sym (s .palette);
-      first = sym (s .first);
-      second = sym (s .second);
-      place = sym (s .place);
+      others = ap (λ (l : Lent). withRoom l (x .lent .room)) (sym (s .others));
       samples = sym (s .samples);
       room = sym (s .room);
     }
 
 -- the same picture is sent, with the same palette, and the same samples are given
 sent-near : (a b : Bool) (t : State) (k l : Lent) → Near k l → sentBy a b t k ≡ sentBy a b t l
-unfolding sentBy
-sent-near true false t k l h = rw (h .palette, h .first, h .second)
+unfolding sentBy shownBy
+sent-near true false t k l h = ap (λ (m : Lent). shownBy t m ∷ []) (h .others)
 sent-near true true t k l h = refl
 sent-near false b t k l h = refl
 
@@ -64,7 +58,7 @@ module _ (film : List ℕ) (spare : ℕ) where
   near-step : (st : State) (k l : Lent) → Near k l → Same (step st k) (step st l)
   unfolding run
   near-step st k l h =
-      let e : k ≡ withRoom l (k .room) = λ i. lent (h .palette i) (h .first i) (h .second i) (h .place i) (k .room) in
+      let e : k ≡ withRoom l (k .room) = ap (λ (x : Lent). withRoom x (k .room)) (h .others) in
       subst (λ (x : Lent). Same (step st x) (step st l)) (sym e) (cut-step film st spare l 0 0 (k .room) (h .room))
 
   -- a run without cuts from memory at which the first step comes to the same

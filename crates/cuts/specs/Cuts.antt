@@ -8,11 +8,10 @@ use Prim.Native.Nat.{ℕ, _+_, _≤_, _<_}
 use lib.Dec.{eqb}
 use lib.ListN.{length, take, set}
 use Rattle.refusal.specs.Number.{Verdict, accept, refuse}
-use Rattle.stores.specs.Stores.{Plan, Memory, memory, due, apply}
+use Rattle.stores.specs.Stores.{Plan, Memory, due, apply}
 use Rattle.stores.specs.Stores as drawing
 use Rattle.draw.specs.declared.Allowed.{Allowed}
-use Rattle.draw.specs.Drawing.{plan}
-use Rattle.draw.specs.Call.{Request, request, within, packetOf, drawVerdict}
+use Rattle.draw.specs.Call.{Request, within, callPlan, drawVerdict}
 use Rattle.listed.specs.Store as palette
 use Rattle.palette.specs.Update.{Update, verdictOn}
 use Rattle.palette.specs.Gradient.{createGradient}
@@ -23,10 +22,10 @@ use Rattle.state.specs.declared.Map.the-variants.{Missing, Part}
 use Rattle.state.specs.declared.State.{State}
 use Rattle.sound.specs.Format.{chosen}
 use Rattle.heads.specs.Heads.{hears}
-use Rattle.next.specs.Next.{Standing, nextOf}
+use Rattle.next.specs.Next.{Standing}
 use Rattle.next.specs.Next as found
 use Rattle.opcodes.specs.Opcodes.{unfinished}
-use Rattle.film.specs.Film.{Lent, withPalette, withPictures, withRoom, Outcome, part, stepOf}
+use Rattle.film.specs.Film.{Lent, withPalette, withRoom, standsAt, Outcome, drawnAt, withDrawn, requestOf, part, isBodyShort, stepOf}
 use Rattle.walk.specs.Play.{most}
 
 -- ---- the list of a step
@@ -66,22 +65,18 @@ unfoldable pub callDue : Verdict → Plan → ℕ → Stores
 callDue accept d place = record { plan = d; list = ofDrawing (due d place) }
 callDue (refuse n k) d place = nothing
 
--- the picture that is front, and the one drawn on with the place
-abbrev pub shown : State → Lent → List ℕ
-shown st l = cond (eqb (st .front) 0) (l .first) (l .second)
-
-abbrev pub back : State → Lent → Memory
-back st l = memory (cond (eqb (st .front) 0) (l .second) (l .first)) (l .place)
-
 abbrev pub requestDue : Request → Memory → Stores
-requestDue q m = callDue (drawVerdict q m) (plan (packetOf q) (q .front)) (m .place)
+requestDue q m = callDue (drawVerdict q m) (callPlan q) (m .place)
 
--- 11 by the pending map
-unfoldable pub drawDue : Map → List ℕ → State → List ℕ → ℕ → Lent → Stores
-drawDue Missing film st body spare l = nothing
-drawDue (Part start long) film st body spare l =
+-- 11 by the pending map, and by its body
+unfoldable pub mappedDue : Map → List ℕ → State → List ℕ → ℕ → Lent → Stores
+mappedDue Missing film st body spare l = nothing
+mappedDue (Part start long) film st body spare l =
     cond (eqb (st .columns) 0) nothing
-    (requestDue (request (st .columns) (st .rows) (part film start (start + long)) (part body 14 (length body)) (shown st l) (within most spare)) (back st l))
+    (requestDue (requestOf st (part film start (start + long)) (part body 14 (length body)) (within most spare) l) (drawnAt st l))
+
+unfoldable pub drawDue : Map → List ℕ → State → List ℕ → ℕ → Lent → Stores
+drawDue map film st body spare l = cond (isBodyShort (st .deep) (length body)) nothing (mappedDue map film st body spare l)
 
 -- by the opcode's type: 0F has one store, the place, and what is none of these has none
 unfoldable pub opcodeDue : List ℕ → State → ℕ → List ℕ → ℕ → Lent → Stores
@@ -102,18 +97,14 @@ standingDue (found.opcode o) film st spare l =
 
 -- the stores of a step, by the bytes that a packet may leave over
 unfoldable pub dueOf : List ℕ → State → ℕ → Lent → Stores
-dueOf film st spare l = standingDue (nextOf film st (length (l .palette)) (length (l .first)) (length (l .second))) film st spare l
+dueOf film st spare l = standingDue (standsAt film st l) film st spare l
 
 -- ---- what stores do
-
--- with another picture drawn on and place
-abbrev pub withBack : State → Lent → Memory → Lent
-withBack st l m = withPictures l (cond (eqb (st .front) 0) (l .first) (m .picture)) (cond (eqb (st .front) 0) (m .picture) (l .second)) (m .place)
 
 -- one store, at a state: it says which picture is drawn on
 unfoldable pub make : State → Plan → Lent → Store → Lent
 make st d l (colour s) = withPalette l (set (l .palette) (s .index) (s .value))
-make st d l (drawn s) = withBack st l (apply d (back st l) s)
+make st d l (drawn s) = withDrawn st l (apply d (drawnAt st l) s)
 
 unfoldable pub run : State → Plan → Lent → List Store → Lent
 run st d l [] = l
@@ -136,15 +127,13 @@ pub record Listed (st : State) (l : Lent) (n : ℕ) (d : Stores) (o : Outcome) :
 
 -- ---- called again
 
--- one answer but for the count of stores, with its state; one palette, place and pair of pictures; the same samples at the front of a room that is as long
+-- one answer but for the count of stores, with its state; all that is lent but the room is one: the palette, the place and every picture; the same samples at the front of
+-- a room that is as long
 pub record Same (x y : Outcome) : Type 0 where
   pub answer : x .step .answer ≡ y .step .answer
   pub bytes : x .step .bytes ≡ y .step .bytes
   pub rows : x .step .rows ≡ y .step .rows
-  pub palette : x .lent .palette ≡ y .lent .palette
-  pub first : x .lent .first ≡ y .lent .first
-  pub second : x .lent .second ≡ y .lent .second
-  pub place : x .lent .place ≡ y .lent .place
+  pub others : withRoom (x .lent) (y .lent .room) ≡ y .lent
   pub samples : take (x .step .bytes) (x .lent .room) ≡ take (y .step .bytes) (y .lent .room)
   pub room : length (x .lent .room) ≡ length (y .lent .room)
 

@@ -14,8 +14,7 @@ use Rattle.stores.specs.Stores.{Plan, Memory, memory}
 use Rattle.stores.specs.Calls.{Call, allowed, refused, whole, unfinished, refusal, answered, outcome}
 use Rattle.stores.specs.Loop.{Called}
 use Rattle.stores.proofs.Loop.{refused-leaves, refused-answers, called-leaves}
-use Rattle.draw.specs.Drawing.{plan}
-use Rattle.draw.specs.Call.{Request, packetOf, drawVerdict, Reason, reason, comes, pictures, leaves, report, reporting, answering}
+use Rattle.draw.specs.Call.{Request, packetOf, callPlan, drawVerdict, Reason, reason, comes, wordPictures, leaves, report, reporting, answering}
 
 comes-allowed : (v : Verdict) (n : ℕ) → v ≡ accept → comes v n ≡ allowed n
 unfolding comes
@@ -46,15 +45,15 @@ module _ (n k j : ℕ) (t : Touched) where
 
 module _ (c : Request) (m : Memory) where
   pub says-refused : (a k : ℕ) → refuse a k ≡ drawVerdict c m
-      → (pictures (c .front) m ≡ leaves c m) × (reporting (refusal (reason a k)) 0 None ≡ report m c)
+      → (wordPictures (c .front) (c .oldest) m ≡ leaves c m) × (reporting (refusal (reason a k)) 0 None ≡ report m c)
   says-refused a k e =
       let q = comes-refused (drawVerdict c m) (c .allowed .stores) a k (sym e) in
-      (ap (pictures (c .front)) (refused-leaves (plan (packetOf c) (c .front)) m _ (reason a k) q), refused-answers (plan (packetOf c) (c .front)) m _ (touched (packetOf c)) None (reason a k) q)
+      (ap (wordPictures (c .front) (c .oldest)) (refused-leaves (callPlan c) m _ (reason a k) q), refused-answers (callPlan c) m _ (touched (packetOf c)) None (reason a k) q)
 
   -- the loop's stores, with the answer by the place that they leave
-  pub says-made : (b : List ℕ) (k j : ℕ) (t : Touched) → Called (plan (packetOf c) (c .front)) m (c .allowed .stores) b k j → accept ≡ drawVerdict c m → t ≡ touched (packetOf c)
-      → (pictures (c .front) (memory b k) ≡ leaves c m) × (answering (blocks (packetOf c)) k j t ≡ report m c)
+  pub says-made : (b : List ℕ) (k j : ℕ) (t : Touched) → Called (callPlan c) m (c .allowed .stores) b k j → accept ≡ drawVerdict c m → t ≡ touched (packetOf c)
+      → (wordPictures (c .front) (c .oldest) (memory b k) ≡ leaves c m) × (answering (blocks (packetOf c)) k j t ≡ report m c)
   says-made b k j t h e r =
-      let d = plan (packetOf c) (c .front) in
+      let d = callPlan c in
       let q = comes-allowed (drawVerdict c m) (c .allowed .stores) (sym e) in
-      (ap (pictures (c .front)) (called-leaves d m _ (c .allowed .stores) b k j h q), rw r (answers d m _ (c .allowed .stores) b k j (touched (packetOf c)) h q))
+      (ap (wordPictures (c .front) (c .oldest)) (called-leaves d m _ (c .allowed .stores) b k j h q), rw r (answers d m _ (c .allowed .stores) b k j (touched (packetOf c)) h q))

@@ -13,7 +13,7 @@ use whole::paint_whole;
 ghost use mathlib.Core.Path.{_≡_};
 ghost use Prim.Native.Nat.{_≤_, _<_};
 ghost use lib.ListN.{length, drop};
-ghost use Rattle.block.specs.Block.{kindOf};
+ghost use Rattle.block.specs.Block.{byteKind};
 ghost use Rattle.paint.specs.Value.{pixelCount};
 ghost use Rattle.packet.specs.Packet.{packet};
 ghost use Rattle.packet.specs.Verdict.{default, strict};
@@ -40,7 +40,7 @@ pub struct Allowed {
 // The pixels that a block of this code stores.
 fn pixel_count(code: u8, s: &[u8]) -> usize
     requires { ⌜ code < 16 ⌝ }
-    ensures { λ r. ⌜ r ≡ pixelCount (kindOf code (now (s .entry))) ⌝ }
+    ensures { λ r. ⌜ r ≡ pixelCount (byteKind code (now (s .entry))) ⌝ }
 {
     if code == 1 {
         return 0;

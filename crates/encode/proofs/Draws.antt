@@ -4,7 +4,7 @@ use mathlib.Core.Path.{_≡_, refl, sym, ap, _∙_, subst}
 use mathlib.Core.Bool.{Bool, true, false, cond}
 use mathlib.Core.Logic.{_⊎_, ⊎-elim, _≢_}
 use mathlib.Core.List.{List, [], _∷_, _++_, append-assoc, append-nil}
-use Prim.Native.Nat.{ℕ, zero, suc, _+_, _-_, _*_, _/_, _%_, _≤_, _<_}
+use Prim.Native.Nat.{ℕ, zero, suc, _+_, _-_, _*_, _/_, _%_, _≤_, _<_, zero-le}
 use native.Mathlib.Nat.{eq-or-lt-of-le, add-zero, mod-lt, div-lt-iff-lt-mul, div-add-mod'}
 use native.Mathlib.Decide.{ℕ-discrete}
 use native.Mathlib.Omega.{arith}
@@ -14,16 +14,17 @@ use lib.Seq.{take-append-seam, drop-append-seam}
 use borrow.Author.Tests.{lt-ltb, eq-eqb, ne-eqb, eqb-true, eqb-false}
 use Rattle.motion.specs.Motion.{rasterIndex}
 use Rattle.pattern.proofs.Agree.{Agree}
-use Rattle.block.specs.Block.{Kind, codeAt, kinds, kindOf, dataLength, isRefused, source, fetched}
-use Rattle.block.proofs.Codes.{code-known}
-use Rattle.block.proofs.Agree.{same-kind, same-fetched}
-use Rattle.paint.specs.Value.{pixelCount, pixelValue}
+use Rattle.block.specs.Block.{Kind, codeAt, kinds, kindOf, byteKind, dataLength, isRefused, source, fetched}
+use Rattle.block.proofs.Codes.{code-known, offset-flat}
+use Rattle.block.proofs.Agree.{same-kind, no-second, same-fetched}
+use Rattle.paint.specs.Value.{pixelCount, flat, pixelValue, byteValue}
 use Rattle.paint.proofs.Counts.{count-64, count-0}
-use Rattle.packet.specs.Packet.{Packet, packet, pixels, blocks, width, height, left, top, code, startOf, start, dataOf, kind}
+use Rattle.packet.specs.Packet.{Packet, packet, pixels, blocks, width, height, left, top, code, advanced, startOf, start, dataOf, offsetsOf, kind}
 use Rattle.packet.specs.Asked.{Sized}
 use Rattle.refusal.specs.Number.{accept}
 use Rattle.packet.specs.Verdict.{strict, verdict}
 use Rattle.packet.proofs.Exactly.{accepted-exactly}
+use Rattle.packet.proofs.Walk.{code-below, offsets-flat}
 use Rattle.packet.proofs.Grid.{column-below}
 use Rattle.stores.specs.Stores.{Memory, memory, Plan, after, stage, final, Off, Lawful}
 use Rattle.stores.specs.Calls.{leave, step}
@@ -56,7 +57,7 @@ not-6 code-D e = omega arith
 not-6 code-E e = omega arith
 not-6 code-F e = omega arith
 
-copies-inside : {c : ℕ} → Chosen c → (s : List ℕ) (w h x y : ℕ) → CopyInside (kindOf c s) w h x y
+copies-inside : {c : ℕ} → Chosen c → (s : List ℕ) (w h x y : ℕ) → CopyInside (byteKind c s) w h x y
 unfolding kindOf kinds CopyInside
 copies-inside code-0 s w h x y = tt
 copies-inside code-1 s w h x y = tt
@@ -69,7 +70,7 @@ copies-inside code-F s w h x y = tt
 
 -- a block that is drawn reads nothing of the picture drawn on
 reads-none : {c : ℕ} → Chosen c → c ≢ 1 → (s : List ℕ) (w x y i : ℕ) (front a b : List ℕ)
-    → pixelValue (kindOf c s) s w x y front i a ≡ pixelValue (kindOf c s) s w x y front i b
+    → byteValue c s w x y front i a ≡ byteValue c s w x y front i b
 unfolding kindOf kinds pixelValue source fetched
 reads-none code-0 n s w x y i front a b = refl
 reads-none code-1 n s w x y i front a b = absurd (n refl)
@@ -141,11 +142,11 @@ module _ (j : Task) where
       ∙ drop-append-seam (dataTo j k) (dataFrom k (suc (n - suc k)))
 
   -- its own bytes are all that it reads
-  agree : (k : ℕ) (l : List ℕ) → Agree (dataLength (kindOf (codeOf (wayAt j k)) (partAt j k))) (partAt j k) (partAt j k ++ l)
+  agree : (k : ℕ) (l : List ℕ) → Agree (dataLength false (byteKind (codeOf (wayAt j k)) (partAt j k))) (partAt j k) (partAt j k ++ l)
   agree k l i h = sym (List·getD-append (partAt j k) l 0 i (omega (arith, made k .gives .long)))
 
-  kind-kept : (k : ℕ) (l : List ℕ) → kindOf (codeOf (wayAt j k)) (partAt j k) ≡ kindOf (codeOf (wayAt j k)) (partAt j k ++ l)
-  kind-kept k l = same-kind (partAt j k) (partAt j k ++ l) (codeOf (wayAt j k)) (code-few (wayAt j k)) (agree k l)
+  kind-kept : (k : ℕ) (l : List ℕ) → byteKind (codeOf (wayAt j k)) (partAt j k) ≡ byteKind (codeOf (wayAt j k)) (partAt j k ++ l)
+  kind-kept k l = same-kind (partAt j k) (partAt j k ++ l) [] [] false (codeOf (wayAt j k)) (code-few (wayAt j k)) (agree k l) (λ i h. refl)
 
   module _ (rows : ℕ) where
     abbrev p : Packet
@@ -154,34 +155,35 @@ module _ (j : Task) where
     abbrev n : ℕ
     n = j .columns * rows
 
-    data-by : (k : ℕ) → k < n → start p k ≡ length (dataTo j k) → dataOf p k ≡ partAt j k ++ behind n k
+    data-by : (k : ℕ) → k < n → start p k .bytes ≡ length (dataTo j k) → dataOf p k ≡ partAt j k ++ behind n k
     data-by k h e = ap (λ (m : ℕ). drop m (dataTo j n)) e ∙ from-block n k h
 
-    kind-by : (k : ℕ) → k < n → start p k ≡ length (dataTo j k) → kind p k ≡ kindOf (codeOf (wayAt j k)) (partAt j k)
+    kind-by : (k : ℕ) → k < n → start p k .bytes ≡ length (dataTo j k) → kind p k ≡ byteKind (codeOf (wayAt j k)) (partAt j k)
     kind-by k h e =
-        ap (λ (c : ℕ). kindOf c (dataOf p k)) (map-code n k h)
-        ∙ ap (kindOf (codeOf (wayAt j k))) (data-by k h e)
+        no-second (code p k) (dataOf p k) (offsetsOf p k) []
+        ∙ ap (λ (c : ℕ). byteKind c (dataOf p k)) (map-code n k h)
+        ∙ ap (byteKind (codeOf (wayAt j k))) (data-by k h e)
         ∙ sym (kind-kept k (behind n k))
 
-    starts : (k : ℕ) → k ≤ n → start p k ≡ length (dataTo j k)
-    unfolding startOf dataTo
+    starts : (k : ℕ) → k ≤ n → start p k .bytes ≡ length (dataTo j k)
+    unfolding startOf advanced dataTo
     starts zero h = refl
     starts (suc k) h =
         let e = starts k (omega arith) in
         let κ = kind-by k h e in
-        let l : dataLength (kind p k) ≡ length (partAt j k) = ap dataLength κ ∙ sym (made k .gives .long) in
+        let l : dataLength false (kind p k) ≡ length (partAt j k) = ap (dataLength false) κ ∙ sym (made k .gives .long) in
         omega (arith, e, l, length-append (dataTo j k) (partAt j k))
 
     data-is : (k : ℕ) → k < n → dataOf p k ≡ partAt j k ++ behind n k
     data-is k h = data-by k h (starts k (omega arith))
 
-    kind-is : (k : ℕ) → k < n → kind p k ≡ kindOf (codeOf (wayAt j k)) (partAt j k)
+    kind-is : (k : ℕ) → k < n → kind p k ≡ byteKind (codeOf (wayAt j k)) (partAt j k)
     kind-is k h = kind-by k h (starts k (omega arith))
 
     bytes-are : (k : ℕ) → k < n → bytesOf p k ≡ partAt j k
     bytes-are k h =
-        let l : dataLength (kind p k) ≡ length (partAt j k) = ap dataLength (kind-is k h) ∙ sym (made k .gives .long) in
-        ap (λ (b : List ℕ). take (dataLength (kind p k)) b) (data-is k h)
+        let l : dataLength false (kind p k) ≡ length (partAt j k) = ap (dataLength false) (kind-is k h) ∙ sym (made k .gives .long) in
+        ap (λ (b : List ℕ). take (dataLength false (kind p k)) b) (data-is k h)
         ∙ ap (λ (m : ℕ). take m (partAt j k ++ behind n k)) l
         ∙ take-append-seam (partAt j k) (behind n k)
 
@@ -194,33 +196,34 @@ module _ (j : Task) where
     unfolding dataTo behind
     takes k h =
         let g = made k .gives in
-        let l : dataLength (kind p k) ≡ length (partAt j k) = ap dataLength (kind-is k h) ∙ sym (g .long) in
+        let l : dataLength false (kind p k) ≡ length (partAt j k) = ap (dataLength false) (kind-is k h) ∙ sym (g .long) in
         let e : n ≡ suc k + (n - suc k) = omega arith in
         let t : length (dataTo j n) ≡ length (dataTo j (suc k)) + length (behind n k) =
         ap (λ (m : ℕ). length (dataTo j m)) e ∙ ap length (split (n - suc k) (suc k)) ∙ length-append (dataTo j (suc k)) (dataFrom (suc k) (n - suc k)) in
         record {
-          known = λ q. not-6 (g .chosen) (sym (map-code n k h) ∙ q);
+          known = λ _ q. not-6 (g .chosen) (sym (map-code n k h) ∙ q);
           there = omega (arith, l, t, starts k (omega arith), length-append (dataTo j k) (partAt j k));
+          beside = omega (arith, offsets-flat (p .map) (p .bytes) k, offset-flat (dataOf p k) (offsetsOf p k) (code p k) (code-below (p .map) k));
           inside = subst (λ (κ : Kind). CopyInside κ (width p) (height p) (left p k) (top p k)) (sym (kind-is k h)) (copies-inside (g .chosen) (partAt j k) (width p) (height p) (left p k) (top p k));
         }
 
     -- ---- the value of each pixel where back is as lent
 
     value-is : (k i : ℕ) → k < n → i < 64 → (b : List ℕ)
-        → pixelValue (kind p k) (dataOf p k) (width p) (left p k) (top p k) (j .front) i b
-        ≡ pixelValue (kindOf (codeOf (wayAt j k)) (partAt j k)) (partAt j k) (width p) (left p k) (top p k) (j .front) i b
+        → pixelValue false (kind p k) (dataOf p k) (width p) (left p k) (top p k) (flat (j .front)) i b
+        ≡ byteValue (codeOf (wayAt j k)) (partAt j k) (width p) (left p k) (top p k) (j .front) i b
     unfolding pixelValue
     value-is k i h l b =
         let c = codeOf (wayAt j k) in
         let s = partAt j k in
-        let r : isRefused (kindOf c s) ≡ false = code-known s c (code-few (wayAt j k)) (not-6 (made k .gives .chosen)) in
+        let r : isRefused (byteKind c s) ≡ false = code-known s [] false c (code-few (wayAt j k)) (λ _. not-6 (made k .gives .chosen)) in
         rw (kind-is k h, data-is k h)
-        (sym (same-fetched s (s ++ behind n k) (width p) (left p k) (top p k) i l (j .front) b (kindOf c s) r (agree k (behind n k))))
+        (sym (same-fetched false s (s ++ behind n k) (width p) (left p k) (top p k) i l (j .front) b b (byteKind c s) r (agree k (behind n k))))
 
 -- ---- the picture
 
 -- code 1 gives the pixel of back
-kept-value : (c : ℕ) (s : List ℕ) (w x y i : ℕ) (front back : List ℕ) → c ≡ 1 → pixelValue (kindOf c s) s w x y front i back ≡ getD back (rasterIndex w x y i) 0
+kept-value : (c : ℕ) (s : List ℕ) (w x y i : ℕ) (front back : List ℕ) → c ≡ 1 → byteValue c s w x y front i back ≡ getD back (rasterIndex w x y i) 0
 unfolding kindOf kinds pixelValue source fetched
 kept-value c s w x y i front back e = rw e
 
@@ -249,7 +252,7 @@ module _ (j : Task) (rows : ℕ) (lent : Lent j rows) where
       }
 
   laws : Lawful d (length (j .back))
-  laws = plan-lawful q sized (takes j rows) (j .front) (length (j .back)) (lent .back-long)
+  laws = plan-lawful q sized (takes j rows) (flat (j .front)) (length (j .back)) (lent .back-long)
 
   accepts : Accepts strict (j .columns) rows (mapOf j m) (dataTo j m)
   accepts =
@@ -257,8 +260,9 @@ module _ (j : Task) (rows : ℕ) (lent : Lent j rows) where
         wide = lent .wide;
         high = lent .high;
         mapped = mapped;
+        parts = tt;
         drawn = takes j rows;
-        used = omega (arith, starts j rows m (omega arith));
+        used = record { first = omega (arith, starts j rows m (omega arith)); second = zero-le };
       }
 
   -- a block that is drawn
@@ -323,7 +327,7 @@ module _ (j : Task) (rows : ℕ) (lent : Lent j rows) where
   all-drawn : (c : ℕ) → 312000 ≤ c → after d (memory (j .back) 0) c ≡ memory (given j rows) m
   all-drawn c h =
       let g = going d (j .back) laws (memory (j .back) 0) c (reached-first d (j .back)) in
-      reached-final d (j .back) (after d (memory (j .back) 0) c) (g .reached) (g .through (omega (arith, stores-few q sized (j .front) 0 (omega arith))))
+      reached-final d (j .back) (after d (memory (j .back) 0) c) (g .reached) (g .through (omega (arith, stores-few q sized (flat (j .front)) 0 (omega arith))))
 
   given-long : length (given j rows) ≡ length (j .back)
   given-long =
@@ -332,19 +336,19 @@ module _ (j : Task) (rows : ℕ) (lent : Lent j rows) where
 
   taken : (c : ℕ) → drawVerdict (drawing j rows c) (memory (j .back) 0) ≡ accept
   taken c =
-      drawn-exactly strict (j .columns) rows (mapOf j m) (dataTo j m) (length (j .front)) (length (j .back)) 0 .1
-      (record { accepted = accepts; front-long = lent .front-long; back-long = lent .back-long; within = omega arith })
+      drawn-exactly false strict (j .columns) rows (mapOf j m) (dataTo j m) (length (j .front)) 0 (length (j .back)) 0 .1
+      (record { accepted = accepts; front-long = lent .front-long; oldest-long = tt; back-long = lent .back-long; within = omega arith })
 
   pub draws : Draws j rows
   unfolding leave comes
   draws =
       record {
-        accepts = accepted-exactly strict (j .columns) rows (mapOf j m) (dataTo j m) .1 accepts;
+        accepts = accepted-exactly false strict (j .columns) rows (mapOf j m) (dataTo j m) .1 accepts;
         wanted =
             agree-take (pixels (j .columns) rows) (given j rows) (j .wanted)
             (record { left-long = omega (arith, given-long, lent .back-long); right-long = lent .wanted-long; same = wanted-at });
         beyond = drop-same (pixels (j .columns) rows) (given j rows) (j .back) given-long beyond-at;
         draws = λ c h. rw (taken c) (ap (pictures (j .front)) (all-drawn c h));
-        cuts = λ c es o w. demand-3 (drawing j rows c) (j .back) (record { accepted = accepts; front-long = lent .front-long; back-long = lent .back-long }) es o w;
+        cuts = λ c es o w. demand-3 (drawing j rows c) (j .back) (record { accepted = accepts; front-long = lent .front-long; oldest-long = tt; back-long = lent .back-long }) es o w;
         cheapest = cheapest j rows;
       }

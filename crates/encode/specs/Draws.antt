@@ -21,7 +21,7 @@ packetFor j rows = packet (j .columns) rows (mapOf j (j .columns * rows)) (dataT
 
 -- the data bytes of block k, as a decoder finds them
 abbrev pub bytesOf : Packet → ℕ → List ℕ
-bytesOf p k = take (dataLength (kind p k)) (dataOf p k)
+bytesOf p k = take (dataLength (p .deep) (kind p k)) (dataOf p k)
 
 -- the picture that it gives on the lent back
 abbrev pub given : Task → ℕ → List ℕ

@@ -29,26 +29,39 @@ flag-number : (b : Bool) → flagOf (numberOf b) ≡ b
 flag-number true = refl
 flag-number false = refl
 
--- behind the nine numbers that are no sound's
-sound-by : (a b c d e f g h i : ℕ) (s : Sound) (k : Format) → s .format ≡ k → Plain s → soundOf (a ∷ b ∷ c ∷ d ∷ e ∷ f ∷ g ∷ h ∷ i ∷ withFormat s k) ≡ s
+-- behind the nine numbers that are no sound's, and before the last one
+sound-by : (a b c d e f g h i j : ℕ) (s : Sound) (k : Format) → s .format ≡ k → Plain s
+    → soundOf (a ∷ b ∷ c ∷ d ∷ e ∷ f ∷ g ∷ h ∷ i ∷ (withFormat s k ++ (j ∷ []))) ≡ s
 unfolding soundOf withFormat
-sound-by a b c d e f g h i s Unknown q p = sym (p q)
-sound-by a b c d e f g h i s (Known x y z) q p =
+sound-by a b c d e f g h i j s Unknown q p = sym (p q)
+sound-by a b c d e f g h i j s (Known x y z) q p =
     rw (flag-number x, flag-number y, flag-number z, flag-number (s .begun))
     (ap (λ (k : Format). record { stream = s .stream; format = k; begun = s .begun; left = s .left; right = s .right }) (sym q))
 
+-- a number behind those of a sound
+last-by : (s : Sound) (k : Format) (j : ℕ) → getD (withFormat s k ++ (j ∷ [])) 8 0 ≡ j
+unfolding withFormat
+last-by s Unknown j = refl
+last-by s (Known x y z) j = refl
+
 -- a state's numbers, by its map and the numbers of its sound
 abbrev numbers : State → Map → List ℕ → List ℕ
-numbers st m sound = st .cursor .position ∷ st .cursor .«chunk_end» ∷ st .columns ∷ st .rows ∷ st .front ∷ (ofMap m ++ (numberOf (st .unsent) ∷ sound))
+numbers st m sound =
+    st .cursor .position ∷ st .cursor .«chunk_end» ∷ st .columns ∷ st .rows ∷ st .front
+    ∷ (ofMap m ++ (numberOf (st .unsent) ∷ (sound ++ (numberOf (st .deep) ∷ []))))
+
+abbrev withMap : State → Map → State
+withMap st m =
+    record { cursor = st .cursor; columns = st .columns; rows = st .rows; deep = st .deep; front = st .front; map = m; unsent = st .unsent; sound = st .sound }
 
 state-by : (st : State) (m : Map) → st .map ≡ m → Plain (st .sound) → stateOf (numbers st m (ofSound (st .sound))) ≡ st
 unfolding stateOf ofMap mapOf
 state-by st Missing e p =
-    rw (flag-number (st .unsent), sound-by _ _ _ _ _ _ _ _ _ (st .sound) (st .sound .format) refl p)
-    (ap (λ (m : Map). record { cursor = st .cursor; columns = st .columns; rows = st .rows; front = st .front; map = m; unsent = st .unsent; sound = st .sound }) (sym e))
+    rw (flag-number (st .unsent), sound-by _ _ _ _ _ _ _ _ _ _ (st .sound) (st .sound .format) refl p, last-by (st .sound) (st .sound .format), flag-number (st .deep))
+    (ap (withMap st) (sym e))
 state-by st (Part start long) e p =
-    rw (flag-number (st .unsent), sound-by _ _ _ _ _ _ _ _ _ (st .sound) (st .sound .format) refl p)
-    (ap (λ (m : Map). record { cursor = st .cursor; columns = st .columns; rows = st .rows; front = st .front; map = m; unsent = st .unsent; sound = st .sound }) (sym e))
+    rw (flag-number (st .unsent), sound-by _ _ _ _ _ _ _ _ _ _ (st .sound) (st .sound .format) refl p, last-by (st .sound) (st .sound .format), flag-number (st .deep))
+    (ap (withMap st) (sym e))
 
 pub state-crosses : (film : List ℕ) (st : State) → Crosses film st → stateOf (ofState st) ≡ st
 unfolding ofState
@@ -134,4 +147,4 @@ map-written m w l = by (ℕ-discrete (getD m 5 0) 0)
 pub numbers-cross : (m : List ℕ) → Written m → ofState (stateOf m) ≡ m
 unfolding stateOf ofState values
 numbers-cross m w =
-    rw (map-written m w, number-flag _ (w .unsent), sound-written m w) (values-are m 17 0 (omega (arith, w .count)))
+    rw (map-written m w, number-flag _ (w .unsent), sound-written m w, number-flag _ (w .deep)) (values-are m 18 0 (omega (arith, w .count)))

@@ -16,7 +16,7 @@ use Rattle.sound.specs.Step.{enough}
 use Rattle.state.specs.declared.State.{State}
 use Rattle.opening.specs.Opening.{Opening, started, refuses, openingOf}
 use Rattle.opcodes.specs.Opcodes.{Answer, Step, taken, whole, unfinished, ended, refused, quiet}
-use Rattle.film.specs.Film.{Lent, lent, Outcome, stepOf}
+use Rattle.film.specs.Film.{words, Lent, lent, Outcome, stepOf}
 use Rattle.walk.specs.Walk.{Forward, Moves, GoesTo, Walked}
 use Rattle.walk.specs.Walk as walk
 use Rattle.walk.specs.Play.{most}
@@ -139,7 +139,7 @@ on-by film st m e (refused i j) stores bytes t k g v = absurd (let y : ⊥ = ome
 -- ---- steps over numbers are steps over states
 
 abbrev besides : Beside → apart.Beside
-besides x = record { first = x .first; second = x .second; room = x .room; allowed = within (x .allowed) (spareOf (x .form)) }
+besides x = record { first = x .first; second = x .second; room = x .room; words = x .words; allowed = within (x .allowed) (spareOf (x .form)) }
 
 amply : (x : Beside) → Ample x → apart.Ample (besides x)
 amply x big = record { room = big .room; stores = big .stores }
@@ -173,7 +173,7 @@ module _ (film : List ℕ) (bytes : Bytes film) (palette : List ℕ) (place : �
     kind-m = sym (ap (λ (y : Exported). kindIn (y .answer)) at-m)
 
     lawful : Good film (o .step)
-    lawful = step-lawful film st c (within (x .allowed) (spareOf (x .form))) (lent palette (x .first) (x .second) place (x .room))
+    lawful = step-lawful film st c (within (x .allowed) (spareOf (x .form))) (lent palette (x .first) (x .second) place (x .room) (x .words))
 
     refused-ends : kindIn (stepBeside x film m palette place .answer) ≡ 4 → Ends film st palette place (opening (stepBeside x film m palette place .answer) palette place)
     unfolding ofBeginning ofAnswer courseOf
@@ -201,8 +201,8 @@ module _ (film : List ℕ) (bytes : Bytes film) (palette : List ℕ) (place : �
         → Ends film t (stepBeside x film m palette place .lent .palette) (stepBeside x film m palette place .lent .place) p)
         → Ends film st palette place p
     more-ends p k rest =
-        let g = step-crosses film st c (within (x .allowed) (spareOf (x .form))) (lent palette (x .first) (x .second) place (x .room)) in
-        let v = step-moves film st (within (x .allowed) (spareOf (x .form))) (lent palette (x .first) (x .second) place (x .room)) in
+        let g = step-crosses film st c (within (x .allowed) (spareOf (x .form))) (lent palette (x .first) (x .second) place (x .room) (x .words)) in
+        let v = step-moves film st (within (x .allowed) (spareOf (x .form))) (lent palette (x .first) (x .second) place (x .room) (x .words)) in
         let n = on-by film st m e (o .step .answer) (o .step .stores) (o .step .bytes) (o .step .rows) (subst (λ (i : ℕ). i < 3) (sym kind-m) k) g v in
         let r = subst (λ (y : Exported). Ends film (n .next) (y .lent .palette) (y .lent .place) p) at-m (rest (n .next) (ap (λ (y : Exported). stateIn (y .answer)) at-m ∙ n .state) (n .crosses)) in
         record { came = r .came; steps = apart.more unsized (besides x) (amply x big) (n .course) (r .steps); same = r .same }
@@ -222,7 +222,7 @@ form-0 = refl
 
 -- what the opening call's definition gives to its steps
 abbrev plain : Beside
-plain = record { first = []; second = []; room = zeros enough; allowed = most; form = 0 }
+plain = record { first = []; second = []; room = zeros enough; words = words [] [] []; allowed = most; form = 0 }
 
 always : Ample plain
 always = record { room = roomy; stores = ample }
@@ -233,7 +233,7 @@ module _ (film : List ℕ) (bytes : Bytes film) where
     after = stepBefore film st palette place
 
     abbrev l : Lent
-    l = lent palette [] [] place (zeros enough)
+    l = lent palette [] [] place (zeros enough) (words [] [] [])
 
     at-plain : stepBeside plain film (ofState st) palette place ≡ ofOutcome (ofState st) after
     at-plain =

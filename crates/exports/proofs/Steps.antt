@@ -11,10 +11,9 @@ use lib.Seq.{getD-drop}
 use Rattle.words.specs.Word.{wordAt}
 use Rattle.packet.specs.declared.Touched.{Touched}
 use Rattle.packet.specs.Verdict.{legalSize}
-use Rattle.stores.specs.Stores.{memory}
 use Rattle.stores.specs.Calls as drawing
 use Rattle.draw.specs.declared.Allowed.{Allowed}
-use Rattle.draw.specs.Call.{Request, request, Reason, report}
+use Rattle.draw.specs.Call.{Reason, report}
 use Rattle.palette.specs.Update.{Change}
 use Rattle.palette.specs.Update as palette
 use Rattle.palette.specs.Gradient.{createGradient}
@@ -35,10 +34,10 @@ use Rattle.state.specs.declared.State.{State}
 use Rattle.state.specs.Moves.{at, behind, atEnd, sized, sent, mapped, heard, finished}
 use Rattle.heads.specs.declared.Opcode.{Opcode}
 use Rattle.heads.specs.Heads.{hears}
-use Rattle.next.specs.Next.{Standing, nextOf}
+use Rattle.next.specs.Next.{Standing}
 use Rattle.next.specs.Next as found
-use Rattle.opcodes.specs.Opcodes.{Answer, Step, taken, whole, unfinished, ended, refused, stored, quiet, sizeAnswer, colourOf, quietAnswer, heardStep, drawnAs}
-use Rattle.film.specs.Film.{Lent, lent, withPictures, swap, Outcome, after, called, drawOn, part, drawBy, paletteStep, update, mapTo, act, actOn, heardBy, hear, takeOn, standing, stepOf}
+use Rattle.opcodes.specs.Opcodes.{Answer, Step, taken, whole, unfinished, ended, refused, stored, quiet, isDeep, sizeAnswer, colourOf, quietAnswer, heardStep, drawnAs}
+use Rattle.film.specs.Film.{words, Lent, lent, withPictures, drawnAt, Outcome, after, requestOf, drawOn, part, drawMapped, isBodyShort, drawBy, paletteStep, update, mapTo, act, actOn, heardBy, hear, takeOn, standing, standsAt, stepOf}
 use Rattle.opening.specs.Opening.{Opening, started, refuses, begins, firstState, openingOf}
 use Rattle.begin.specs.Begin.{zeros, allowance, stepBefore, courseOf, Beginning, Came, came, follow, until, toSize, keptBy, nowhere, beginAt, beginOf}
 use Rattle.begin.specs.Begin as begin
@@ -186,13 +185,12 @@ module _ (film : List ℕ) (s : Sound) (p : CrossesSound film s) where
 module _ (film : List ℕ) (st : State) (c : Crosses film st) (p : ℕ) where
   size-given : (columns rows colour : ℕ) → OfAnswer film (sizeAnswer st p columns rows colour)
   unfolding sizeAnswer OfAnswer sized
-  size-given columns rows colour = by (eqb (st .columns) 0) (legalSize columns rows) (eqb colour 0)
+  size-given columns rows colour = by (eqb (st .columns) 0) (legalSize columns rows)
     where
-      by : (t u v : Bool) → OfAnswer film (cond t (cond u (cond v (taken (sized st p columns rows)) (refused 6 0)) (refused 6 0)) (refused 6 0))
-      by true true true = c
-      by true true false = tt
-      by true false v = tt
-      by false u v = tt
+      by : (t u : Bool) → OfAnswer film (cond t (cond u (taken (sized st p columns rows (isDeep colour))) (refused 6 0)) (refused 6 0))
+      by true true = c
+      by true false = tt
+      by false u = tt
 
   quiet-given : (kind version : ℕ) (body : List ℕ) → OfAnswer film (quietAnswer (length film) st kind version body p)
   unfolding quietAnswer OfAnswer at sent
@@ -227,29 +225,26 @@ module _ (film : List ℕ) (st : State) (c : Crosses film st) (p : ℕ) where
   drawn-good drawing.unfinished n t = c
   drawn-good (drawing.refusal r) n t = refl
 
-  called-good : (q : Request) (l : Lent) → Good film (called st p q l .step)
-  unfolding called
-  called-good q l = drawn-good (report (memory (l .second) (l .place)) q .answer) (report (memory (l .second) (l .place)) q .count) (report (memory (l .second) (l .place)) q .rows)
-
   on-good : (map packet : List ℕ) (n : Allowed) (l : Lent) → Good film (drawOn st p map packet n l .step)
   unfolding drawOn
-  on-good map packet n l = by (eqb (st .front) 0)
-    where
-      q : List ℕ → Request
-      q front = request (st .columns) (st .rows) map packet front n
+  on-good map packet n l = let r = report (drawnAt st l) (requestOf st map packet n l) in drawn-good (r .answer) (r .count) (r .rows)
 
-      by : (t : Bool) → Good film (cond t (called st p (q (l .first)) l) (after (called st p (q (l .second)) (swap l) .step) (swap (called st p (q (l .second)) (swap l) .lent))) .step)
-      by true = called-good (q (l .first)) l
-      by false = called-good (q (l .second)) (swap l)
-
-  by-good : (m : Map) (body : List ℕ) (n : Allowed) (l : Lent) → Good film (drawBy m film st body p n l .step)
-  unfolding drawBy Lawful
-  by-good Missing body n l = refl
-  by-good (Part start long) body n l = by (eqb (st .columns) 0)
+  mapped-good : (m : Map) (body : List ℕ) (n : Allowed) (l : Lent) → Good film (drawMapped m film st body p n l .step)
+  unfolding drawMapped Lawful
+  mapped-good Missing body n l = refl
+  mapped-good (Part start long) body n l = by (eqb (st .columns) 0)
     where
       by : (t : Bool) → Good film (cond t (after (quiet (refused 9 0)) l) (drawOn st p (part film start (start + long)) (part body 14 (length body)) n l) .step)
       by true = refl
       by false = on-good (part film start (start + long)) (part body 14 (length body)) n l
+
+  by-good : (m : Map) (body : List ℕ) (n : Allowed) (l : Lent) → Good film (drawBy m film st body p n l .step)
+  unfolding drawBy Lawful
+  by-good m body n l = by (isBodyShort (st .deep) (length body))
+    where
+      by : (t : Bool) → Good film (cond t (after (quiet (refused 5 0)) l) (drawMapped m film st body p n l) .step)
+      by true = refl
+      by false = mapped-good m body n l
 
   act-good : (kind version s : ℕ) (body : List ℕ) (n : Allowed) (l : Lent) → Good film (act film st kind version s body p n l .step)
   unfolding act
@@ -298,7 +293,7 @@ module _ (film : List ℕ) (st : State) (c : Crosses film st) (n : Allowed) (l :
 
   pub step-lawful : Good film (stepOf film st n l .step)
   unfolding stepOf
-  step-lawful = standing-good (nextOf film st (length (l .palette)) (length (l .first)) (length (l .second)))
+  step-lawful = standing-good (standsAt film st l)
 
 given-of : (film : List ℕ) (x : Answer) (s : Step) → Lawful film x s → OfAnswer film x
 unfolding Lawful OfAnswer
@@ -352,7 +347,7 @@ until-crosses film zero st palette place c = c
 until-crosses film (suc n) st palette place c =
     size-crosses film (eqb (st .columns) 0) _ st c palette place
     (follow-crosses film (until film n) (λ t q k d. until-crosses film n t q k d) st c palette place (stepBefore film st palette place) _
-    (step-crosses film st c allowance (lent palette [] [] place (zeros sound.enough))))
+    (step-crosses film st c allowance (lent palette [] [] place (zeros sound.enough) (words [] [] []))))
 
 kept-crosses : (film palette : List ℕ) (place : ℕ) (c : Came) (b : Beginning) → OfBeginning film b → OfBeginning film (c .answer) → OfBeginning film (keptBy b palette place c .answer)
 unfolding keptBy OfBeginning

@@ -41,9 +41,9 @@ unfoldable pub OfBeginning : List ℕ → Beginning → Type 0
 OfBeginning film (sized st) = Crosses film st
 OfBeginning film (stopped n k st) = Crosses film st
 
--- numbers as the library writes them: a flag is 0 or 1, and what is not read is 0. The flags are has_map, unsent, has_format, stereo, wide, compressed and begun
+-- numbers as the library writes them: a flag is 0 or 1, and what is not read is 0. The flags are has_map, unsent, has_format, stereo, wide, compressed, begun and true_colour
 pub record Written (m : List ℕ) : Type 0 where
-  pub count : length m ≡ 17
+  pub count : length m ≡ 18
   pub map : getD m 5 0 ≤ 1
   pub unmapped : getD m 5 0 ≡ 0 → (getD m 6 0 ≡ 0) × (getD m 7 0 ≡ 0)
   pub unsent : getD m 8 0 ≤ 1
@@ -52,5 +52,6 @@ pub record Written (m : List ℕ) : Type 0 where
   pub wide : getD m 12 0 ≤ 1
   pub compressed : getD m 13 0 ≤ 1
   pub begun : getD m 14 0 ≤ 1
+  pub deep : getD m 17 0 ≤ 1
   pub unformatted : getD m 10 0 ≡ 0
       → (getD m 11 0 ≡ 0) × (getD m 12 0 ≡ 0) × (getD m 13 0 ≡ 0) × (getD m 14 0 ≡ 0) × (getD m 15 0 ≡ 0) × (getD m 16 0 ≡ 0)

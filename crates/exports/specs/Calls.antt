@@ -7,7 +7,7 @@ use lib.Dec.{ltb}
 use lib.ListN.{length}
 use Rattle.room.specs.Room.{written}
 use Rattle.draw.specs.Call.{within}
-use Rattle.state.specs.State.{shownOf}
+use Rattle.state.specs.State.{shownOf, shownWordsOf}
 use Rattle.opening.specs.Opening.{openingOf}
 use Rattle.film.specs.Film.{Lent, Outcome, stepOf}
 use Rattle.begin.specs.Begin.{Came, beginOf}
@@ -26,9 +26,9 @@ abbrev pub exit : {L : Type 0} → ℕ → List ℕ → L → Exit L
 exit returned out l = record { returned = returned; out = out; lent = l }
 
 -- the call returns its answer's kind, and `out` has the answer's numbers, then what was behind them; what else is lent goes from before to after. Where `out` has fewer than
--- 25 numbers, the call returns 4 (refused), and nothing is touched
+-- 26 numbers, the call returns 4 (refused), and nothing is touched
 unfoldable pub delivered : {L : Type 0} → List ℕ → L → List ℕ → L → Exit L
-delivered out before answer after = cond (ltb (length out) 25) (exit 4 out before) (exit (kindIn answer) (written answer out) after)
+delivered out before answer after = cond (ltb (length out) 26) (exit 4 out before) (exit (kindIn answer) (written answer out) after)
 
 -- ---- mve_open
 
@@ -79,8 +79,12 @@ abbrev pub mveBegin : List ℕ → ℕ → List ℕ → List ℕ → ℕ → Exi
 mveBegin film stream out palette place =
     delivered out (palette, place) (beginAnswer film stream palette place .answer) (beginAnswer film stream palette place .palette, beginAnswer film stream palette place .place)
 
--- ---- mve_shown
+-- ---- mve_shown, mve_shown_words
 
 -- the bytes that are shown; none where m is no state's numbers
 unfoldable pub mveShown : List ℕ → List ℕ → List ℕ → ℕ
 mveShown m a b = cond (isState m) (length (shownOf (stateOf m) a b)) 0
+
+-- the words that are shown
+unfoldable pub mveShownWords : List ℕ → List ℕ → List ℕ → List ℕ → ℕ
+mveShownWords m c d e = cond (isState m) (length (shownWordsOf (stateOf m) c d e)) 0

@@ -1,4 +1,4 @@
--- Exported calls in a row, each given the state's numbers of the answer before it. An answer is the 25 numbers that a call leaves at the front of `out`: `proofs/Answers`. `proofs/Row`: a film of n bytes is walked in at most n / 4 steps that are taken or
+-- Exported calls in a row, each given the state's numbers of the answer before it. An answer is the 26 numbers that a call leaves at the front of `out`: `proofs/Answers`. `proofs/Row`: a film of n bytes is walked in at most n / 4 steps that are taken or
 -- whole, and `mve_open` and steps come to what `mve_begin` answers and leaves.
 -- Assumes nothing.
 use mathlib.Core.Path.{_≡_}
@@ -9,7 +9,7 @@ use lib.Dec.{eqb}
 use lib.ListN.{length, getD}
 use Rattle.packet.specs.declared.Touched.the-variants.{None}
 use Rattle.sound.specs.Step.{enough}
-use Rattle.film.specs.Film.{Lent, lent}
+use Rattle.film.specs.Film.{Words, Lent, lent}
 use Rattle.walk.specs.Play.{most}
 use Rattle.mve_answers.specs.Answer.{ofRows}
 use Rattle.mve_steps.specs.Step.{stepped, kindIn, stateIn}
@@ -30,6 +30,7 @@ pub record Beside : Type 0 where
   pub first : List ℕ
   pub second : List ℕ
   pub room : List ℕ
+  pub words : Words
   pub allowed : ℕ
   pub form : ℕ
 
@@ -39,7 +40,7 @@ pub record Ample (x : Beside) : Type 0 where
   pub stores : most ≤ x .allowed
 
 abbrev pub stepBeside : Beside → List ℕ → List ℕ → List ℕ → ℕ → Exported
-stepBeside x film m palette place = stepAnswer film m (x .allowed) (x .form) (lent palette (x .first) (x .second) place (x .room))
+stepBeside x film m palette place = stepAnswer film m (x .allowed) (x .form) (lent palette (x .first) (x .second) place (x .room) (x .words))
 
 -- of a state's numbers
 abbrev pub columnsIn : List ℕ → ℕ

@@ -1,21 +1,25 @@
 -- A step by what code found.
 -- Assumes nothing.
-use mathlib.Core.Path.{_≡_, refl, sym, ap, _∙_}
+use mathlib.Core.Path.{_≡_, refl, sym, ap, ap₂, _∙_}
 use mathlib.Core.Bool.{Bool, true, false, cond}
 use mathlib.Core.List.{List, []}
-use Prim.Native.Nat.{ℕ, _+_, _-_, _≤_}
+use Prim.Native.Nat.{ℕ, _+_, _*_, _-_, _≤_}
 use native.Mathlib.Decide.{ℕ-discrete}
 use borrow.Author.Tests.{eq-eqb, ne-eqb, leb-true}
+use lib.Dec.{ltb}
 use lib.ListN.{length}
 use Rattle.refusal.specs.declared.Refusal.{Refusal}
-use Rattle.refusal.specs.Number.{refuse, number, block}
-use Rattle.packet.specs.declared.Touched.the-variants.{None}
+use Rattle.refusal.specs.Number.{Verdict, accept, refuse, number, block}
+use Rattle.packet.specs.Packet.{pixels}
+use Rattle.packet.specs.Verdict.{legalSize}
+use Rattle.packet.proofs.Sizes.{few}
 use Rattle.stores.specs.Stores.{Memory, memory}
-use Rattle.stores.specs.Calls.{refusal, step}
+use Rattle.stores.specs.Calls.{step}
 use Rattle.draw.specs.declared.Allowed.{Allowed}
-use Rattle.draw.specs.Call.{Request, request, callVerdict, reason, calling, Pictures, pictures, leaves, Report, reporting, report}
-use Rattle.draw.proofs.Judged.{either-verdict}
+use Rattle.draw.specs.Call.{Request, asking, request, wordRequest, callVerdictIn, callVerdict, drawVerdict, calling, Pictures, wordPictures, pictures, leaves, Report, report}
+use Rattle.draw.proofs.Judged.{accepted-call, either-verdict}
 use Rattle.draw.proofs.Called.{says-refused}
+use Rattle.word_calls.specs.Asked.{Judged}
 use Rattle.palette.specs.declared.Changed.{Changed}
 use Rattle.palette.specs.declared.Changed.the-variants.{Whole, Unfinished, Refused}
 use Rattle.palette.specs.Update.{Change, changeOn, paletteAfter, changedAs}
@@ -43,67 +47,166 @@ use Rattle.next.specs.declared.Next.the-variants as found
 use Rattle.next.specs.Next.{nextAs, nextOf, Possible, Ready}
 use Rattle.next.proofs.Standing.{found-ready}
 use Rattle.opcodes.specs.Opcodes.{Step, taken, unfinished, ended, refused, stored, quiet, quietAnswer, heardStep, drawnAs, drawnStep}
-use Rattle.film.specs.Film.{Lent, lent, withPalette, withPictures, withRoom, swap, Outcome, after, called, drawOn, part, drawBy, paletteStep, mapTo, act, actOn, heardBy, hear, takeOn, standing, stepOf}
+use Rattle.film.specs.Film.{Words, words, Lent, lent, withPalette, withPictures, withWords, withRoom, shortest, Outcome, after, Turn, bytes0, bytes1, words0, words1, words2, turnOf, lastIn, newIn, oldestIn, withNew, drawnAt, withDrawn, requestOf, drawOn, part, drawMapped, isBodyShort, drawBy, paletteStep, mapTo, act, actOn, heardBy, hear, takeOn, standing, stepOf}
+use Rattle.film.proofs.Pictures.{first-shown, second-shown, shown-0, shown-1, shown-2, drawn-back}
 
 -- ---- 11
 
--- a drawing call on the second picture, which left c and k
-called-is : (st : State) (p : ℕ) (q : Request) (l : Lent) (x : Step) (o : Report) (c : List ℕ) (k : ℕ) → x ≡ drawnStep st p o
-    → o ≡ report (memory (l .second) (l .place)) q → memory c k ≡ step calling (memory (l .second) (l .place)) q
-    → after x (withPictures l (l .first) c k) ≡ called st p q l
-unfolding called
-called-is st p q l x o c k f g h =
-    ap (λ (z : Step). after z (withPictures l (l .first) c k)) (f ∙ ap (drawnStep st p) g)
-    ∙ ap (λ (m : Memory). after (drawnStep st p (report (memory (l .second) (l .place)) q)) (withPictures l (l .first) (m .picture) (m .place))) h
+module _ (st : State) (p : ℕ) (map packet : List ℕ) (allowed : Allowed) (l : Lent) where
+  -- by the film's kind and by which picture is shown
+  abbrev request-in : Bool → Turn → Request
+  request-in deep t = asking deep (st .columns) (st .rows) map packet (lastIn t l) (oldestIn t l) allowed
 
-module _ (st : State) (p : ℕ) (map packet : List ℕ) (allowed : Allowed) (a b : List ℕ) (place : ℕ) (x : Step) (c : List ℕ) (k : ℕ) (o : Report) (f : x ≡ drawnStep st p o) (l : Lent) where
-  pub drew-second : st .front ≡ 0 → o ≡ report (memory b place) (request (st .columns) (st .rows) map packet a allowed)
-      → pictures a (memory c k) ≡ leaves (request (st .columns) (st .rows) map packet a allowed) (memory b place)
-      → after x (withPictures l a c k) ≡ drawOn st p map packet allowed (withPictures l a b place)
+  abbrev drawn-in : Turn → Memory
+  drawn-in t = memory (newIn t l) (l .place)
+
+  abbrev called-in : Bool → Turn → Outcome
+  called-in deep t = after (drawnStep st p (report (drawn-in t) (request-in deep t))) (withNew t l (step calling (drawn-in t) (request-in deep t)))
+
+  -- a drawing call that left m
+  drew : (deep : Bool) (t : Turn) → st .deep ≡ deep → turnOf st ≡ t → (x : Step) (o : Report) (m : Memory) → x ≡ drawnStep st p o
+      → o ≡ report (drawn-in t) (request-in deep t) → wordPictures (lastIn t l) (oldestIn t l) m ≡ leaves (request-in deep t) (drawn-in t)
+      → after x (withNew t l m) ≡ drawOn st p map packet allowed l
   unfolding drawOn
-  drew-second e g h = rw (eq-eqb _ _ e) (called-is st p (request (st .columns) (st .rows) map packet a allowed) (withPictures l a b place) x o c k f g (ap (λ (y : Pictures). y .drawn) h))
+  drew deep t d e x o m f g h =
+      ap (λ (z : Step). after z (withNew t l m)) (f ∙ ap (drawnStep st p) g)
+      ∙ (ap (λ (y : Pictures). after (drawnStep st p (report (drawn-in t) (request-in deep t))) (withNew t l (y .drawn))) h ∙ sym (ap₂ called-in d e))
 
-  pub drew-first : (st .front ≡ 0 → ⊥) → o ≡ report (memory a place) (request (st .columns) (st .rows) map packet b allowed)
-      → pictures b (memory c k) ≡ leaves (request (st .columns) (st .rows) map packet b allowed) (memory a place)
-      → after x (withPictures l c b k) ≡ drawOn st p map packet allowed (withPictures l a b place)
-  unfolding drawOn
-  drew-first n g h =
-      rw (ne-eqb _ _ n)
-      (ap (λ (o : Outcome). after (o .step) (swap (o .lent)))
-      (called-is st p (request (st .columns) (st .rows) map packet b allowed) (withPictures l b a place) x o c k f g (ap (λ (y : Pictures). y .drawn) h)))
+  -- one that is refused
+  refused-drawn : (n k : ℕ) → refuse n k ≡ drawVerdict (requestOf st map packet allowed l) (drawnAt st l) → after (quiet (refused n k)) l ≡ drawOn st p map packet allowed l
+  unfolding drawOn drawnAs
+  refused-drawn n k v =
+      let s = says-refused (requestOf st map packet allowed l) (drawnAt st l) n k v in
+      ap (λ (o : Report). after (drawnStep st p o) l) (s .1)
+      ∙ ap (after (drawnStep st p (report (drawnAt st l) (requestOf st map packet allowed l)))) (sym (drawn-back st l) ∙ ap (λ (y : Pictures). withDrawn st l (y .drawn)) (s .0))
 
--- a drawing call that is refused, whichever picture is front
-pub refused-on : (st : State) (p : ℕ) (map packet : List ℕ) (allowed : Allowed) (a b : List ℕ) (place : ℕ) (l : Lent) (n k : ℕ)
-    → refuse n k ≡ callVerdict (allowed .spare) (st .columns) (st .rows) map packet (length a) (length b) place
-    → after (quiet (refused n k)) (withPictures l a b place) ≡ drawOn st p map packet allowed (withPictures l a b place)
-unfolding drawnAs
-refused-on st p map packet allowed a b place l n k v = by (ℕ-discrete (st .front) 0)
+  refused-in : (deep : Bool) (t : Turn) → st .deep ≡ deep → turnOf st ≡ t → (n k : ℕ) → refuse n k ≡ drawVerdict (request-in deep t) (drawn-in t)
+      → after (quiet (refused n k)) l ≡ drawOn st p map packet allowed l
+  refused-in deep t d e n k v = refused-drawn n k (v ∙ sym (ap₂ (λ (b : Bool) (u : Turn). drawVerdict (request-in b u) (drawn-in u)) d e))
+
+-- pictures of bytes
+module _ (st : State) (p : ℕ) (map packet : List ℕ) (allowed : Allowed) (a b : List ℕ) (place : ℕ) (d : st .deep ≡ false) where
+  module _ (x : Step) (n : List ℕ) (k : ℕ) (o : Report) (f : x ≡ drawnStep st p o) (l : Lent) where
+    pub drew-second : st .front ≡ 0 → o ≡ report (memory b place) (request (st .columns) (st .rows) map packet a allowed)
+        → pictures a (memory n k) ≡ leaves (request (st .columns) (st .rows) map packet a allowed) (memory b place)
+        → after x (withPictures l a n k) ≡ drawOn st p map packet allowed (withPictures l a b place)
+    unfolding lastIn newIn oldestIn withNew
+    drew-second e g h = drew st p map packet allowed (withPictures l a b place) false bytes0 d (first-shown _ _ d e) x o (memory n k) f g h
+
+    pub drew-first : (st .front ≡ 0 → ⊥) → o ≡ report (memory a place) (request (st .columns) (st .rows) map packet b allowed)
+        → pictures b (memory n k) ≡ leaves (request (st .columns) (st .rows) map packet b allowed) (memory a place)
+        → after x (withPictures l n b k) ≡ drawOn st p map packet allowed (withPictures l a b place)
+    unfolding lastIn newIn oldestIn withNew
+    drew-first e g h = drew st p map packet allowed (withPictures l a b place) false bytes1 d (second-shown _ _ d e) x o (memory n k) f g h
+
+  -- whichever picture is front
+  pub refused-on : (l : Lent) (n k : ℕ) → refuse n k ≡ callVerdict (allowed .spare) (st .columns) (st .rows) map packet (length a) (length b) place
+      → after (quiet (refused n k)) (withPictures l a b place) ≡ drawOn st p map packet allowed (withPictures l a b place)
+  unfolding lastIn newIn oldestIn
+  refused-on l n k v = by (ℕ-discrete (st .front) 0)
+    where
+      by : Dec (st .front ≡ 0) → after (quiet (refused n k)) (withPictures l a b place) ≡ drawOn st p map packet allowed (withPictures l a b place)
+      by (yes e) = refused-in st p map packet allowed (withPictures l a b place) false bytes0 d (first-shown _ _ d e) n k v
+      by (no e) =
+          refused-in st p map packet allowed (withPictures l a b place) false bytes1 d (second-shown _ _ d e) n k
+          (v ∙ either-verdict (allowed .spare) (st .columns) (st .rows) map packet (length a) (length b) place)
+
+-- pictures of words: all three are tested alike
+pub next-verdict : (spare columns rows : ℕ) (map bytes : List ℕ) (x y z place : ℕ)
+    → callVerdictIn true spare columns rows map bytes x y z place ≡ callVerdictIn true spare columns rows map bytes y z x place
+unfolding callVerdictIn
+next-verdict spare columns rows map bytes x y z place = by (ltb x (pixels columns rows)) (ltb y (pixels columns rows)) (ltb z (pixels columns rows)) _
   where
-    o : Report
-    o = reporting (refusal (reason n k)) 0 None
+    by : (f o b : Bool) (v : Verdict)
+        → cond (legalSize columns rows) (cond f (refuse 8 0) (cond o (refuse 8 0) (cond b (refuse 8 0) v))) (refuse 6 0)
+        ≡ cond (legalSize columns rows) (cond o (refuse 8 0) (cond b (refuse 8 0) (cond f (refuse 8 0) v))) (refuse 6 0)
+    by true true b v = refl
+    by true false true v = refl
+    by true false false v = refl
+    by false true b v = refl
+    by false false true v = refl
+    by false false false v = refl
 
-    by : Dec (st .front ≡ 0) → after (quiet (refused n k)) (withPictures l a b place) ≡ drawOn st p map packet allowed (withPictures l a b place)
-    by (yes e) =
-        let s = says-refused (request (st .columns) (st .rows) map packet a allowed) (memory b place) n k v in
-        drew-second st p map packet allowed a b place (quiet (refused n k)) b place o refl l e (s .1) (s .0)
-    by (no e) =
-        let w = either-verdict (allowed .spare) (st .columns) (st .rows) map packet (length a) (length b) place in
-        let s = says-refused (request (st .columns) (st .rows) map packet b allowed) (memory a place) n k (v ∙ w) in
-        drew-first st p map packet allowed a b place (quiet (refused n k)) a place o refl l e (s .1) (s .0)
+pub third-verdict : (spare columns rows : ℕ) (map bytes : List ℕ) (x y z place : ℕ)
+    → callVerdictIn true spare columns rows map bytes x y z place ≡ callVerdictIn true spare columns rows map bytes z x y place
+third-verdict spare columns rows map bytes x y z place =
+    next-verdict spare columns rows map bytes x y z place ∙ next-verdict spare columns rows map bytes y z x place
 
-module _ (m : Map) (film : List ℕ) (st : State) (body : List ℕ) (p : ℕ) (allowed : Allowed) (l : Lent) where
-  pub no-map : m ≡ Missing → after (quiet (refused 9 0)) l ≡ drawBy m film st body p allowed l
+-- what the loop over words asks of a call that is accepted
+pub accepted-words : (spare columns rows : ℕ) (map bytes : List ℕ) (last oldest new place : ℕ) → accept ≡ callVerdictIn true spare columns rows map bytes last oldest new place
+    → Judged columns rows map bytes last oldest new place
+accepted-words spare columns rows map bytes last oldest new place v =
+    let t = accepted-call true spare columns rows map bytes last oldest new place (sym v) in
+    record { parts = t .2 .accepted .parts; accepted = record { accepted = t .1; oldest-room = t .2 .oldest-long } }
+
+-- and of its count of blocks
+pub few-words : (spare columns rows : ℕ) (map bytes : List ℕ) (last oldest new place : ℕ) → accept ≡ callVerdictIn true spare columns rows map bytes last oldest new place
+    → columns * rows ≤ 4800
+few-words spare columns rows map bytes last oldest new place v =
+    few columns rows (accepted-call true spare columns rows map bytes last oldest new place (sym v) .0)
+
+module _ (st : State) (p : ℕ) (map packet : List ℕ) (allowed : Allowed) (c d e : List ℕ) (place : ℕ) (t : st .deep ≡ true) where
+  module _ (x : Step) (n : List ℕ) (k : ℕ) (o : Report) (f : x ≡ drawnStep st p o) (l : Lent) where
+    pub drew-1 : st .front ≡ 0 → o ≡ report (memory d place) (wordRequest (st .columns) (st .rows) map packet c e allowed)
+        → wordPictures c e (memory n k) ≡ leaves (wordRequest (st .columns) (st .rows) map packet c e allowed) (memory d place)
+        → after x (withWords l (words c n e) k) ≡ drawOn st p map packet allowed (withWords l (words c d e) place)
+    unfolding lastIn newIn oldestIn withNew
+    drew-1 q g h = drew st p map packet allowed (withWords l (words c d e) place) true words0 t (shown-0 _ _ t q) x o (memory n k) f g h
+
+    pub drew-2 : st .front ≡ 1 → o ≡ report (memory e place) (wordRequest (st .columns) (st .rows) map packet d c allowed)
+        → wordPictures d c (memory n k) ≡ leaves (wordRequest (st .columns) (st .rows) map packet d c allowed) (memory e place)
+        → after x (withWords l (words c d n) k) ≡ drawOn st p map packet allowed (withWords l (words c d e) place)
+    unfolding lastIn newIn oldestIn withNew
+    drew-2 q g h = drew st p map packet allowed (withWords l (words c d e) place) true words1 t (shown-1 _ _ t q) x o (memory n k) f g h
+
+    pub drew-0 : (st .front ≡ 0 → ⊥) → (st .front ≡ 1 → ⊥) → o ≡ report (memory c place) (wordRequest (st .columns) (st .rows) map packet e d allowed)
+        → wordPictures e d (memory n k) ≡ leaves (wordRequest (st .columns) (st .rows) map packet e d allowed) (memory c place)
+        → after x (withWords l (words n d e) k) ≡ drawOn st p map packet allowed (withWords l (words c d e) place)
+    unfolding lastIn newIn oldestIn withNew
+    drew-0 q r g h = drew st p map packet allowed (withWords l (words c d e) place) true words2 t (shown-2 _ _ t q r) x o (memory n k) f g h
+
+  -- whichever picture is front
+  pub refused-words : (l : Lent) (n k : ℕ) → refuse n k ≡ callVerdictIn true (allowed .spare) (st .columns) (st .rows) map packet (length c) (length e) (length d) place
+      → after (quiet (refused n k)) (withWords l (words c d e) place) ≡ drawOn st p map packet allowed (withWords l (words c d e) place)
+  unfolding lastIn newIn oldestIn
+  refused-words l n k v = by (ℕ-discrete (st .front) 0) (ℕ-discrete (st .front) 1)
+    where
+      by : Dec (st .front ≡ 0) → Dec (st .front ≡ 1)
+          → after (quiet (refused n k)) (withWords l (words c d e) place) ≡ drawOn st p map packet allowed (withWords l (words c d e) place)
+      by (yes q) r = refused-in st p map packet allowed (withWords l (words c d e) place) true words0 t (shown-0 _ _ t q) n k v
+      by (no q) (yes r) =
+          refused-in st p map packet allowed (withWords l (words c d e) place) true words1 t (shown-1 _ _ t r) n k
+          (v ∙ third-verdict (allowed .spare) (st .columns) (st .rows) map packet (length c) (length e) (length d) place)
+      by (no q) (no r) =
+          refused-in st p map packet allowed (withWords l (words c d e) place) true words2 t (shown-2 _ _ t q r) n k
+          (v ∙ next-verdict (allowed .spare) (st .columns) (st .rows) map packet (length c) (length e) (length d) place)
+
+pub short-deep : (deep : Bool) (n : ℕ) → deep ≡ true → ltb n 16 ≡ isBodyShort deep n
+unfolding isBodyShort
+short-deep deep n e = rw e
+
+pub never-short : (deep : Bool) (n : ℕ) → deep ≡ false → false ≡ isBodyShort deep n
+unfolding isBodyShort
+never-short deep n e = rw e
+
+module _ (m : Map) (film : List ℕ) (st : State) (body : List ℕ) (p : ℕ) (allowed : Allowed) (l : Lent) (b : Bool) (g : b ≡ isBodyShort (st .deep) (length body)) where
+  pub short-body : b ≡ true → after (quiet (refused 5 0)) l ≡ drawBy m film st body p allowed l
   unfolding drawBy
-  no-map e = rw e
+  short-body t = rw (← g, t)
 
-  pub no-size : (start long : ℕ) → m ≡ Part start long → st .columns ≡ 0 → after (quiet (refused 9 0)) l ≡ drawBy m film st body p allowed l
-  unfolding drawBy
-  no-size start long e q = rw (e, eq-eqb _ _ q)
+  module _ (f : b ≡ false) where
+    pub no-map : m ≡ Missing → after (quiet (refused 9 0)) l ≡ drawBy m film st body p allowed l
+    unfolding drawBy drawMapped
+    no-map e = rw (← g, f, e)
 
-  pub draws : (start long : ℕ) (o : Outcome) → m ≡ Part start long → (st .columns ≡ 0 → ⊥) → o ≡ drawOn st p (part film start (start + long)) (part body 14 (length body)) allowed l
-      → o ≡ drawBy m film st body p allowed l
-  unfolding drawBy
-  draws start long o e n h = rw (e, ne-eqb _ _ n) h
+    pub no-size : (start long : ℕ) → m ≡ Part start long → st .columns ≡ 0 → after (quiet (refused 9 0)) l ≡ drawBy m film st body p allowed l
+    unfolding drawBy drawMapped
+    no-size start long e q = rw (← g, f, e, eq-eqb _ _ q)
+
+    pub draws : (start long : ℕ) (o : Outcome) → m ≡ Part start long → (st .columns ≡ 0 → ⊥) → o ≡ drawOn st p (part film start (start + long)) (part body 14 (length body)) allowed l
+        → o ≡ drawBy m film st body p allowed l
+    unfolding drawBy drawMapped
+    draws start long o e n h = rw (← g, f, e, ne-eqb _ _ n) h
 
 -- a pending map that lies inside
 pub map-ends : (m : Map) (ms ml film : ℕ) → mapInside m film ≡ true → m ≡ Part ms ml → ms + ml ≤ film
@@ -137,11 +240,9 @@ module _ (film : List ℕ) (st : State) (kind version s : ℕ) (body : List ℕ)
   unfolding act mapTo
   act-map-short e z = rw (e, eq-eqb _ _ z)
 
-  pub act-draw : (x : Step) (a b : List ℕ) (k : ℕ) → kind ≡ 17
-      → ((m : Lent) → after x (withPictures m a b k) ≡ drawBy (st .map) film st body p allowed (withPictures m (l .first) (l .second) (l .place)))
-      → after x (withPictures l a b k) ≡ act film st kind version s body p allowed l
+  pub act-draw : (o : Outcome) → kind ≡ 17 → o ≡ drawBy (st .map) film st body p allowed l → o ≡ act film st kind version s body p allowed l
   unfolding act
-  act-draw x a b k e h = rw e (h l)
+  act-draw o e h = rw e h
 
   module _ (x : Step) (q : List ℕ) (v : Change) (f : x ≡ paletteStep st p v) where
     pub act-gradient : kind ≡ 11 → v ≡ changeOn (createGradient body) (allowed .stores) (l .palette) → q ≡ paletteAfter (createGradient body) (allowed .stores) (l .palette)
@@ -202,23 +303,23 @@ module _ (film : List ℕ) (st : State) (o : Opcode) (allowed : Allowed) (l : Le
 
 -- ---- a step
 
-module _ (film : List ℕ) (st : State) (allowed : Allowed) (l : Lent) (n : Next) (e : nextAs n ≡ nextOf film st (length (l .palette)) (length (l .first)) (length (l .second))) where
+module _ (film : List ℕ) (st : State) (allowed : Allowed) (l : Lent) (n : Next) (s : ℕ) (g : s ≡ shortest st l) (e : nextAs n ≡ nextOf film st (length (l .palette)) s) where
   pub step-refused : (r : Refusal) → n ≡ found.Refused r → after (quiet (refused (number r) (block r))) l ≡ stepOf film st allowed l
   unfolding stepOf standing
-  step-refused r q = rw (← e, q)
+  step-refused r q = rw (← g, ← e, q)
 
   pub step-ended : n ≡ found.Ended → after (quiet (ended st)) l ≡ stepOf film st allowed l
   unfolding stepOf standing
-  step-ended q = rw (← e, q)
+  step-ended q = rw (← g, ← e, q)
 
   pub step-chunk : (c : Cursor) (x : State) → n ≡ found.Chunk c → x ≡ into st c → after (quiet (taken x)) l ≡ stepOf film st allowed l
   unfolding stepOf standing
-  step-chunk c x q f = rw (← e, q, f)
+  step-chunk c x q f = rw (← g, ← e, q, f)
 
   pub step-opcode : (o : Opcode) (x : Outcome) → n ≡ found.Opcode o → x ≡ takeOn film st o allowed l → x ≡ stepOf film st allowed l
   unfolding stepOf standing
-  step-opcode o x q f = rw (← e, q) f
+  step-opcode o x q f = rw (← g, ← e, q) f
 
-pub step-ready : (film : List ℕ) (st : State) (palette a b : ℕ) (n : Next) (o : Opcode) → nextAs n ≡ nextOf film st palette a b → n ≡ found.Opcode o
+pub step-ready : (film : List ℕ) (st : State) (palette shortest : ℕ) (n : Next) (o : Opcode) → nextAs n ≡ nextOf film st palette shortest → n ≡ found.Opcode o
     → Possible st (length film) × Ready (length film) (st .cursor) o
-step-ready film st palette a b n o e q = found-ready film st palette a b o (sym e ∙ ap nextAs q)
+step-ready film st palette shortest n o e q = found-ready film st palette shortest o (sym e ∙ ap nextAs q)

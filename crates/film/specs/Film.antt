@@ -1,14 +1,14 @@
 -- One step over a film (document 01, "Film, chunks, opcodes"): the answer, and everything lent afterwards, for every film, state and lent memory.
 -- Assumes nothing.
-use mathlib.Core.Bool.{cond}
-use mathlib.Core.List.{List}
+use mathlib.Core.Bool.{Bool, false, cond}
+use mathlib.Core.List.{List, []}
 use Prim.Native.Nat.{ℕ, _+_, _-_}
-use lib.Dec.{eqb}
+use lib.Dec.{eqb, ltb}
 use lib.ListN.{length, take, drop}
-use Rattle.stores.specs.Stores.{memory}
+use Rattle.stores.specs.Stores.{Memory, memory}
 use Rattle.stores.specs.Calls.{step}
 use Rattle.draw.specs.declared.Allowed.{Allowed}
-use Rattle.draw.specs.Call.{Request, request, calling, report}
+use Rattle.draw.specs.Call.{Request, asking, calling, report}
 use Rattle.palette.specs.Update.{Update, Change, changeOn, paletteAfter}
 use Rattle.palette.specs.Update as palette
 use Rattle.palette.specs.Gradient.{createGradient}
@@ -17,6 +17,7 @@ use Rattle.palette.specs.Mask.{setPaletteCompressed}
 use Rattle.state.specs.declared.Map.{Map}
 use Rattle.state.specs.declared.Map.the-variants.{Missing, Part}
 use Rattle.state.specs.declared.State.{State}
+use Rattle.state.specs.State.{shortestOf}
 use Rattle.state.specs.Moves.{behind, into, mapped}
 use Rattle.sound.specs.declared.Sound.{Sound}
 use Rattle.sound.specs.Format.{chosen}
@@ -30,30 +31,49 @@ use Rattle.opcodes.specs.Opcodes.{Step, taken, unfinished, ended, refused, stor
 
 -- ---- what is lent
 
--- all that is lent to a step for writing: the palette, the two pictures, the place, which is the number of the next block to draw, and the room for sound
+-- three pictures of words, for films with true colour
+pub record Words : Type 0 where
+  pub picture0 : List ℕ
+  pub picture1 : List ℕ
+  pub picture2 : List ℕ
+
+abbrev pub words : List ℕ → List ℕ → List ℕ → Words
+words c d e = record { picture0 = c; picture1 = d; picture2 = e }
+
+-- all that is lent to a step for writing: the palette, the two pictures of bytes, the place, which is the number of the next block to draw, the room for sound, and the
+-- pictures of words
 pub record Lent : Type 0 where
   pub palette : List ℕ
   pub first : List ℕ
   pub second : List ℕ
   pub place : ℕ
   pub room : List ℕ
+  pub words : Words
 
-abbrev pub lent : List ℕ → List ℕ → List ℕ → ℕ → List ℕ → Lent
-lent palette a b place room = record { palette = palette; first = a; second = b; place = place; room = room }
+abbrev pub lent : List ℕ → List ℕ → List ℕ → ℕ → List ℕ → Words → Lent
+lent palette a b place room w = record { palette = palette; first = a; second = b; place = place; room = room; words = w }
 
--- with another palette, with other pictures and place, or with another room; all else as it was
+-- with another palette, with other pictures of bytes or of words and place, or with another room; all else as it was
 abbrev pub withPalette : Lent → List ℕ → Lent
-withPalette l palette = record { palette = palette; first = l .first; second = l .second; place = l .place; room = l .room }
+withPalette l palette = lent palette (l .first) (l .second) (l .place) (l .room) (l .words)
 
 abbrev pub withPictures : Lent → List ℕ → List ℕ → ℕ → Lent
-withPictures l a b place = record { palette = l .palette; first = a; second = b; place = place; room = l .room }
+withPictures l a b place = lent (l .palette) a b place (l .room) (l .words)
+
+abbrev pub withWords : Lent → Words → ℕ → Lent
+withWords l w place = lent (l .palette) (l .first) (l .second) place (l .room) w
 
 abbrev pub withRoom : Lent → List ℕ → Lent
-withRoom l room = record { palette = l .palette; first = l .first; second = l .second; place = l .place; room = room }
+withRoom l room = lent (l .palette) (l .first) (l .second) (l .place) room (l .words)
 
--- the pictures the other way round
-abbrev pub swap : Lent → Lent
-swap l = withPictures l (l .second) (l .first) (l .place)
+-- the shortest of the film's own pictures
+abbrev pub shortest : State → Lent → ℕ
+shortest st l =
+    shortestOf (st .deep) (length (l .first)) (length (l .second)) (length (l .words .picture0)) (length (l .words .picture1)) (length (l .words .picture2))
+
+-- what stands where a state is, with what is lent
+abbrev pub standsAt : List ℕ → State → Lent → Standing
+standsAt film st l = nextOf film st (length (l .palette)) (shortest st l)
 
 -- a step's answer, and what is lent afterwards
 pub record Outcome : Type 0 where
@@ -63,33 +83,95 @@ pub record Outcome : Type 0 where
 abbrev pub after : Step → Lent → Outcome
 after x l = record { step = x; lent = l }
 
+-- ---- the pictures of a film
+
+-- which picture is shown: of two of bytes, or of three of words
+pub data Turn : Type 0 where
+  bytes0 bytes1 words0 words1 words2 : Turn
+
+unfoldable pub turnBy : Bool → ℕ → Turn
+turnBy deep front = cond deep (cond (eqb front 0) words0 (cond (eqb front 1) words1 words2)) (cond (eqb front 0) bytes0 bytes1)
+
+abbrev pub turnOf : State → Turn
+turnOf st = turnBy (st .deep) (st .front)
+
+-- the last picture, which is shown
+unfoldable pub lastIn : Turn → Lent → List ℕ
+lastIn bytes0 l = l .first
+lastIn bytes1 l = l .second
+lastIn words0 l = l .words .picture0
+lastIn words1 l = l .words .picture1
+lastIn words2 l = l .words .picture2
+
+-- the new one, which is drawn on: the next one
+unfoldable pub newIn : Turn → Lent → List ℕ
+newIn bytes0 l = l .second
+newIn bytes1 l = l .first
+newIn words0 l = l .words .picture1
+newIn words1 l = l .words .picture2
+newIn words2 l = l .words .picture0
+
+-- the oldest one: of a film with true colour the one behind
+unfoldable pub oldestIn : Turn → Lent → List ℕ
+oldestIn bytes0 l = []
+oldestIn bytes1 l = []
+oldestIn words0 l = l .words .picture2
+oldestIn words1 l = l .words .picture0
+oldestIn words2 l = l .words .picture1
+
+-- with another new one and place
+unfoldable pub withNew : Turn → Lent → Memory → Lent
+withNew bytes0 l m = withPictures l (l .first) (m .picture) (m .place)
+withNew bytes1 l m = withPictures l (m .picture) (l .second) (m .place)
+withNew words0 l m = withWords l (words (l .words .picture0) (m .picture) (l .words .picture2)) (m .place)
+withNew words1 l m = withWords l (words (l .words .picture0) (l .words .picture1) (m .picture)) (m .place)
+withNew words2 l m = withWords l (words (m .picture) (l .words .picture1) (l .words .picture2)) (m .place)
+
+abbrev pub lastOf : State → Lent → List ℕ
+lastOf st l = lastIn (turnOf st) l
+
+abbrev pub newOf : State → Lent → List ℕ
+newOf st l = newIn (turnOf st) l
+
+abbrev pub oldestOf : State → Lent → List ℕ
+oldestOf st l = oldestIn (turnOf st) l
+
+-- what a drawing call stores to: the new picture and the place
+abbrev pub drawnAt : State → Lent → Memory
+drawnAt st l = memory (newOf st l) (l .place)
+
+abbrev pub withDrawn : State → Lent → Memory → Lent
+withDrawn st l m = withNew (turnOf st) l m
+
 -- ---- 11
 
--- a drawing call on the second picture: its answer, and that picture and the place as it leaves them
-unfoldable pub called : State → ℕ → Request → Lent → Outcome
-called st p q l =
-    after (drawnStep st p (report (memory (l .second) (l .place)) q))
-    (withPictures l (l .first) (step calling (memory (l .second) (l .place)) q .picture) (step calling (memory (l .second) (l .place)) q .place))
+-- the drawing call that it makes
+abbrev pub requestOf : State → List ℕ → List ℕ → Allowed → Lent → Request
+requestOf st map packet allowed l = asking (st .deep) (st .columns) (st .rows) map packet (lastOf st l) (oldestOf st l) allowed
 
--- where the first picture is front, which is shown and read, and the second is back, which is drawn on
-abbrev pub drawSecond : State → ℕ → List ℕ → List ℕ → Allowed → Lent → Outcome
-drawSecond st p map packet allowed l = called st p (request (st .columns) (st .rows) map packet (l .first) allowed) l
+-- a drawing call: its answer, and the new picture and the place as it leaves them
+abbrev pub called : State → ℕ → Request → Lent → Outcome
+called st p q l = after (drawnStep st p (report (drawnAt st l) q)) (withDrawn st l (step calling (drawnAt st l) q))
 
--- where the first picture is front, or the second
 unfoldable pub drawOn : State → ℕ → List ℕ → List ℕ → Allowed → Lent → Outcome
-drawOn st p map packet allowed l =
-    cond (eqb (st .front) 0) (drawSecond st p map packet allowed l)
-    (after (drawSecond st p map packet allowed (swap l) .step) (swap (drawSecond st p map packet allowed (swap l) .lent)))
+drawOn st p map packet allowed l = called st p (requestOf st map packet allowed l) l
 
 -- the part of a film from s to e
 abbrev pub part : List ℕ → ℕ → ℕ → List ℕ
 part film s e = take (e - s) (drop s film)
 
 -- by the pending map, and the body that ends at p: the packet is what remains behind its 14 bytes in front. 9 without a map or a size
-unfoldable pub drawBy : Map → List ℕ → State → List ℕ → ℕ → Allowed → Lent → Outcome
-drawBy Missing film st body p allowed l = after (quiet (refused 9 0)) l
-drawBy (Part start long) film st body p allowed l =
+unfoldable pub drawMapped : Map → List ℕ → State → List ℕ → ℕ → Allowed → Lent → Outcome
+drawMapped Missing film st body p allowed l = after (quiet (refused 9 0)) l
+drawMapped (Part start long) film st body p allowed l =
     cond (eqb (st .columns) 0) (after (quiet (refused 9 0)) l) (drawOn st p (part film start (start + long)) (part body 14 (length body)) allowed l)
+
+-- 5: with true colour a body has 16 bytes, the 14 in front and the packet's first word
+unfoldable pub isBodyShort : Bool → ℕ → Bool
+isBodyShort deep n = cond deep (ltb n 16) false
+
+unfoldable pub drawBy : Map → List ℕ → State → List ℕ → ℕ → Allowed → Lent → Outcome
+drawBy map film st body p allowed l = cond (isBodyShort (st .deep) (length body)) (after (quiet (refused 5 0)) l) (drawMapped map film st body p allowed l)
 
 -- ---- an opcode that is taken and is no sound
 
@@ -150,4 +232,4 @@ standing (found.chunk c) film st allowed l = after (quiet (taken (into st c))) l
 standing (found.opcode o) film st allowed l = takeOn film st o allowed l
 
 unfoldable pub stepOf : List ℕ → State → Allowed → Lent → Outcome
-stepOf film st allowed l = standing (nextOf film st (length (l .palette)) (length (l .first)) (length (l .second))) film st allowed l
+stepOf film st allowed l = standing (standsAt film st l) film st allowed l

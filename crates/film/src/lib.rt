@@ -25,8 +25,11 @@ use sound::initialize_audio;
 use sound::is_chosen;
 use state::Map;
 use state::State;
+use state::shortest;
+use word_calls::draw_word_packet;
+use word_calls::judge_words;
 ghost use mathlib.Core.Path.{_≡_};
-ghost use mathlib.Core.Bool.{true};
+ghost use mathlib.Core.Bool.{true, false};
 ghost use Prim.Native.Nat.{ℕ, _≤_};
 ghost use mathlib.Core.List.{List};
 ghost use lib.ListN.{length};
@@ -36,9 +39,10 @@ ghost use Rattle.palette.specs.Update.{changedAs};
 ghost use Rattle.state.specs.State.{mapInside};
 ghost use Rattle.next.specs.Next.{Ready};
 ghost use Rattle.opcodes.specs.Opcodes.{steppedAs};
-ghost use Rattle.film.specs.Film.{Lent, lent, withPictures, withRoom, after, drawOn, drawBy, paletteStep, actOn, hear, takeOn, stepOf};
+ghost use Rattle.film.specs.Asked.{Tested};
+ghost use Rattle.film.specs.Film.{Lent, words, lent, withPictures, withWords, withRoom, after, drawOn, isBodyShort, drawBy, paletteStep, actOn, hear, takeOn, stepOf};
 
-// 11 on back, the picture that is not front. Whatever else is lent stays as it is. The tests come first and are gone from the stack while blocks are drawn.
+// 11 on back, the picture of bytes that is not front. Whatever else is lent stays as it is. The tests come first and are gone from the stack while blocks are drawn.
 fn draw_on(
     st: State,
     p: usize,
@@ -49,6 +53,7 @@ fn draw_on(
     place: &mut usize,
     allowed: Allowed,
 ) -> Stepped
+    requires { ⌜ st .deep ≡ false ⌝ }
     ensures { λ r. ⌜ ((l : Lent) → after (steppedAs r) (withPictures l (now (a .exit)) (now (b .exit)) (now (place .exit))) ≡ drawOn st p (now (map .entry)) (now (packet .entry)) allowed (withPictures l (now (a .entry)) (now (b .entry)) (now (place .entry)))) ⌝ }
 {
     let columns = st.columns;
@@ -79,7 +84,83 @@ fn draw_on(
     }
 }
 
-// 11, its body ending at p: the packet is the part of the film behind the body's 14 bytes. 9 without a size or a pending map.
+// 11 whose tests are made: on the picture of words behind the one that is shown, while the one behind both is read, too.
+fn draw_new(
+    st: State,
+    p: usize,
+    map: &[u8],
+    s: &[u8],
+    c: &mut [u16],
+    d: &mut [u16],
+    e: &mut [u16],
+    place: &mut usize,
+    allowed: Allowed,
+    t: Touched,
+) -> Stepped
+    requires { ⌜ Tested st (allowed .spare) (now map) (now s) (length (now c)) (length (now e)) (length (now d)) (now place) t ⌝ }
+    ensures { λ r. ⌜ ((l : Lent) → after (steppedAs r) (withWords l (words (now (c .exit)) (now (d .exit)) (now (e .exit))) (now (place .exit))) ≡ drawOn st p (now (map .entry)) (now (s .entry)) allowed (withWords l (words (now (c .entry)) (now (d .entry)) (now (e .entry))) (now (place .entry)))) ⌝ }
+{
+    let columns = st.columns;
+    let rows = st.rows;
+    let n = allowed.stores;
+    if st.front == 0 {
+        let made = draw_word_packet(columns, rows, map, s, &c[..], &e[..], &mut d[..], place, n);
+        let next = *place;
+        return drawn_step(st, p, answer_of(columns * rows, next, made, t));
+    }
+    if st.front == 1 {
+        let made = draw_word_packet(columns, rows, map, s, &d[..], &c[..], &mut e[..], place, n);
+        let next = *place;
+        return drawn_step(st, p, answer_of(columns * rows, next, made, t));
+    }
+    let made = draw_word_packet(columns, rows, map, s, &e[..], &d[..], &mut c[..], place, n);
+    let next = *place;
+    drawn_step(st, p, answer_of(columns * rows, next, made, t))
+}
+
+// 11 of a film with true colour. Whatever else is lent stays as it is.
+fn draw_words_on(
+    st: State,
+    p: usize,
+    map: &[u8],
+    packet: &[u8],
+    c: &mut [u16],
+    d: &mut [u16],
+    e: &mut [u16],
+    place: &mut usize,
+    allowed: Allowed,
+) -> Stepped
+    requires { ⌜ st .deep ≡ true ⌝ }
+    ensures { λ r. ⌜ ((l : Lent) → after (steppedAs r) (withWords l (words (now (c .exit)) (now (d .exit)) (now (e .exit))) (now (place .exit))) ≡ drawOn st p (now (map .entry)) (now (packet .entry)) allowed (withWords l (words (now (c .entry)) (now (d .entry)) (now (e .entry))) (now (place .entry)))) ⌝ }
+{
+    let at = *place;
+    match judge_words(
+        allowed.spare,
+        st.columns,
+        st.rows,
+        map,
+        packet,
+        c.len(),
+        e.len(),
+        d.len(),
+        at,
+    ) {
+        Inspected::Refused(r) => Stepped::Refused(r),
+        Inspected::Accepted(t) => draw_new(st, p, map, packet, c, d, e, place, allowed, t),
+    }
+}
+
+fn is_body_short(deep: bool, n: usize) -> bool
+    ensures { λ r. ⌜ r ≡ isBodyShort deep n ⌝ }
+{
+    if deep {
+        return n < 16;
+    }
+    false
+}
+
+// 11, its body ending at p: the packet is the part of the film behind the body's 14 bytes. 5 for a body without a packet's first word where the film has true colour; 9
+// without a size or a pending map.
 fn draw_by(
     film: &[u8],
     st: State,
@@ -87,13 +168,19 @@ fn draw_by(
     p: usize,
     a: &mut [u8],
     b: &mut [u8],
+    c: &mut [u16],
+    d: &mut [u16],
+    e: &mut [u16],
     place: &mut usize,
     allowed: Allowed,
 ) -> Stepped
     requires { ⌜ 14 ≤ length (now body) ⌝ }
     requires { ⌜ mapInside (st .map) (length (now film)) ≡ true ⌝ }
-    ensures { λ r. ⌜ ((l : Lent) → after (steppedAs r) (withPictures l (now (a .exit)) (now (b .exit)) (now (place .exit))) ≡ drawBy (st .map) (now (film .entry)) st (now (body .entry)) p allowed (withPictures l (now (a .entry)) (now (b .entry)) (now (place .entry)))) ⌝ }
+    ensures { λ r. ⌜ ((palette room : List ℕ) → after (steppedAs r) (lent palette (now (a .exit)) (now (b .exit)) (now (place .exit)) room (words (now (c .exit)) (now (d .exit)) (now (e .exit)))) ≡ drawBy (st .map) (now (film .entry)) st (now (body .entry)) p allowed (lent palette (now (a .entry)) (now (b .entry)) (now (place .entry)) room (words (now (c .entry)) (now (d .entry)) (now (e .entry))))) ⌝ }
 {
+    if is_body_short(st.deep, body.len()) {
+        return Stepped::Refused(Refusal::BodyLength);
+    }
     let m = st.map;
     match m {
         Map::Missing => Stepped::Refused(Refusal::NoMap),
@@ -103,6 +190,9 @@ fn draw_by(
             }
             let map = &film[start..start + long];
             let packet = &body[14..];
+            if st.deep {
+                return draw_words_on(st, p, map, packet, c, d, e, place, allowed);
+            }
             draw_on(st, p, map, packet, a, b, place, allowed)
         }
     }
@@ -127,12 +217,15 @@ fn act_on(
     palette: &mut [u8],
     a: &mut [u8],
     b: &mut [u8],
+    c: &mut [u16],
+    d: &mut [u16],
+    e: &mut [u16],
     place: &mut usize,
     allowed: Allowed,
 ) -> Stepped
     requires { ⌜ Ready (length (now film)) (st .cursor) o ⌝ }
     requires { ⌜ mapInside (st .map) (length (now film)) ≡ true ⌝ }
-    ensures { λ r. ⌜ ((room : List ℕ) → after (steppedAs r) (lent (now (palette .exit)) (now (a .exit)) (now (b .exit)) (now (place .exit)) room) ≡ actOn (now (film .entry)) st o allowed (lent (now (palette .entry)) (now (a .entry)) (now (b .entry)) (now (place .entry)) room)) ⌝ }
+    ensures { λ r. ⌜ ((room : List ℕ) → after (steppedAs r) (lent (now (palette .exit)) (now (a .exit)) (now (b .exit)) (now (place .exit)) room (words (now (c .exit)) (now (d .exit)) (now (e .exit)))) ≡ actOn (now (film .entry)) st o allowed (lent (now (palette .entry)) (now (a .entry)) (now (b .entry)) (now (place .entry)) room (words (now (c .entry)) (now (d .entry)) (now (e .entry))))) ⌝ }
 {
     let s = o.start;
     let p = s + o.long;
@@ -150,7 +243,7 @@ fn act_on(
             set_place(place, 0);
             Stepped::Taken(st.mapped(p, Map::Part(s, p - s)), 1)
         }
-        17 => draw_by(film, st, body, p, a, b, place, allowed),
+        17 => draw_by(film, st, body, p, a, b, c, d, e, place, allowed),
         _ => quiet_step(film.len(), st, kind, o.version, body, p),
     }
 }
@@ -182,13 +275,16 @@ fn take_on(
     palette: &mut [u8],
     a: &mut [u8],
     b: &mut [u8],
+    c: &mut [u16],
+    d: &mut [u16],
+    e: &mut [u16],
     place: &mut usize,
     room: &mut [u8],
     allowed: Allowed,
 ) -> Stepped
     requires { ⌜ Ready (length (now film)) (st .cursor) o ⌝ }
     requires { ⌜ mapInside (st .map) (length (now film)) ≡ true ⌝ }
-    ensures { λ r. ⌜ after (steppedAs r) (lent (now (palette .exit)) (now (a .exit)) (now (b .exit)) (now (place .exit)) (now (room .exit))) ≡ takeOn (now (film .entry)) st o allowed (lent (now (palette .entry)) (now (a .entry)) (now (b .entry)) (now (place .entry)) (now (room .entry))) ⌝ }
+    ensures { λ r. ⌜ after (steppedAs r) (lent (now (palette .exit)) (now (a .exit)) (now (b .exit)) (now (place .exit)) (now (room .exit)) (words (now (c .exit)) (now (d .exit)) (now (e .exit)))) ≡ takeOn (now (film .entry)) st o allowed (lent (now (palette .entry)) (now (a .entry)) (now (b .entry)) (now (place .entry)) (now (room .entry)) (words (now (c .entry)) (now (d .entry)) (now (e .entry)))) ⌝ }
 {
     let sound = st.sound;
     if is_heard(is_chosen(sound.stream), o.kind) {
@@ -196,7 +292,7 @@ fn take_on(
         let p = s + o.long;
         return hear_sound(st, o.kind, o.version, &film[s..p], p, room);
     }
-    act_on(film, st, o, palette, a, b, place, allowed)
+    act_on(film, st, o, palette, a, b, c, d, e, place, allowed)
 }
 
 // One step: a chunk's head where position and chunk end are equal, else one opcode. Every test is made again; a refused step changes nothing, and one that runs short of
@@ -207,17 +303,21 @@ pub fn step_within(
     palette: &mut [u8],
     a: &mut [u8],
     b: &mut [u8],
+    c: &mut [u16],
+    d: &mut [u16],
+    e: &mut [u16],
     place: &mut usize,
     room: &mut [u8],
     allowed: Allowed,
 ) -> Stepped
-    ensures { λ r. ⌜ after (steppedAs r) (lent (now (palette .exit)) (now (a .exit)) (now (b .exit)) (now (place .exit)) (now (room .exit))) ≡ stepOf (now (film .entry)) st allowed (lent (now (palette .entry)) (now (a .entry)) (now (b .entry)) (now (place .entry)) (now (room .entry))) ⌝ }
+    ensures { λ r. ⌜ after (steppedAs r) (lent (now (palette .exit)) (now (a .exit)) (now (b .exit)) (now (place .exit)) (now (room .exit)) (words (now (c .exit)) (now (d .exit)) (now (e .exit)))) ≡ stepOf (now (film .entry)) st allowed (lent (now (palette .entry)) (now (a .entry)) (now (b .entry)) (now (place .entry)) (now (room .entry)) (words (now (c .entry)) (now (d .entry)) (now (e .entry)))) ⌝ }
 {
-    match find(film, st, palette.len(), a.len(), b.len()) {
+    let short = shortest(st.deep, a.len(), b.len(), c.len(), d.len(), e.len());
+    match find(film, st, palette.len(), short) {
         Next::Refused(r) => Stepped::Refused(r),
         Next::Ended => Stepped::Ended(st),
-        Next::Chunk(c) => Stepped::Taken(st.into_chunk(c), 0),
-        Next::Opcode(o) => take_on(film, st, o, palette, a, b, place, room, allowed),
+        Next::Chunk(chunk) => Stepped::Taken(st.into_chunk(chunk), 0),
+        Next::Opcode(o) => take_on(film, st, o, palette, a, b, c, d, e, place, room, allowed),
     }
 }
 
@@ -228,11 +328,14 @@ pub fn step(
     palette: &mut [u8],
     a: &mut [u8],
     b: &mut [u8],
+    c: &mut [u16],
+    d: &mut [u16],
+    e: &mut [u16],
     place: &mut usize,
     room: &mut [u8],
     allowed: usize,
 ) -> Stepped
-    ensures { λ r. ⌜ after (steppedAs r) (lent (now (palette .exit)) (now (a .exit)) (now (b .exit)) (now (place .exit)) (now (room .exit))) ≡ stepOf (now (film .entry)) st (within allowed default) (lent (now (palette .entry)) (now (a .entry)) (now (b .entry)) (now (place .entry)) (now (room .entry))) ⌝ }
+    ensures { λ r. ⌜ after (steppedAs r) (lent (now (palette .exit)) (now (a .exit)) (now (b .exit)) (now (place .exit)) (now (room .exit)) (words (now (c .exit)) (now (d .exit)) (now (e .exit)))) ≡ stepOf (now (film .entry)) st (within allowed default) (lent (now (palette .entry)) (now (a .entry)) (now (b .entry)) (now (place .entry)) (now (room .entry)) (words (now (c .entry)) (now (d .entry)) (now (e .entry)))) ⌝ }
 {
     step_within(
         film,
@@ -240,6 +343,9 @@ pub fn step(
         palette,
         a,
         b,
+        c,
+        d,
+        e,
         place,
         room,
         Allowed {

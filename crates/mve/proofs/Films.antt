@@ -8,7 +8,7 @@ use borrow.Author.Tests.{lt-ltb, le-ltb}
 use lib.ListN.{length}
 use Rattle.room.specs.Room.{written}
 use Rattle.state.specs.declared.State.{State}
-use Rattle.state.specs.State.{shownOf}
+use Rattle.state.specs.State.{shownOf, shownWordsOf}
 use Rattle.draw.specs.Call.{within}
 use Rattle.opening.specs.declared.Opened.{Opened}
 use Rattle.opening.specs.Opening.{openedAs, openingOf}
@@ -18,10 +18,10 @@ use Rattle.begin.specs.declared.Begun.{Begun}
 use Rattle.begin.specs.Begin.{begunAs, came, beginOf}
 use Rattle.mve_states.specs.State.{isState, stateOf}
 use Rattle.mve_steps.specs.Step.{kindIn, ofStep, ofNoState, ofOpening, ofBeginning, spareOf}
-use Rattle.exports.specs.Calls.{exit, delivered, stepAnswer, mveOpen, mveStep, mveBegin, mveShown}
+use Rattle.exports.specs.Calls.{exit, delivered, stepAnswer, mveOpen, mveStep, mveBegin, mveShown, mveShownWords}
 
 -- `out` is too short
-pub short-out : {L : Type 0} (out : List ℕ) (before : L) (answer : List ℕ) (after : L) → length out < 25 → exit 4 out before ≡ delivered out before answer after
+pub short-out : {L : Type 0} (out : List ℕ) (before : L) (answer : List ℕ) (after : L) → length out < 26 → exit 4 out before ≡ delivered out before answer after
 unfolding delivered
 short-out out before answer after h = rw (lt-ltb _ _ h)
 
@@ -29,12 +29,12 @@ short-out out before answer after h = rw (lt-ltb _ _ h)
 abbrev pub Given : List ℕ → ℕ → List ℕ → List ℕ → Type 0
 Given out k p a = (k ≡ kindIn a) × (p ≡ written a out)
 
-long-out : {L : Type 0} (out : List ℕ) (before : L) (answer : List ℕ) (after : L) (k : ℕ) (p : List ℕ) → 25 ≤ length out → Given out k p answer
+long-out : {L : Type 0} (out : List ℕ) (before : L) (answer : List ℕ) (after : L) (k : ℕ) (p : List ℕ) → 26 ≤ length out → Given out k p answer
     → exit k p after ≡ delivered out before answer after
 unfolding delivered
 long-out out before answer after k p h g = rw (le-ltb _ _ h, g .0, g .1)
 
-module _ (out : List ℕ) (k : ℕ) (p : List ℕ) (h : 25 ≤ length out) where
+module _ (out : List ℕ) (k : ℕ) (p : List ℕ) (h : 26 ≤ length out) where
   pub open-told : (film : List ℕ) (stream : ℕ) (o : Opened) → openedAs o ≡ openingOf film stream → Given out k p (ofOpening (openedAs o)) → exit k p tt ≡ mveOpen film stream out
   open-told film stream o e g = long-out out tt _ tt k p h (rw e at g)
 
@@ -60,3 +60,12 @@ module _ (m a b : List ℕ) where
   pub unread-shown : isState m ≡ false → 0 ≡ mveShown m a b
   unfolding mveShown
   unread-shown t = rw t
+
+module _ (m c d e : List ℕ) where
+  pub words-told : (st : State) (s : List ℕ) → isState m ≡ true → st ≡ stateOf m → s ≡ shownWordsOf st c d e → length s ≡ mveShownWords m c d e
+  unfolding mveShownWords
+  words-told st s t f q = rw (q, f, t)
+
+  pub unread-words : isState m ≡ false → 0 ≡ mveShownWords m c d e
+  unfolding mveShownWords
+  unread-words t = rw t

@@ -22,14 +22,15 @@ use mve_steps::spare_of;
 use mve_strips::MveStripped;
 use mve_strips::of_stripped;
 ghost use mathlib.Core.Path.{_≡_};
+ghost use mathlib.Core.Bool.{true};
 ghost use lib.ListN.{length};
-ghost use Rattle.packet.specs.Packet.{packet};
-ghost use Rattle.packet.specs.Verdict.{default, strict, verdict};
+ghost use Rattle.packet.specs.Packet.{packet, packetIn};
+ghost use Rattle.packet.specs.Verdict.{default, strict, verdict, verdictIn};
 ghost use Rattle.packet.specs.Rows.{touched, finding};
 ghost use Rattle.stores.specs.Stores.{memory};
-ghost use Rattle.draw.specs.Call.{within, request, pictures, leaves, report, said};
+ghost use Rattle.draw.specs.Call.{within, request, wordRequest, pictures, wordPictures, leaves, report, said};
 ghost use Rattle.origin.specs.Trace.{traceOf};
-ghost use Rattle.film.specs.Film.{lent};
+ghost use Rattle.film.specs.Film.{words, lent};
 ghost use Rattle.video1.specs.Frame.{frameVerdict, frameAfter};
 ghost use Rattle.salvage.specs.Salvage.{answerOf, bytesAfter, numbersAfter};
 ghost use Rattle.strip.specs.Strip.{stripAnswer, stripRoom};
@@ -39,7 +40,7 @@ ghost use Rattle.mve_answers.specs.Trace.{ofTrace};
 ghost use Rattle.mve_salvages.specs.Salvages.{ofSalvage};
 ghost use Rattle.mve_encodes.specs.Encodes.{ofAnswer};
 ghost use Rattle.mve_strips.specs.Strips.{ofStrip};
-ghost use Rattle.exports.specs.Calls.{exit, mveOpen, mveStep, mveBegin, mveShown};
+ghost use Rattle.exports.specs.Calls.{exit, mveOpen, mveStep, mveBegin, mveShown, mveShownWords};
 
 // Whether a packet is accepted for a picture of columns by rows blocks.
 #[no_mangle]
@@ -62,8 +63,28 @@ pub extern "C" fn mve_check_strict(
     of_check(packet::check_strict(columns, rows, map, data))
 }
 
-// It stands here, not beside the other answers, for the stack's sake: functions are compiled in the order of their calls and then of their names. With a callee of their
-// own the drawing calls come behind `mve_origin`, and the compiler then makes the check's frames 56 bytes smaller.
+// Whether a packet of a film with true colour is accepted.
+#[no_mangle]
+pub extern "C" fn mve_check_words(columns: usize, rows: usize, map: &[u8], data: &[u8]) -> MveAnswer
+    ensures { λ r. ⌜ r ≡ ofFound (finding (verdictIn true default columns rows (now (map .entry)) (now («data» .entry))) (touched (packetIn true columns rows (now (map .entry)) (now («data» .entry))))) ⌝ }
+{
+    of_check(word_packet::check_words(columns, rows, map, data))
+}
+
+// The strict form: no byte may be left over.
+#[no_mangle]
+pub extern "C" fn mve_check_words_strict(
+    columns: usize,
+    rows: usize,
+    map: &[u8],
+    data: &[u8],
+) -> MveAnswer
+    ensures { λ r. ⌜ r ≡ ofFound (finding (verdictIn true strict columns rows (now (map .entry)) (now («data» .entry))) (touched (packetIn true columns rows (now (map .entry)) (now («data» .entry))))) ⌝ }
+{
+    of_check(word_packet::check_words_strict(columns, rows, map, data))
+}
+
+// The answer of a drawing call, of bytes or of words.
 fn of_draw(d: Drawn) -> MveAnswer
     ensures { λ r. ⌜ r ≡ ofReport (said d) ⌝ }
 {
@@ -112,8 +133,58 @@ pub extern "C" fn mve_draw_strict(
     of_draw(d)
 }
 
+// The drawing call of films with true colour.
+#[no_mangle]
+pub extern "C" fn mve_draw_words(
+    columns: usize,
+    rows: usize,
+    map: &[u8],
+    data: &[u8],
+    last: &[u16],
+    oldest: &[u16],
+    new: &mut [u16],
+    place: &mut usize,
+    allowed: usize,
+) -> MveAnswer
+    ensures { λ r. ⌜ wordPictures (now (last .exit)) (now (oldest .exit)) (memory (now (new .exit)) (now (place .exit))) ≡ leaves (wordRequest columns rows (now (map .entry)) (now («data» .entry)) (now (last .entry)) (now (oldest .entry)) (within allowed default)) (memory (now (new .entry)) (now (place .entry))) ⌝ }
+    ensures { λ r. ⌜ r ≡ ofReport (report (memory (now (new .entry)) (now (place .entry))) (wordRequest columns rows (now (map .entry)) (now («data» .entry)) (now (last .entry)) (now (oldest .entry)) (within allowed default))) ⌝ }
+{
+    let d = word_calls::draw_words(columns, rows, map, data, last, oldest, new, place, allowed);
+    of_draw(d)
+}
+
+// The strict form: no byte may be left over.
+#[no_mangle]
+pub extern "C" fn mve_draw_words_strict(
+    columns: usize,
+    rows: usize,
+    map: &[u8],
+    data: &[u8],
+    last: &[u16],
+    oldest: &[u16],
+    new: &mut [u16],
+    place: &mut usize,
+    allowed: usize,
+) -> MveAnswer
+    ensures { λ r. ⌜ wordPictures (now (last .exit)) (now (oldest .exit)) (memory (now (new .exit)) (now (place .exit))) ≡ leaves (wordRequest columns rows (now (map .entry)) (now («data» .entry)) (now (last .entry)) (now (oldest .entry)) (within allowed strict)) (memory (now (new .entry)) (now (place .entry))) ⌝ }
+    ensures { λ r. ⌜ r ≡ ofReport (report (memory (now (new .entry)) (now (place .entry))) (wordRequest columns rows (now (map .entry)) (now («data» .entry)) (now (last .entry)) (now (oldest .entry)) (within allowed strict))) ⌝ }
+{
+    let d = word_calls::draw_words_strict(
+        columns,
+        rows,
+        map,
+        data,
+        last,
+        oldest,
+        new,
+        place,
+        allowed,
+    );
+    of_draw(d)
+}
+
 // An answer over a film has so many numbers. A call that is lent fewer for it, in `out`, touches nothing and returns 4; else it returns the answer's kind.
-const ANSWER: usize = 25;
+const ANSWER: usize = 26;
 
 // The first state of a film, and the stream whose sound is acted on: 0 to 15, or none above that.
 #[no_mangle]
@@ -144,8 +215,8 @@ pub extern "C" fn mve_begin(
     put_begun(out, b)
 }
 
-// One step over a film, in the default form where form is 0, else in the strict form. `from` is a state's numbers. Both forms are one export: each of two would hand all
-// it is given on to the same step, and that costs 128 bytes of stack.
+// One step over a film, in the default form where form is 0, else in the strict form. `from` is a state's numbers. a and b are the pictures of bytes; c, d and e are
+// those of words, for a film with true colour. Both forms are one export: each of two would hand all it is given on to the same step, and that costs stack.
 #[no_mangle]
 pub extern "C" fn mve_step(
     film: &[u8],
@@ -154,12 +225,15 @@ pub extern "C" fn mve_step(
     palette: &mut [u8],
     a: &mut [u8],
     b: &mut [u8],
+    c: &mut [u16],
+    d: &mut [u16],
+    e: &mut [u16],
     place: &mut usize,
     room: &mut [u8],
     allowed: usize,
     form: usize,
 ) -> usize
-    ensures { λ r. ⌜ exit r (now (out .exit)) (lent (now (palette .exit)) (now (a .exit)) (now (b .exit)) (now (place .exit)) (now (room .exit))) ≡ mveStep (now (film .entry)) (now (from .entry)) allowed form (now (out .entry)) (lent (now (palette .entry)) (now (a .entry)) (now (b .entry)) (now (place .entry)) (now (room .entry))) ⌝ }
+    ensures { λ r. ⌜ exit r (now (out .exit)) (lent (now (palette .exit)) (now (a .exit)) (now (b .exit)) (now (place .exit)) (now (room .exit)) (words (now (c .exit)) (now (d .exit)) (now (e .exit)))) ≡ mveStep (now (film .entry)) (now (from .entry)) allowed form (now (out .entry)) (lent (now (palette .entry)) (now (a .entry)) (now (b .entry)) (now (place .entry)) (now (room .entry)) (words (now (c .entry)) (now (d .entry)) (now (e .entry)))) ⌝ }
 {
     if out.len() < ANSWER {
         return 4;
@@ -173,6 +247,9 @@ pub extern "C" fn mve_step(
             palette,
             a,
             b,
+            c,
+            d,
+            e,
             place,
             room,
             Allowed {
@@ -185,7 +262,8 @@ pub extern "C" fn mve_step(
     put_unread(out)
 }
 
-// How many leading bytes of which lent picture are shown: 0 where none are. The picture is the first where front is 0, the second where it is 1.
+// How many leading bytes of the picture that is front are shown: 0 where none are, as of a film with true colour. The picture is the first where front is 0, the second
+// where it is 1.
 #[no_mangle]
 pub extern "C" fn mve_shown<'a>(from: &[usize], a: &'a [u8], b: &'a [u8]) -> usize
     ensures { λ r. ⌜ r ≡ mveShown (now (from .entry)) (now (a .entry)) (now (b .entry)) ⌝ }
@@ -193,6 +271,24 @@ pub extern "C" fn mve_shown<'a>(from: &[usize], a: &'a [u8], b: &'a [u8]) -> usi
     if is_state(from) {
         let st = state_of(from);
         let s = state::shown(st, a, b);
+        return s.len();
+    }
+    0
+}
+
+// How many leading words of the picture that is front are shown: 0 where none are, as of a film without true colour. The picture is c, d or e where front is 0, 1 or 2.
+#[no_mangle]
+pub extern "C" fn mve_shown_words<'a>(
+    from: &[usize],
+    c: &'a [u16],
+    d: &'a [u16],
+    e: &'a [u16],
+) -> usize
+    ensures { λ r. ⌜ r ≡ mveShownWords (now (from .entry)) (now (c .entry)) (now (d .entry)) (now (e .entry)) ⌝ }
+{
+    if is_state(from) {
+        let st = state_of(from);
+        let s = state::shown_words(st, c, d, e);
         return s.len();
     }
     0

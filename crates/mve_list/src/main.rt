@@ -40,10 +40,14 @@ fn ended(film: &[u8]) {
     io::write_all(1, b"\n");
 }
 
-// Writes the line of an opcode that was taken, unless a chunk's head stood there, and says whether the pictures are too large to go on.
+// Writes the line of an opcode that was taken, unless a chunk's head stood there, and says whether the pictures are too large to go on. A film with true colour is not
+// drawn, whatever its size: no pictures of words are lent.
 fn listed(film: &[u8], p: usize, inside: bool, next: State) -> bool {
     if inside {
         line(film, p);
+    }
+    if next.deep {
+        return false;
     }
     if 16384 < state::area_of(next.columns, next.rows) {
         io::write_all(1, b"too large\n");
@@ -56,6 +60,9 @@ fn listed(film: &[u8], p: usize, inside: bool, next: State) -> bool {
 fn walk(film: &[u8], first: State) {
     let mut a = [0u8; 16384];
     let mut b = [0u8; 16384];
+    let mut c = [0u16; 0];
+    let mut d = [0u16; 0];
+    let mut e = [0u16; 0];
     let mut palette = [0u8; 768];
     let mut room = [0u8; 1];
     let mut place: usize = 0;
@@ -63,15 +70,18 @@ fn walk(film: &[u8], first: State) {
     let mut turns: usize = 0;
     while turns < 24577 {
         turns += 1;
-        let c = st.cursor;
-        let p = c.position;
-        let inside = p != c.chunk_end;
+        let cursor = st.cursor;
+        let p = cursor.position;
+        let inside = p != cursor.chunk_end;
         match film::step(
             film,
             st,
             &mut palette,
             &mut a,
             &mut b,
+            &mut c,
+            &mut d,
+            &mut e,
             &mut place,
             &mut room,
             312000,

@@ -21,11 +21,11 @@ use Rattle.mve_states.specs.State.{flagOf, numberOf, isState, mapOf, sou
 
 -- ---- which numbers are a state's
 
-pub not-so-many : (m : List ℕ) → (length m ≡ 17 → ⊥) → false ≡ isState m
+pub not-so-many : (m : List ℕ) → (length m ≡ 18 → ⊥) → false ≡ isState m
 unfolding isState
 not-so-many m n = rw (ne-eqb _ _ n)
 
-module _ (m : List ℕ) (e : length m ≡ 17) where
+module _ (m : List ℕ) (e : length m ≡ 18) where
   pub wide-left : 65535 < getD m 15 0 → false ≡ isState m
   unfolding isState
   wide-left h = rw (eq-eqb _ _ e, lt-leb _ _ h)
@@ -36,7 +36,7 @@ module _ (m : List ℕ) (e : length m ≡ 17) where
 
 -- what the test says
 pub record Numbers (m : List ℕ) : Type 0 where
-  pub count : length m ≡ 17
+  pub count : length m ≡ 18
   pub left : getD m 15 0 ≤ 65535
   pub right : getD m 16 0 ≤ 65535
 
@@ -52,7 +52,7 @@ are-numbers m h =
     record { count = eqb-true _ _ (t .0); left = leb-true _ _ (t .1); right = leb-true _ _ (t .2) }
 
 -- what reading them asks
-pub readable : (m : List ℕ) (b : Bool) → b ≡ isState m → b ≡ true → (length m ≡ 17) × ((getD m 15 0 ≤ 65535) × (getD m 16 0 ≤ 65535))
+pub readable : (m : List ℕ) (b : Bool) → b ≡ isState m → b ≡ true → (length m ≡ 18) × ((getD m 15 0 ≤ 65535) × (getD m 16 0 ≤ 65535))
 readable m b e t = let n = are-numbers m (sym e ∙ t) in (n .count, (n .left, n .right))
 
 pub is-numbers : (m : List ℕ) → Numbers m → isState m ≡ true
@@ -81,13 +81,13 @@ module _ (m : List ℕ) where
   a-format a b c d left right n e f g h i j = rw (ne-eqb _ _ n, e, f, g, h, i, j)
 
 -- a state as code builds it
-abbrev pub state : ℕ → ℕ → ℕ → ℕ → ℕ → Map → Bool → Sound → State
-state p e columns rows f m u s = record { cursor = record { position = p; «chunk_end» = e }; columns = columns; rows = rows; front = f; map = m; unsent = u; sound = s }
+abbrev pub state : ℕ → ℕ → ℕ → ℕ → Bool → ℕ → Map → Bool → Sound → State
+state p e columns rows d f m u s = record { cursor = record { position = p; «chunk_end» = e }; columns = columns; rows = rows; deep = d; front = f; map = m; unsent = u; sound = s }
 
-pub state-is : (m : List ℕ) (map : Map) (unsent : Bool) (sound : Sound) → map ≡ mapOf (getD m 5 0) (getD m 6 0) (getD m 7 0) → unsent ≡ flagOf (getD m 8 0)
-    → sound ≡ soundOf m → state (getD m 0 0) (getD m 1 0) (getD m 2 0) (getD m 3 0) (getD m 4 0) map unsent sound ≡ stateOf m
+pub state-is : (m : List ℕ) (map : Map) (unsent deep : Bool) (sound : Sound) → map ≡ mapOf (getD m 5 0) (getD m 6 0) (getD m 7 0) → unsent ≡ flagOf (getD m 8 0)
+    → sound ≡ soundOf m → deep ≡ flagOf (getD m 17 0) → state (getD m 0 0) (getD m 1 0) (getD m 2 0) (getD m 3 0) deep (getD m 4 0) map unsent sound ≡ stateOf m
 unfolding stateOf
-state-is m map unsent sound e f g = rw (e, f, g)
+state-is m map unsent deep sound e f g h = rw (e, f, g, h)
 
 -- ---- written
 
@@ -111,59 +111,62 @@ module _ (o p r : List ℕ) (s : Sound) (f : Format) where
   put-known a b c i j k l left right e ei ej ek el eleft eright g q = rw (e, ← ei, ← ej, ← ek, ← el, ← eleft, ← eright, ← g) q
 
 -- parts behind each other are the whole
-put-by : (o : List ℕ) (p e columns rows front : ℕ) (m : Map) (u : ℕ) (s : List ℕ)
-    → sets (sets (sets (sets o 8 (p ∷ e ∷ columns ∷ rows ∷ front ∷ [])) 13 (ofMap m)) 16 (u ∷ [])) 17 s
-    ≡ sets o 8 (p ∷ e ∷ columns ∷ rows ∷ front ∷ (ofMap m ++ (u ∷ s)))
-unfolding ofMap
-put-by o p e columns rows front Missing u s = refl
-put-by o p e columns rows front (Part start long) u s = refl
+put-by : (o : List ℕ) (p e columns rows front : ℕ) (m : Map) (u : ℕ) (s : Sound) (f : Format) (d : ℕ)
+    → sets (sets (sets (sets (sets o 8 (p ∷ e ∷ columns ∷ rows ∷ front ∷ [])) 13 (ofMap m)) 16 (u ∷ [])) 17 (withFormat s f)) 25 (d ∷ [])
+    ≡ sets o 8 (p ∷ e ∷ columns ∷ rows ∷ front ∷ (ofMap m ++ (u ∷ (withFormat s f ++ (d ∷ [])))))
+unfolding ofMap withFormat
+put-by o p e columns rows front Missing u s Unknown d = refl
+put-by o p e columns rows front Missing u s (Known a b c) d = refl
+put-by o p e columns rows front (Part start long) u s Unknown d = refl
+put-by o p e columns rows front (Part start long) u s (Known a b c) d = refl
 
-pub put-state : (o o₁ o₂ o₃ o₄ : List ℕ) (st : State) (u : ℕ) → u ≡ numberOf (st .unsent)
+pub put-state : (o o₁ o₂ o₃ o₄ o₅ : List ℕ) (st : State) (u d : ℕ) → u ≡ numberOf (st .unsent) → d ≡ numberOf (st .deep)
     → o₁ ≡ sets o 8 (st .cursor .position ∷ st .cursor .«chunk_end» ∷ st .columns ∷ st .rows ∷ st .front ∷ []) → o₂ ≡ sets o₁ 13 (ofMap (st .map)) → o₃ ≡ sets o₂ 16 (u ∷ [])
-    → o₄ ≡ sets o₃ 17 (ofSound (st .sound)) → o₄ ≡ sets o 8 (ofState st)
+    → o₄ ≡ sets o₃ 17 (ofSound (st .sound)) → o₅ ≡ sets o₄ 25 (d ∷ []) → o₅ ≡ sets o 8 (ofState st)
 unfolding ofState
-put-state o o₁ o₂ o₃ o₄ st u eu e₁ e₂ e₃ e₄ = rw (e₄, e₃, e₂, e₁, eu) (put-by o _ _ _ _ _ (st .map) _ _)
+put-state o o₁ o₂ o₃ o₄ o₅ st u d eu ed e₁ e₂ e₃ e₄ e₅ = rw (e₅, e₄, e₃, e₂, e₁, eu, ed) (put-by o _ _ _ _ _ (st .map) _ (st .sound) (st .sound .format) _)
 
-map-length : (m : Map) (u : ℕ) (s : List ℕ) → length s ≡ 8 → length (ofMap m ++ (u ∷ s)) ≡ 12
+map-length : (m : Map) (u : ℕ) (s : List ℕ) → length s ≡ 9 → length (ofMap m ++ (u ∷ s)) ≡ 13
 unfolding ofMap
 map-length Missing u s e = rw e
 map-length (Part start long) u s e = rw e
 
-format-length : (s : Sound) (f : Format) → length (withFormat s f) ≡ 8
+format-length : (s : Sound) (f : Format) (d : ℕ) → length (withFormat s f ++ (d ∷ [])) ≡ 9
 unfolding withFormat
-format-length s Unknown = refl
-format-length s (Known a b c) = refl
+format-length s Unknown d = refl
+format-length s (Known a b c) d = refl
 
-pub state-length : (st : State) → length (ofState st) ≡ 17
+pub state-length : (st : State) → length (ofState st) ≡ 18
 unfolding ofState
-state-length st = rw (map-length (st .map) (numberOf (st .unsent)) (ofSound (st .sound)) (format-length (st .sound) (st .sound .format)))
+state-length st =
+    rw (map-length (st .map) (numberOf (st .unsent)) (ofSound (st .sound) ++ (numberOf (st .deep) ∷ [])) (format-length (st .sound) (st .sound .format) (numberOf (st .deep))))
 
 -- ---- numbers as they are, one a turn
 
 -- the first i of them are copied to index 8 and on
 pub record Copying (o s : List ℕ) (p : List ℕ) (i : ℕ) : Type 0 where
-  pub within : i ≤ 17
+  pub within : i ≤ 18
   pub now : p ≡ paste o 8 s i
 
 pub copying-start : (o s : List ℕ) → Copying o s o 0
 copying-start o s = record { within = omega arith; now = paste-zero o 8 s }
 
-module _ (o s : List ℕ) (big : 25 ≤ length o) (n : length s ≡ 17) where
+module _ (o s : List ℕ) (big : 26 ≤ length o) (n : length s ≡ 18) where
   module _ (p : List ℕ) (i : ℕ) (c : Copying o s p i) where
     pub copying-length : length p ≡ length o
     copying-length = ap length (c .now) ∙ length-paste o 8 s i (omega (arith, c .within)) (omega (arith, c .within))
 
-    pub copying-more : i < 17 → (q : List ℕ) (v : ℕ) → v ≡ getD s i 0 → q ≡ set p (8 + i) v → Copying o s q (i + 1)
+    pub copying-more : i < 18 → (q : List ℕ) (v : ℕ) → v ≡ getD s i 0 → q ≡ set p (8 + i) v → Copying o s q (i + 1)
     copying-more h q v ev e =
         record { within = omega arith; now = rw (e, ev, c .now, add-one i) (paste-suc o 8 s i 0 (omega arith) (omega arith)) }
 
-    pub copying-end : 17 ≤ i → p ≡ sets o 8 s
+    pub copying-end : 18 ≤ i → p ≡ sets o 8 s
     copying-end h =
-        let e : i ≡ 17 = omega (arith, c .within) in
-        rw (c .now, e, sets-eq s o 8 (omega arith), n, take-all 17 s (omega arith))
+        let e : i ≡ 18 = omega (arith, c .within) in
+        rw (c .now, e, sets-eq s o 8 (omega arith), n, take-all 18 s (omega arith))
 
-pub zeros-count : length noState ≡ 17
-zeros-count = length-replicate {A = ℕ} 17 0
+pub zeros-count : length noState ≡ 18
+zeros-count = length-replicate {A = ℕ} 18 0
 
-pub zero-of : (i : ℕ) → i < 17 → 0 ≡ getD noState i 0
-zero-of i h = sym (getD-replicate {A = ℕ} 17 i 0 0 h)
+pub zero-of : (i : ℕ) → i < 18 → 0 ≡ getD noState i 0
+zero-of i h = sym (getD-replicate {A = ℕ} 18 i 0 0 h)

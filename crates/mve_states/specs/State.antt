@@ -1,5 +1,5 @@
--- A film's state as 17 numbers, for hosts in other languages, in this order: position, chunk_end, columns, rows, front, has_map, map_start, map_length, unsent,
--- stream, has_format, stereo, wide, compressed, begun, left, right.
+-- A film's state as 18 numbers, for hosts in other languages, in this order: position, chunk_end, columns, rows, front, has_map, map_start, map_length, unsent,
+-- stream, has_format, stereo, wide, compressed, begun, left, right, true_colour.
 -- Assumes nothing.
 use mathlib.Core.Bool.{Bool, true, false, cond}
 use mathlib.Core.List.{List, [], _∷_, _++_}
@@ -23,9 +23,9 @@ numberOf b = cond b 1 0
 
 -- ---- read
 
--- a state's numbers are 17, and its last samples, left and right, have 16 bits
+-- a state's numbers are 18, and its last samples, left and right, have 16 bits
 unfoldable pub isState : List ℕ → Bool
-isState m = cond (eqb (length m) 17) (cond (leb (getD m 15 0) 65535) (leb (getD m 16 0) 65535) false) false
+isState m = cond (eqb (length m) 18) (cond (leb (getD m 15 0) 65535) (leb (getD m 16 0) 65535) false) false
 
 -- has_map: 0 where no map is pending
 unfoldable pub mapOf : ℕ → ℕ → ℕ → Map
@@ -43,13 +43,14 @@ soundOf m =
       right = getD m 16 0;
     })
 
--- unsent: 0 where no frame is finished and unsent
+-- unsent: 0 where no frame is finished and unsent; true_colour: 0 for a film without it
 unfoldable pub stateOf : List ℕ → State
 stateOf m =
     record {
       cursor = record { position = getD m 0 0; «chunk_end» = getD m 1 0 };
       columns = getD m 2 0;
       rows = getD m 3 0;
+      deep = flagOf (getD m 17 0);
       front = getD m 4 0;
       map = mapOf (getD m 5 0) (getD m 6 0) (getD m 7 0);
       unsent = flagOf (getD m 8 0);
@@ -74,8 +75,8 @@ ofSound s = withFormat s (s .format)
 unfoldable pub ofState : State → List ℕ
 ofState st =
     st .cursor .position ∷ st .cursor .«chunk_end» ∷ st .columns ∷ st .rows ∷ st .front
-    ∷ (ofMap (st .map) ++ (numberOf (st .unsent) ∷ ofSound (st .sound)))
+    ∷ (ofMap (st .map) ++ (numberOf (st .unsent) ∷ (ofSound (st .sound) ++ (numberOf (st .deep) ∷ []))))
 
 -- the numbers where there is no state
 abbrev pub noState : List ℕ
-noState = replicate 17 0
+noState = replicate 18 0

@@ -1,8 +1,8 @@
-// The state of a walk as 17 numbers, for hosts in other languages: read, and written behind the 8 numbers that an answer begins with. In this order: position,
-// chunk_end, columns, rows, front, has_map, map_start, map_length, unsent, stream, has_format, stereo, wide, compressed, begun, left, right. has_map is 0 where no map
-// is pending, and unsent is 0 where no frame is finished and unsent. stream is the one that opening was given. has_format is 0 before a 03, and nothing behind it is
-// read there. stereo, wide and compressed are what the last 03 said; wide is 16-bit. begun is 0 where no compressed 08 was taken since. left and right are the last
-// sample of each channel.
+// The state of a walk as 18 numbers, for hosts in other languages: read, and written behind the 8 numbers that an answer begins with. In this order: position,
+// chunk_end, columns, rows, front, has_map, map_start, map_length, unsent, stream, has_format, stereo, wide, compressed, begun, left, right, true_colour. has_map is 0
+// where no map is pending, and unsent is 0 where no frame is finished and unsent. stream is the one that opening was given. has_format is 0 before a 03, and nothing of
+// sound behind it is read there. stereo, wide and compressed are what the last 03 said; wide is 16-bit. begun is 0 where no compressed 08 was taken since. left and right
+// are the last sample of each channel. true_colour is 0 for a film without it.
 use sound::Format;
 use sound::Sound;
 use state::Cursor;
@@ -19,7 +19,7 @@ ghost use Rattle.mve_states.specs.State.{flagOf, numberOf, isState, mapO
 pub fn is_state(from: &[usize]) -> bool
     ensures { λ r. ⌜ r ≡ isState (now (from .entry)) ⌝ }
 {
-    if from.len() == 17 {
+    if from.len() == 18 {
         if from[15] <= 65535 {
             return from[16] <= 65535;
         }
@@ -53,7 +53,7 @@ fn map_of(has: usize, start: usize, long: usize) -> Map
 }
 
 fn sound_of(from: &[usize]) -> Sound
-    requires { ⌜ length (now from) ≡ 17 ⌝ }
+    requires { ⌜ length (now from) ≡ 18 ⌝ }
     requires { ⌜ (getD (now from) 15 0 ≤ 65535) × (getD (now from) 16 0 ≤ 65535) ⌝ }
     ensures { λ r. ⌜ r ≡ soundOf (now (from .entry)) ⌝ }
 {
@@ -81,13 +81,14 @@ fn sound_of(from: &[usize]) -> Sound
 }
 
 pub fn state_of(from: &[usize]) -> State
-    requires { ⌜ length (now from) ≡ 17 ⌝ }
+    requires { ⌜ length (now from) ≡ 18 ⌝ }
     requires { ⌜ (getD (now from) 15 0 ≤ 65535) × (getD (now from) 16 0 ≤ 65535) ⌝ }
     ensures { λ r. ⌜ r ≡ stateOf (now (from .entry)) ⌝ }
 {
     let map = map_of(from[5], from[6], from[7]);
     let unsent = flag(from[8]);
     let sound = sound_of(from);
+    let deep = flag(from[17]);
     State {
         cursor: Cursor {
             position: from[0],
@@ -95,6 +96,7 @@ pub fn state_of(from: &[usize]) -> State
         },
         columns: from[2],
         rows: from[3],
+        deep,
         front: from[4],
         map,
         unsent,
@@ -119,7 +121,7 @@ fn wide(n: u16) -> usize
 
 // The first five numbers of a state. An answer's number 8 is the state's first.
 fn put_place(out: &mut [usize], st: State)
-    requires { ⌜ 25 ≤ length (now out) ⌝ }
+    requires { ⌜ 26 ≤ length (now out) ⌝ }
     ensures { λ _. ⌜ now (out .exit) ≡ sets (now (out .entry)) 8 (st .cursor .position ∷ st .cursor .«chunk_end» ∷ st .columns ∷ st .rows ∷ st .front ∷ []) ⌝ }
 {
     let c = st.cursor;
@@ -131,7 +133,7 @@ fn put_place(out: &mut [usize], st: State)
 }
 
 fn put_map(out: &mut [usize], has: usize, start: usize, long: usize)
-    requires { ⌜ 25 ≤ length (now out) ⌝ }
+    requires { ⌜ 26 ≤ length (now out) ⌝ }
     ensures { λ _. ⌜ now (out .exit) ≡ sets (now (out .entry)) 13 (has ∷ start ∷ long ∷ []) ⌝ }
 {
     out[13] = has;
@@ -140,7 +142,7 @@ fn put_map(out: &mut [usize], has: usize, start: usize, long: usize)
 }
 
 fn put_pending(out: &mut [usize], map: Map)
-    requires { ⌜ 25 ≤ length (now out) ⌝ }
+    requires { ⌜ 26 ≤ length (now out) ⌝ }
     ensures { λ _. ⌜ now (out .exit) ≡ sets (now (out .entry)) 13 (ofMap map) ⌝ }
 {
     match map {
@@ -150,7 +152,7 @@ fn put_pending(out: &mut [usize], map: Map)
 }
 
 fn put_unsent(out: &mut [usize], unsent: usize)
-    requires { ⌜ 25 ≤ length (now out) ⌝ }
+    requires { ⌜ 26 ≤ length (now out) ⌝ }
     ensures { λ _. ⌜ now (out .exit) ≡ sets (now (out .entry)) 16 (unsent ∷ []) ⌝ }
 {
     out[16] = unsent;
@@ -164,7 +166,7 @@ fn put_format(
     wide: usize,
     compressed: usize,
 )
-    requires { ⌜ 25 ≤ length (now out) ⌝ }
+    requires { ⌜ 26 ≤ length (now out) ⌝ }
     ensures { λ _. ⌜ now (out .exit) ≡ sets (now (out .entry)) 17 (stream ∷ has ∷ stereo ∷ wide ∷ compressed ∷ []) ⌝ }
 {
     out[17] = stream;
@@ -175,7 +177,7 @@ fn put_format(
 }
 
 fn put_samples(out: &mut [usize], begun: usize, left: usize, right: usize)
-    requires { ⌜ 25 ≤ length (now out) ⌝ }
+    requires { ⌜ 26 ≤ length (now out) ⌝ }
     ensures { λ _. ⌜ now (out .exit) ≡ sets (now (out .entry)) 22 (begun ∷ left ∷ right ∷ []) ⌝ }
 {
     out[22] = begun;
@@ -184,7 +186,7 @@ fn put_samples(out: &mut [usize], begun: usize, left: usize, right: usize)
 }
 
 fn put_sound(out: &mut [usize], s: Sound)
-    requires { ⌜ 25 ≤ length (now out) ⌝ }
+    requires { ⌜ 26 ≤ length (now out) ⌝ }
     ensures { λ _. ⌜ now (out .exit) ≡ sets (now (out .entry)) 17 (ofSound s) ⌝ }
 {
     let f = s.format;
@@ -211,8 +213,15 @@ fn put_sound(out: &mut [usize], s: Sound)
     }
 }
 
+fn put_deep(out: &mut [usize], deep: usize)
+    requires { ⌜ 26 ≤ length (now out) ⌝ }
+    ensures { λ _. ⌜ now (out .exit) ≡ sets (now (out .entry)) 25 (deep ∷ []) ⌝ }
+{
+    out[25] = deep;
+}
+
 pub fn put_state(out: &mut [usize], st: State)
-    requires { ⌜ 25 ≤ length (now out) ⌝ }
+    requires { ⌜ 26 ≤ length (now out) ⌝ }
     ensures { λ _. ⌜ now (out .exit) ≡ sets (now (out .entry)) 8 (ofState st) ⌝ }
 {
     let map = st.map;
@@ -221,16 +230,17 @@ pub fn put_state(out: &mut [usize], st: State)
     put_pending(out, map);
     put_unsent(out, number(st.unsent));
     put_sound(out, sound);
+    put_deep(out, number(st.deep));
 }
 
 // A state's numbers as they came.
 pub fn put_numbers(out: &mut [usize], from: &[usize])
-    requires { ⌜ 25 ≤ length (now out) ⌝ }
-    requires { ⌜ length (now from) ≡ 17 ⌝ }
+    requires { ⌜ 26 ≤ length (now out) ⌝ }
+    requires { ⌜ length (now from) ≡ 18 ⌝ }
     ensures { λ _. ⌜ now (out .exit) ≡ sets (now (out .entry)) 8 (now (from .entry)) ⌝ }
 {
     let mut i: usize = 0;
-    while i < 17 {
+    while i < 18 {
         out[8 + i] = from[i];
         i += 1;
     }
@@ -238,11 +248,11 @@ pub fn put_numbers(out: &mut [usize], from: &[usize])
 
 // The numbers where there is no state.
 pub fn put_no_state(out: &mut [usize])
-    requires { ⌜ 25 ≤ length (now out) ⌝ }
+    requires { ⌜ 26 ≤ length (now out) ⌝ }
     ensures { λ _. ⌜ now (out .exit) ≡ sets (now (out .entry)) 8 noState ⌝ }
 {
     let mut i: usize = 0;
-    while i < 17 {
+    while i < 18 {
         out[8 + i] = 0;
         i += 1;
     }

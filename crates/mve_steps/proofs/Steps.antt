@@ -18,7 +18,7 @@ use Rattle.mve_states.specs.State.{ofMap, withFormat, ofState, noState}
 use Rattle.mve_steps.specs.Step.{stepped, kindIn}
 
 -- the numbers of an answer stand at the front of `out`
-all-put : (o a : List ℕ) → length a ≡ 25 → 25 ≤ length o → sets o 0 a ≡ written a o
+all-put : (o a : List ℕ) → length a ≡ 26 → 26 ≤ length o → sets o 0 a ≡ written a o
 unfolding written
 all-put o a n h = sets-eq a o 0 (omega (arith, n)) ∙ ap (λ (k : ℕ). a ++ drop k o) (zero-add (length a))
 
@@ -28,12 +28,12 @@ rows-put o t rows e = rw e
 
 module _ (o : List ℕ) (kind number block stores bytes : ℕ) (rows : MveRows) where
   -- a state's numbers behind the first eight
-  pub state-put : {r q : List ℕ} (s : List ℕ) → 25 ≤ length o → length s ≡ 17 → r ≡ sets o 0 (stepped kind number block stores bytes rows []) → q ≡ sets r 8 s
+  pub state-put : {r q : List ℕ} (s : List ℕ) → 26 ≤ length o → length s ≡ 18 → r ≡ sets o 0 (stepped kind number block stores bytes rows []) → q ≡ sets r 8 s
       → q ≡ written (stepped kind number block stores bytes rows s) o
   state-put s h n e f = rw (f, e) (all-put o (stepped kind number block stores bytes rows s) (rw n) h)
 
   -- and behind five and three
-  pub answer-put : {p r q : List ℕ} (s : List ℕ) → 25 ≤ length o → length s ≡ 17 → p ≡ sets o 0 (kind ∷ number ∷ block ∷ stores ∷ bytes ∷ [])
+  pub answer-put : {p r q : List ℕ} (s : List ℕ) → 26 ≤ length o → length s ≡ 18 → p ≡ sets o 0 (kind ∷ number ∷ block ∷ stores ∷ bytes ∷ [])
       → r ≡ sets p 5 (rows .touched ∷ rows .first ∷ rows .last ∷ []) → q ≡ sets r 8 s → q ≡ written (stepped kind number block stores bytes rows s) o
   answer-put s h n d e f = state-put s h n (rw (e, d)) f
 

@@ -1,4 +1,4 @@
--- A step's answer and that of opening as 25 numbers, for hosts in other languages: kind, number, block, stores, bytes, touched, first_row, last_row, then the 17 of a state.
+-- A step's answer and that of opening as 26 numbers, for hosts in other languages: kind, number, block, stores, bytes, touched, first_row, last_row, then the 18 of a state.
 -- Assumes nothing.
 use mathlib.Core.Bool.{cond}
 use mathlib.Core.List.{List, _∷_}

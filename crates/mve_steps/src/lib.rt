@@ -1,5 +1,5 @@
-// Answers about a film as 25 numbers, for hosts in other languages: of a step and of opening. In this order: kind, number, block, stores, bytes, touched, first_row,
-// last_row, then the 17 of a state. kind: 0 taken, 1 whole, 2 unfinished, 3 ended, 4 refused. number and block: of a refusal, else 0. stores: how many drawing made.
+// Answers about a film as 26 numbers, for hosts in other languages: of a step and of opening. In this order: kind, number, block, stores, bytes, touched, first_row,
+// last_row, then the 18 of a state. kind: 0 taken, 1 whole, 2 unfinished, 3 ended, 4 refused. number and block: of a refusal, else 0. stores: how many drawing made.
 // bytes: how many of sound were written at the room's front. The rows: of a packet that was drawn. Every function that ends an answer gives its kind.
 use begin::Begun;
 use mve_answers::of_rows;
@@ -37,7 +37,7 @@ fn put_answer(
     stores: usize,
     bytes: usize,
 )
-    requires { ⌜ 25 ≤ length (now out) ⌝ }
+    requires { ⌜ 26 ≤ length (now out) ⌝ }
     ensures { λ _. ⌜ now (out .exit) ≡ sets (now (out .entry)) 0 (kind ∷ number ∷ block ∷ stores ∷ bytes ∷ []) ⌝ }
 {
     out[0] = kind;
@@ -48,7 +48,7 @@ fn put_answer(
 }
 
 fn put_rows(out: &mut [usize], t: Touched)
-    requires { ⌜ 25 ≤ length (now out) ⌝ }
+    requires { ⌜ 26 ≤ length (now out) ⌝ }
     ensures { λ _. ⌜ now (out .exit) ≡ sets (now (out .entry)) 5 (ofRows t .touched ∷ ofRows t .first ∷ ofRows t .last ∷ []) ⌝ }
 {
     let rows = of_rows(t);
@@ -66,7 +66,7 @@ fn put_stepped(
     t: Touched,
     st: State,
 ) -> usize
-    requires { ⌜ 25 ≤ length (now out) ⌝ }
+    requires { ⌜ 26 ≤ length (now out) ⌝ }
     ensures { λ r. ⌜ r ≡ kind ⌝ }
     ensures { λ _. ⌜ now (out .exit) ≡ written (stepped kind 0 0 stores bytes (ofRows t) (ofState st)) (now (out .entry)) ⌝ }
 {
@@ -78,8 +78,8 @@ fn put_stepped(
 
 // An answer that leaves the state as it came. Its numbers are read here, behind the step, and not kept over it: that would cost stack.
 fn put_kept(out: &mut [usize], from: &[usize], kind: usize, stores: usize, t: Touched) -> usize
-    requires { ⌜ 25 ≤ length (now out) ⌝ }
-    requires { ⌜ length (now from) ≡ 17 ⌝ }
+    requires { ⌜ 26 ≤ length (now out) ⌝ }
+    requires { ⌜ length (now from) ≡ 18 ⌝ }
     ensures { λ r. ⌜ r ≡ kind ⌝ }
     ensures { λ _. ⌜ now (out .exit) ≡ written (stepped kind 0 0 stores 0 (ofRows t) (now (from .entry))) (now (out .entry)) ⌝ }
 {
@@ -91,7 +91,7 @@ fn put_kept(out: &mut [usize], from: &[usize], kind: usize, stores: usize, t: To
 
 // The first eight numbers of a refusal.
 fn put_refusal(out: &mut [usize], r: Refusal)
-    requires { ⌜ 25 ≤ length (now out) ⌝ }
+    requires { ⌜ 26 ≤ length (now out) ⌝ }
     ensures { λ _. ⌜ now (out .exit) ≡ sets (now (out .entry)) 0 (stepped 4 (refusalNumber r) (block r) 0 0 (ofRows None) []) ⌝ }
 {
     put_answer(out, 4, wide(number_of(r)), block_of(r), 0, 0);
@@ -99,8 +99,8 @@ fn put_refusal(out: &mut [usize], r: Refusal)
 }
 
 fn put_refused(out: &mut [usize], from: &[usize], r: Refusal) -> usize
-    requires { ⌜ 25 ≤ length (now out) ⌝ }
-    requires { ⌜ length (now from) ≡ 17 ⌝ }
+    requires { ⌜ 26 ≤ length (now out) ⌝ }
+    requires { ⌜ length (now from) ≡ 18 ⌝ }
     ensures { λ k. ⌜ k ≡ 4 ⌝ }
     ensures { λ _. ⌜ now (out .exit) ≡ written (stepped 4 (refusalNumber r) (block r) 0 0 (ofRows None) (now (from .entry))) (now (out .entry)) ⌝ }
 {
@@ -110,8 +110,8 @@ fn put_refused(out: &mut [usize], from: &[usize], r: Refusal) -> usize
 }
 
 pub fn put_step(out: &mut [usize], from: &[usize], x: Stepped) -> usize
-    requires { ⌜ 25 ≤ length (now out) ⌝ }
-    requires { ⌜ length (now from) ≡ 17 ⌝ }
+    requires { ⌜ 26 ≤ length (now out) ⌝ }
+    requires { ⌜ length (now from) ≡ 18 ⌝ }
     ensures { λ r. ⌜ r ≡ kindIn (ofStep (now (from .entry)) (steppedAs x)) ⌝ }
     ensures { λ _. ⌜ now (out .exit) ≡ written (ofStep (now (from .entry)) (steppedAs x)) (now (out .entry)) ⌝ }
 {
@@ -127,7 +127,7 @@ pub fn put_step(out: &mut [usize], from: &[usize], x: Stepped) -> usize
 
 // A refusal with a state of zeros.
 fn put_unopened(out: &mut [usize], r: Refusal) -> usize
-    requires { ⌜ 25 ≤ length (now out) ⌝ }
+    requires { ⌜ 26 ≤ length (now out) ⌝ }
     ensures { λ k. ⌜ k ≡ 4 ⌝ }
     ensures { λ _. ⌜ now (out .exit) ≡ written (stepped 4 (refusalNumber r) (block r) 0 0 (ofRows None) noState) (now (out .entry)) ⌝ }
 {
@@ -138,7 +138,7 @@ fn put_unopened(out: &mut [usize], r: Refusal) -> usize
 
 // The answer to numbers that are no state's.
 pub fn put_unread(out: &mut [usize]) -> usize
-    requires { ⌜ 25 ≤ length (now out) ⌝ }
+    requires { ⌜ 26 ≤ length (now out) ⌝ }
     ensures { λ r. ⌜ r ≡ 4 ⌝ }
     ensures { λ _. ⌜ now (out .exit) ≡ written ofNoState (now (out .entry)) ⌝ }
 {
@@ -146,7 +146,7 @@ pub fn put_unread(out: &mut [usize]) -> usize
 }
 
 pub fn put_opened(out: &mut [usize], o: Opened) -> usize
-    requires { ⌜ 25 ≤ length (now out) ⌝ }
+    requires { ⌜ 26 ≤ length (now out) ⌝ }
     ensures { λ r. ⌜ r ≡ kindIn (ofOpening (openedAs o)) ⌝ }
     ensures { λ _. ⌜ now (out .exit) ≡ written (ofOpening (openedAs o)) (now (out .entry)) ⌝ }
 {
@@ -158,7 +158,7 @@ pub fn put_opened(out: &mut [usize], o: Opened) -> usize
 
 // A refusal with the state that the refused step was given.
 fn put_stopped(out: &mut [usize], r: Refusal, st: State) -> usize
-    requires { ⌜ 25 ≤ length (now out) ⌝ }
+    requires { ⌜ 26 ≤ length (now out) ⌝ }
     ensures { λ k. ⌜ k ≡ 4 ⌝ }
     ensures { λ _. ⌜ now (out .exit) ≡ written (stepped 4 (refusalNumber r) (block r) 0 0 (ofRows None) (ofState st)) (now (out .entry)) ⌝ }
 {
@@ -168,7 +168,7 @@ fn put_stopped(out: &mut [usize], r: Refusal, st: State) -> usize
 }
 
 pub fn put_begun(out: &mut [usize], b: Begun) -> usize
-    requires { ⌜ 25 ≤ length (now out) ⌝ }
+    requires { ⌜ 26 ≤ length (now out) ⌝ }
     ensures { λ r. ⌜ r ≡ kindIn (ofBeginning (begunAs b)) ⌝ }
     ensures { λ _. ⌜ now (out .exit) ≡ written (ofBeginning (begunAs b)) (now (out .entry)) ⌝ }
 {

@@ -75,22 +75,22 @@ by-chosen b stream film c s e q = rw (← e) q
 
 -- ---- a state and what is lent
 
-pub judged-lent : (columns rows palette a b bytes : ℕ) (s t : Standing) (c : Checked) → bytes ≡ area columns rows → told c ≡ lentVerdict bytes palette a b
-    → c ≡ Accepted → t ≡ s → t ≡ on (lentVerdict (area columns rows) palette a b) s
-judged-lent columns rows palette a b bytes s t c e q k g = rw (← e) (goes-on (lentVerdict bytes palette a b) s c q t k g)
+pub judged-lent : (columns rows palette shortest pixels : ℕ) (s t : Standing) (c : Checked) → pixels ≡ area columns rows → told c ≡ lentVerdict pixels palette shortest
+    → c ≡ Accepted → t ≡ s → t ≡ on (lentVerdict (area columns rows) palette shortest) s
+judged-lent columns rows palette shortest pixels s t c e q k g = rw (← e) (goes-on (lentVerdict pixels palette shortest) s c q t k g)
 
-pub short-lent : (columns rows palette a b bytes : ℕ) (s : Standing) (c : Checked) (r : Refusal) → bytes ≡ area columns rows
-    → told c ≡ lentVerdict bytes palette a b → c ≡ Refused r → refused (number r) (block r) ≡ on (lentVerdict (area columns rows) palette a b) s
-short-lent columns rows palette a b bytes s c r e q k = rw (← e) (stops (lentVerdict bytes palette a b) s c q r k)
+pub short-lent : (columns rows palette shortest pixels : ℕ) (s : Standing) (c : Checked) (r : Refusal) → pixels ≡ area columns rows
+    → told c ≡ lentVerdict pixels palette shortest → c ≡ Refused r → refused (number r) (block r) ≡ on (lentVerdict (area columns rows) palette shortest) s
+short-lent columns rows palette shortest pixels s c r e q k = rw (← e) (stops (lentVerdict pixels palette shortest) s c q r k)
 
-module _ (film : List ℕ) (st : State) (palette a b : ℕ) (c : Checked) (e : told c ≡ stateVerdict st (length film)) where
+module _ (film : List ℕ) (st : State) (palette shortest : ℕ) (c : Checked) (e : told c ≡ stateVerdict st (length film)) where
   pub found-here : (t : Standing) → c ≡ Accepted
-      → t ≡ on (lentVerdict (area (st .columns) (st .rows)) palette a b) (standingAt (chosen (st .sound .stream)) film (st .cursor))
-      → t ≡ nextOf film st palette a b
+      → t ≡ on (lentVerdict (area (st .columns) (st .rows)) palette shortest) (standingAt (chosen (st .sound .stream)) film (st .cursor))
+      → t ≡ nextOf film st palette shortest
   unfolding nextOf
   found-here t k h = goes-on (stateVerdict st (length film)) _ c e t k h
 
-  pub no-state : (r : Refusal) → c ≡ Refused r → refused (number r) (block r) ≡ nextOf film st palette a b
+  pub no-state : (r : Refusal) → c ≡ Refused r → refused (number r) (block r) ≡ nextOf film st palette shortest
   unfolding nextOf
   no-state r k = stops (stateVerdict st (length film)) _ c e r k
 
@@ -182,9 +182,9 @@ standing-ready hears film c o l h = by (eqb (c .position) (c .«chunk_end»)) (e
     by true false x q = absurd (none x q)
     by false u x q = opcode-ready hears film c (opcodeAt film c) o l refl q
 
-pub found-ready : (film : List ℕ) (st : State) (palette a b : ℕ) (o : Opcode) → nextOf film st palette a b ≡ opcode o → Possible st (length film) × Ready (length film) (st .cursor) o
+pub found-ready : (film : List ℕ) (st : State) (palette shortest : ℕ) (o : Opcode) → nextOf film st palette shortest ≡ opcode o → Possible st (length film) × Ready (length film) (st .cursor) o
 unfolding nextOf
-found-ready film st palette a b o h =
+found-ready film st palette shortest o h =
     let s = on-opcode _ _ o h in
     let t = on-opcode _ _ o (s .1) in
     let p = possible st (length film) (s .0) in
@@ -237,10 +237,10 @@ standing-opens hears film c x h = by (eqb (c .position) (c .«chunk_end»)) (eqb
     by true false h o t q r = (eqb-true _ _ t, opens h q r)
     by false u h o t q r = absurd (none o r)
 
-pub found-chunk : (film : List ℕ) (st : State) (palette a b : ℕ) (c : Cursor) → nextOf film st palette a b ≡ chunk c
+pub found-chunk : (film : List ℕ) (st : State) (palette shortest : ℕ) (c : Cursor) → nextOf film st palette shortest ≡ chunk c
     → Possible st (length film) × (st .cursor .position ≡ st .cursor .«chunk_end») × Opens (length film) (st .cursor .«chunk_end») c
 unfolding nextOf
-found-chunk film st palette a b c h =
+found-chunk film st palette shortest c h =
     let s = on-chunk _ _ c h in
     let t = on-chunk _ _ c (s .1) in
     let o = standing-opens (chosen (st .sound .stream)) film (st .cursor) c (t .1) in

@@ -53,11 +53,11 @@ chunkEnd film c = cond (eqb (c .«chunk_end») (length film)) ended (chunkStandi
 unfoldable pub standingAt : Bool → List ℕ → Cursor → Standing
 standingAt hears film c = cond (eqb (c .position) (c .«chunk_end»)) (chunkEnd film c) (opcodeStanding hears (opcodeAt film c))
 
--- where a state is, with a palette and two pictures this long
-unfoldable pub nextOf : List ℕ → State → ℕ → ℕ → ℕ → Standing
-nextOf film st palette a b =
+-- where a state is, with a palette and a shortest picture of the film's kind this long
+unfoldable pub nextOf : List ℕ → State → ℕ → ℕ → Standing
+nextOf film st palette shortest =
     on (stateVerdict st (length film))
-    (on (lentVerdict (area (st .columns) (st .rows)) palette a b) (standingAt (chosen (st .sound .stream)) film (st .cursor)))
+    (on (lentVerdict (area (st .columns) (st .rows)) palette shortest) (standingAt (chosen (st .sound .stream)) film (st .cursor)))
 
 -- what is known of a state that 16 does not refuse
 pub record Possible (st : State) (film : ℕ) : Type 0 where

@@ -96,12 +96,12 @@ pub fn standing_at(film: &[u8], c: Cursor, hears: bool) -> Next
     Reader::new(film, c).standing(hears)
 }
 
-fn next_with_lent(film: &[u8], st: State, palette: usize, a: usize, b: usize) -> Next
+fn next_with_lent(film: &[u8], st: State, palette: usize, shortest: usize) -> Next
     requires { ⌜ Possible st (length (now film)) ⌝ }
-    ensures { λ r. ⌜ nextAs r ≡ on (lentVerdict (area (st .columns) (st .rows)) palette a b) (standingAt (chosen (st .sound .stream)) (now (film .entry)) (st .cursor)) ⌝ }
+    ensures { λ r. ⌜ nextAs r ≡ on (lentVerdict (area (st .columns) (st .rows)) palette shortest) (standingAt (chosen (st .sound .stream)) (now (film .entry)) (st .cursor)) ⌝ }
 {
-    let bytes = area_of(st.columns, st.rows);
-    match judge_lent(bytes, palette, a, b) {
+    let pixels = area_of(st.columns, st.rows);
+    match judge_lent(pixels, palette, shortest) {
         Checked::Accepted => {
             let c = st.cursor;
             let s = st.sound;
@@ -111,12 +111,12 @@ fn next_with_lent(film: &[u8], st: State, palette: usize, a: usize, b: usize) ->
     }
 }
 
-// What stands where the state is, where the palette and the two pictures are this long.
-pub fn find(film: &[u8], st: State, palette: usize, a: usize, b: usize) -> Next
-    ensures { λ r. ⌜ nextAs r ≡ nextOf (now (film .entry)) st palette a b ⌝ }
+// What stands where the state is, where the palette and the shortest of the film's own pictures are this long.
+pub fn find(film: &[u8], st: State, palette: usize, shortest: usize) -> Next
+    ensures { λ r. ⌜ nextAs r ≡ nextOf (now (film .entry)) st palette shortest ⌝ }
 {
     match judge_state(st, film.len()) {
-        Checked::Accepted => next_with_lent(film, st, palette, a, b),
+        Checked::Accepted => next_with_lent(film, st, palette, shortest),
         Checked::Refused(r) => Next::Refused(r),
     }
 }

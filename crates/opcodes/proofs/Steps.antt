@@ -1,7 +1,7 @@
 -- The step of each opcode by what code found.
 -- Assumes nothing.
 use mathlib.Core.Path.{_≡_, ap}
-use mathlib.Core.Bool.{true, false}
+use mathlib.Core.Bool.{Bool, true, false}
 use mathlib.Core.List.{List}
 use Prim.Native.Nat.{ℕ}
 use borrow.Author.Tests.{eq-eqb, ne-eqb}
@@ -19,7 +19,7 @@ use Rattle.sound.specs.declared.Heard.the-variants as sound
 use Rattle.sound.specs.Sound.{heardAs}
 use Rattle.state.specs.declared.State.{State}
 use Rattle.state.specs.Moves.{behind, atEnd, sized, sent, heard, finished}
-use Rattle.opcodes.specs.Opcodes.{Step, taken, whole, unfinished, refused, drew, quiet, wrote, sizeAnswer, colourOf, quietAnswer, heardStep, drawnAs, drawnStep}
+use Rattle.opcodes.specs.Opcodes.{Step, taken, whole, unfinished, refused, drew, quiet, wrote, isDeep, sizeAnswer, colourOf, quietAnswer, heardStep, drawnAs, drawnStep}
 
 -- ---- 05
 
@@ -33,14 +33,10 @@ module _ (st : State) (p columns rows colour : ℕ) where
     unfolding sizeAnswer
     bad-size q = rw (eq-eqb _ _ e, q)
 
-    module _ (q : legalSize columns rows ≡ true) where
-      pub true-colour : (colour ≡ 0 → ⊥) → quiet (refused 6 0) ≡ quiet (sizeAnswer st p columns rows colour)
-      unfolding sizeAnswer
-      true-colour n = rw (eq-eqb _ _ e, q, ne-eqb _ _ n)
-
-      pub size-taken : (x : State) → colour ≡ 0 → x ≡ sized st p columns rows → quiet (taken x) ≡ quiet (sizeAnswer st p columns rows colour)
-      unfolding sizeAnswer
-      size-taken x c f = rw (eq-eqb _ _ e, q, eq-eqb _ _ c) (ap (λ (s : State). quiet (taken s)) f)
+    pub size-taken : (deep : Bool) (x : State) → legalSize columns rows ≡ true → deep ≡ isDeep colour → x ≡ sized st p columns rows deep
+        → quiet (taken x) ≡ quiet (sizeAnswer st p columns rows colour)
+    unfolding sizeAnswer
+    size-taken deep x q d f = rw (eq-eqb _ _ e, q, ← d) (ap (λ (s : State). quiet (taken s)) f)
 
 pub colour-read : (body : List ℕ) (version r : ℕ) → version ≡ 2 → r ≡ wordAt body 6 → r ≡ colourOf body version
 unfolding colourOf

@@ -1,6 +1,6 @@
 -- What each opcode that is taken does to the state (document 01, "Film, chunks, opcodes"), and the answer of a step.
 -- Assumes nothing.
-use mathlib.Core.Bool.{cond}
+use mathlib.Core.Bool.{Bool, true, false, cond}
 use mathlib.Core.List.{List}
 use Prim.Native.Nat.{ℕ}
 use lib.Dec.{eqb}
@@ -57,10 +57,14 @@ steppedAs (Refused r) = quiet (refused (number r) (block r))
 
 -- ---- opcodes that change nothing lent
 
--- 05: words columns, rows and true colour; 6 for a size that is not legal, true colour, or a second 05
+-- a true-colour word that is not 0 gives a film true colour
+unfoldable pub isDeep : ℕ → Bool
+isDeep colour = cond (eqb colour 0) false true
+
+-- 05: words columns, rows and true colour; 6 for a size that is not legal, or a second 05
 unfoldable pub sizeAnswer : State → ℕ → ℕ → ℕ → ℕ → Answer
 sizeAnswer st p columns rows colour =
-    cond (eqb (st .columns) 0) (cond (legalSize columns rows) (cond (eqb colour 0) (taken (sized st p columns rows)) (refused 6 0)) (refused 6 0)) (refused 6 0)
+    cond (eqb (st .columns) 0) (cond (legalSize columns rows) (taken (sized st p columns rows (isDeep colour))) (refused 6 0)) (refused 6 0)
 
 -- version 2 alone has a true-colour word, behind the count word, which is not read
 unfoldable pub colourOf : List ℕ → ℕ → ℕ

@@ -9,7 +9,7 @@ use words::word_at;
 ghost use mathlib.Core.Path.{_≡_};
 ghost use Rattle.draw.specs.Call.{said};
 ghost use Rattle.sound.specs.Sound.{heardAs};
-ghost use Rattle.opcodes.specs.Opcodes.{quiet, steppedAs, sizeAnswer, colourOf, quietAnswer, heardStep, drawnStep};
+ghost use Rattle.opcodes.specs.Opcodes.{quiet, steppedAs, isDeep, sizeAnswer, colourOf, quietAnswer, heardStep, drawnStep};
 
 // What a step answers, with the state that it gives back: Taken with the stores made, Heard with the bytes of sound written, Whole and Unfinished with the stores made
 // and the rows of blocks that the drawn packet touches.
@@ -22,16 +22,23 @@ pub enum Stepped {
     Refused(Refusal),
 }
 
+// Whether a true-colour word gives a film true colour.
+fn is_deep(colour: usize) -> bool
+    ensures { λ r. ⌜ r ≡ isDeep colour ⌝ }
+{
+    if colour == 0 {
+        return false;
+    }
+    true
+}
+
 // 05.
 pub fn size_step(st: State, p: usize, columns: usize, rows: usize, colour: usize) -> Stepped
     ensures { λ r. ⌜ steppedAs r ≡ quiet (sizeAnswer st p columns rows colour) ⌝ }
 {
     if st.columns == 0 {
         if is_legal_size(columns, rows) {
-            if colour == 0 {
-                return Stepped::Taken(st.sized(p, columns, rows), 0);
-            }
-            return Stepped::Refused(Refusal::Size);
+            return Stepped::Taken(st.sized(p, columns, rows, is_deep(colour)), 0);
         }
         return Stepped::Refused(Refusal::Size);
     }

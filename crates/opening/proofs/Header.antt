@@ -48,7 +48,7 @@ unfolding openingOf
 opens-short film stream h = rw (lt-ltb _ _ h)
 
 pub opens : (film : List ℕ) (stream : ℕ) (sound : Sound) → 26 ≤ length film → begins film 26 ≡ true → sound ≡ firstSound stream
-    → started (record { cursor = record { position = 26; «chunk_end» = 26 }; columns = 0; rows = 0; front = 0; map = Missing; unsent = false; sound = sound })
+    → started (record { cursor = record { position = 26; «chunk_end» = 26 }; columns = 0; rows = 0; deep = false; front = 0; map = Missing; unsent = false; sound = sound })
     ≡ openingOf film stream
 unfolding openingOf firstState
 opens film stream sound h e q = rw (le-ltb _ _ h, e, q)

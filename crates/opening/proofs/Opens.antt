@@ -12,7 +12,7 @@ use Rattle.words.proofs.Tests.{first, not-first}
 use Rattle.refusal.specs.Number.{accept}
 use Rattle.sound.specs.Format.{possibleFormat}
 use Rattle.state.specs.declared.State.{State}
-use Rattle.state.specs.State.{possibleSize, mapInside, possible, boundsVerdict, stateVerdict}
+use Rattle.state.specs.State.{mostFront, possibleSize, mapInside, possible, boundsVerdict, stateVerdict}
 use Rattle.opening.specs.Opening.{begins, firstState, started, refuses, openingOf}
 
 unstarted : (st : State) → refuses 1 0 ≡ started st → ⊥
@@ -28,7 +28,7 @@ opens-first film stream st e =
 
 -- 16 accepts it
 pub first-possible : (film stream : ℕ) → 26 ≤ film → stateVerdict (firstState stream) film ≡ accept
-unfolding stateVerdict boundsVerdict firstState mapInside possible possibleSize possibleFormat
+unfolding stateVerdict boundsVerdict firstState mapInside mostFront possible possibleSize possibleFormat
 first-possible film stream h = rw (le-ltb film 26 h)
 
 begins-same : (film film′ : List ℕ) (n : ℕ) → ((i : ℕ) → i < n → getD film i 0 ≡ getD film′ i 0) → begins film n ≡ begins film′ n

@@ -22,10 +22,10 @@ unfoldable pub begins : List ℕ → ℕ → Bool
 begins film zero = true
 begins film (suc n) = cond (eqb (getD film n 0) (getD header n 0)) (begins film n) false
 
--- position and chunk end behind the header, no size, the first lent picture shown, no map, nothing unsent, and the stream of sound that is given
+-- position and chunk end behind the header, no size and no true colour, the first lent picture shown, no map, nothing unsent, and the stream of sound that is given
 unfoldable pub firstState : ℕ → State
 firstState stream =
-    record { cursor = record { position = 26; «chunk_end» = 26 }; columns = 0; rows = 0; front = 0; map = Missing; unsent = false; sound = firstSound stream }
+    record { cursor = record { position = 26; «chunk_end» = 26 }; columns = 0; rows = 0; deep = false; front = 0; map = Missing; unsent = false; sound = firstSound stream }
 
 -- what opening comes to: a state, or a refusal's number and block
 pub data Opening : Type 0 where

@@ -80,6 +80,7 @@ pub fn open(film: &[u8], stream: usize) -> Opened
             },
             columns: 0,
             rows: 0,
+            deep: false,
             front: 0,
             map: Map::Missing,
             unsent: false,

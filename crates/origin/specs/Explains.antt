@@ -6,7 +6,8 @@ use mathlib.Core.Logic.{_≢_}
 use mathlib.Core.List.{List}
 use Prim.Native.Nat.{ℕ, _+_, _*_, _<_}
 use lib.ListN.{length, getD}
-use Rattle.block.specs.declared.Source.the-variants.{Data, Front, Back}
+use Rattle.block.specs.declared.Picture.the-variants.{Last, New, Oldest}
+use Rattle.block.specs.declared.Source.the-variants.{Data, Copied}
 use Rattle.packet.specs.Packet.{Packet, blocks, width, height, code, start}
 use Rattle.stores.specs.Stores.{final}
 use Rattle.draw.specs.Drawing.{targetAt, plan}
@@ -39,10 +40,10 @@ There p (InNew x y) = (x < width p) × (y < height p)
 
 -- it is what the rules read pixel i of block k from; what code 3 reads is drawn before block k
 unfoldable pub Read : Packet → ℕ → ℕ → Origin → Type 0
-Read p k i (Byte n) = (j : ℕ) × (sourceAt p k i ≡ Data j) × (n ≡ start p k + j)
-Read p k i (InFront x y) = sourceAt p k i ≡ Front (indexAt (width p) x y)
-Read p k i (InBack x y) = (sourceAt p k i ≡ Back (indexAt (width p) x y)) × (code p k ≢ 3)
-Read p k i (InNew x y) = (sourceAt p k i ≡ Back (indexAt (width p) x y)) × (code p k ≡ 3) × (blockAt (p .columns) x y < k)
+Read p k i (Byte n) = (j : ℕ) × (sourceAt p k i ≡ Data j) × (n ≡ start p k .bytes + j)
+Read p k i (InFront x y) = sourceAt p k i ≡ Copied Last (indexAt (width p) x y)
+Read p k i (InBack x y) = (sourceAt p k i ≡ Copied Oldest (indexAt (width p) x y)) × (code p k ≢ 3)
+Read p k i (InNew x y) = (sourceAt p k i ≡ Copied New (indexAt (width p) x y)) × (code p k ≡ 3) × (blockAt (p .columns) x y < k)
 
 -- block k of this code, and an origin, are those of the pixel at x, y; i is its number in the block
 pub record Explains (p : Packet) (front back : List ℕ) (x y k c : ℕ) (origin : Origin) : Type 0 where

@@ -1,15 +1,17 @@
--- Where the value of a pixel comes from (document 02, W9). The rules read each pixel from one source: a byte of its block's data, a pixel of front or a
--- pixel of back (`source` of the crate `block`). Here the source has the name by which a host finds it again: a byte is counted from the packet's start,
--- a pixel has x and y, and a pixel of back is one of the picture as it was lent, which codes 1 and 2 read, or one of the new picture, which code 3 reads:
--- code 2 copies from blocks that are not drawn yet, code 3 from blocks that are (`book/proofs/Picture`).
+-- Where the value of a pixel of an 8-bit film comes from (document 02, W9). The rules read each pixel from one source: a byte of its block's data, or a pixel of a picture
+-- (`source` of the crate `block`). Here the source has the name by which a host finds it again: a byte is counted from the packet's start, a pixel has x and y. The last
+-- picture is front, the oldest is back as it was lent, which codes 1 and 2 read, and the new one is read by code 3: code 2 copies from blocks that are not drawn yet,
+-- code 3 from blocks that are (`book/proofs/Picture`).
 -- Assumes nothing.
 use mathlib.Core.Bool.{cond}
 use mathlib.Core.List.{List}
 use Prim.Native.Nat.{ℕ, _+_, _*_, _/_, _%_}
-use lib.Dec.{eqb, leb}
+use lib.Dec.{leb}
 use Rattle.refusal.specs.Number.{Verdict, accept, refuse, number, block}
+use Rattle.block.specs.declared.Picture.{Picture}
+use Rattle.block.specs.declared.Picture.the-variants.{Last, New, Oldest}
 use Rattle.block.specs.declared.Source.{Source}
-use Rattle.block.specs.declared.Source.the-variants.{Data, Front, Back}
+use Rattle.block.specs.declared.Source.the-variants.{Data, Copied}
 use Rattle.packet.specs.Packet.{Packet, packet, width, code, start}
 use Rattle.packet.specs.Verdict.{andThen, default}
 use Rattle.draw.specs.Call.{callVerdict}
@@ -28,18 +30,19 @@ blockAt columns x y = y / 8 * columns + x / 8
 unfoldable pub pixelAt : ℕ → ℕ → ℕ
 pixelAt x y = 8 * (y % 8) + x % 8
 
--- a pixel of back that a block of this code reads
-unfoldable pub backOrigin : ℕ → ℕ → ℕ → Origin
-backOrigin code x y = cond (eqb code 3) (InNew x y) (InBack x y)
+-- a pixel of a picture
+unfoldable pub pictureOrigin : Picture → ℕ → ℕ → Origin
+pictureOrigin Last x y = InFront x y
+pictureOrigin New x y = InNew x y
+pictureOrigin Oldest x y = InBack x y
 
--- the source of a pixel by name: of a block of this code whose data begins at byte `at` of the packet, in pictures w pixels wide
-unfoldable pub named : ℕ → ℕ → ℕ → Source → Origin
-named code w at (Data j) = Byte (at + j)
-named code w at (Front j) = InFront (j % w) (j / w)
-named code w at (Back j) = backOrigin code (j % w) (j / w)
+-- the source of a pixel by name: of a block whose data begins at byte `at` of the packet, in pictures w pixels wide
+unfoldable pub named : ℕ → ℕ → Source → Origin
+named w at (Data j) = Byte (at + j)
+named w at (Copied picture j) = pictureOrigin picture (j % w) (j / w)
 
 unfoldable pub originOf : Packet → ℕ → ℕ → Origin
-originOf p k i = named (code p k) (width p) (start p k) (sourceAt p k i)
+originOf p k i = named (width p) (start p k .bytes) (sourceAt p k i)
 
 -- ---- the call
 

@@ -1,4 +1,5 @@
 // Where the value of a pixel comes from: its block, the block's code, and the byte or the pixel that the rules read.
+use block::Picture;
 use block::Source;
 use block::code_at;
 use packet::Inspected;
@@ -14,7 +15,7 @@ ghost use Rattle.packet.specs.Packet.{packet};
 ghost use Rattle.packet.specs.Verdict.{default};
 ghost use Rattle.packet.specs.Rows.{touched, finding, found};
 ghost use Rattle.draw.specs.Call.{callVerdict};
-ghost use Rattle.origin.specs.Trace.{backOrigin, told, foundAt, traceOf};
+ghost use Rattle.origin.specs.Trace.{pictureOrigin, told, foundAt, traceOf};
 ghost use Rattle.origin.specs.Asked.{Traceable};
 
 // What gave a pixel its value: a byte of the packet, counted from its start; or the pixel at x, y of front, of back as it was lent, or of the new picture.
@@ -31,14 +32,15 @@ pub enum Traced {
     Refused(Refusal),
 }
 
-// A pixel of back that a block of this code reads. What code 3 reads is drawn already.
-fn back_origin(code: u8, x: usize, y: usize) -> Origin
-    ensures { λ r. ⌜ r ≡ backOrigin code x y ⌝ }
+// A pixel of a picture. Of an 8-bit film the oldest picture is the one drawn on as it was lent.
+fn picture_origin(picture: Picture, x: usize, y: usize) -> Origin
+    ensures { λ r. ⌜ r ≡ pictureOrigin picture x y ⌝ }
 {
-    if code == 3 {
-        return Origin::InNew(x, y);
+    match picture {
+        Picture::Last => Origin::InFront(x, y),
+        Picture::New => Origin::InNew(x, y),
+        Picture::Oldest => Origin::InBack(x, y),
     }
-    Origin::InBack(x, y)
 }
 
 // The pixel at x, y, which lies inside, of a packet that is accepted.
@@ -52,11 +54,21 @@ fn trace_inside(columns: usize, rows: usize, map: &[u8], data: &[u8], x: usize, 
     let code = code_at(map, k);
     let at = data_position(map, data, k);
     let s = part_from(data, at);
-    let from = source_of(code, s, w, h, 8 * (x / 8), 8 * (y / 8), 8 * (y % 8) + x % 8);
+    // An 8-bit packet has no second part; what stands for it is not read.
+    let from = source_of(
+        false,
+        code,
+        s,
+        s,
+        w,
+        h,
+        8 * (x / 8),
+        8 * (y / 8),
+        8 * (y % 8) + x % 8,
+    );
     match from {
         Source::Data(j) => Traced::Found(k, code, Origin::Byte(at + j)),
-        Source::Front(j) => Traced::Found(k, code, Origin::InFront(j % w, j / w)),
-        Source::Back(j) => Traced::Found(k, code, back_origin(code, j % w, j / w)),
+        Source::Copied(picture, j) => Traced::Found(k, code, picture_origin(picture, j % w, j / w)),
     }
 }
 

@@ -4,16 +4,17 @@ use mathlib.Core.Path.{_≡_, refl, sym, _∙_}
 use mathlib.Core.Logic.{_⊎_, inl, inr}
 use mathlib.Core.Bool.{Bool, true, false, cond}
 use mathlib.Core.List.{List}
-use Prim.Native.Nat.{ℕ, zero, suc, _+_, _≤_, _<_}
+use Prim.Native.Nat.{ℕ, zero, suc, _+_, _≤_, _<_, zero-le}
 use native.Mathlib.Decide.{decLt}
 use native.Mathlib.Omega.{arith}
 use borrow.Author.Tests.{lt-leb, le-leb}
+use lib.Dec.{leb}
 use lib.ListN.{length}
 use Rattle.refusal.specs.Number.{Verdict, accept, refuse}
-use Rattle.packet.specs.Packet.{Packet, packet, blocks, start}
-use Rattle.packet.specs.Verdict.{default, strict, andThen, blockVerdict, endVerdict, verdictFrom, blocksVerdict, mapFits, legalSize, verdict}
-use Rattle.packet.specs.Accepted.{Accepts}
-use Rattle.packet.specs.Forms.{OneOver, Odd, Forms}
+use Rattle.packet.specs.Packet.{Packet, packetIn, blocks, start}
+use Rattle.packet.specs.Verdict.{default, strict, andThen, blockVerdict, endVerdict, verdictFrom, blocksVerdict, partsFit, partsVerdict, mapFits, legalSize, verdictIn}
+use Rattle.packet.specs.Accepted.{Used, AcceptsIn}
+use Rattle.packet.specs.Forms.{lastLength, lastUsed, OneOver, Odd, Forms}
 use Rattle.packet.proofs.Exactly.{accepted-exactly, accepts-more}
 
 -- the verdicts v of the default and w of the strict form: one, or an accepted packet with one byte over that is refused by 15
@@ -36,68 +37,88 @@ differ-then one (refuse n k) v w d = inl refl
 
 -- ---- the blocks, and what they leave over
 
-ends : (p : Packet) (n : ℕ) → Differ (length (p .bytes) ≡ start p n + 1) (endVerdict default p n) (endVerdict strict p n)
-unfolding endVerdict
-ends p n =
-    elim (decLt (start p n) (length (p .bytes))) [
-      | no h ↦
-          let a : length (p .bytes) ≤ start p n + 1 = omega arith in
-          let b : length (p .bytes) ≤ start p n + 0 = omega arith in
-          inl (rw (le-leb _ _ a, le-leb _ _ b) refl)
+-- what the two forms say of the last part, whose length is l and of which u is used
+last-differ : (l u : ℕ) → Differ (l ≡ u + 1) (cond (leb l (u + default)) accept (refuse 15 0)) (cond (leb l (u + strict)) accept (refuse 15 0))
+last-differ l u =
+    elim (decLt u l) [
+      | no h ↦ inl (rw (le-leb l (u + 1) (omega arith), le-leb l (u + 0) (omega arith)))
       | yes h ↦
-          elim (decLt (start p n + 1) (length (p .bytes))) [
-            | yes g ↦
-                let b : start p n + 0 < length (p .bytes) = omega arith in
-                inl (rw (lt-leb _ _ g, lt-leb _ _ b) refl)
-            | no g ↦
-                let a : length (p .bytes) ≤ start p n + 1 = omega arith in
-                let b : start p n + 0 < length (p .bytes) = omega arith in
-                inr (omega arith, rw (le-leb _ _ a) refl, rw (lt-leb _ _ b) refl)
+          elim (decLt (u + 1) l) [
+            | yes g ↦ inl (rw (lt-leb l (u + 1) g, lt-leb l (u + 0) (omega arith)))
+            | no g ↦ inr (omega arith, rw (le-leb l (u + 1) (omega arith)), rw (lt-leb l (u + 0) (omega arith)))
           ]
     ]
 
-from : (p : Packet) (n k : ℕ) → Differ (length (p .bytes) ≡ start p (k + n) + 1) (verdictFrom default p n k) (verdictFrom strict p n k)
-unfolding verdictFrom
-from p zero k = let z : k ≡ k + 0 = omega arith in rw (← z) (ends p k)
-from p (suc n) k = let z : suc k + n ≡ k + suc n = omega arith in rw (← z) (differ-then _ (blockVerdict p k) _ _ (from p n (suc k)))
+-- an 8-bit packet has no second part; of one with true colour both forms say the same of the first
+ends : (deep : Bool) (columns rows : ℕ) (map bytes : List ℕ) (n : ℕ)
+    → Differ (lastLength (packetIn deep columns rows map bytes) ≡ lastUsed (packetIn deep columns rows map bytes) n + 1)
+    (endVerdict default (packetIn deep columns rows map bytes) n) (endVerdict strict (packetIn deep columns rows map bytes) n)
+unfolding endVerdict
+ends false columns rows map bytes n =
+    let p = packetIn false columns rows map bytes in
+    rw (le-leb 0 (start p n .offsets + default) zero-le, le-leb 0 (start p n .offsets + strict) zero-le) (last-differ (length bytes) (start p n .bytes))
+ends true columns rows map bytes n =
+    let p = packetIn true columns rows map bytes in
+    differ-if _ (leb (length (p .bytes)) (start p n .bytes + 0)) (refuse 15 0) _ _ (last-differ (length (p .offsets)) (start p n .offsets))
 
-pub blocks-differ : (p : Packet) → Differ (OneOver p) (blocksVerdict default p) (blocksVerdict strict p)
-unfolding blocksVerdict
-blocks-differ p = let z : 0 + blocks p ≡ blocks p = omega arith in rw z at (from p (blocks p) 0)
+module _ (deep : Bool) (columns rows : ℕ) (map bytes : List ℕ) where
+  abbrev whole : Packet
+  whole = packetIn deep columns rows map bytes
+
+  from : (n k : ℕ) → Differ (lastLength whole ≡ lastUsed whole (k + n) + 1) (verdictFrom default whole n k) (verdictFrom strict whole n k)
+  unfolding verdictFrom
+  from zero k = let z : k ≡ k + 0 = omega arith in rw (← z) (ends deep columns rows map bytes k)
+  from (suc n) k = let z : suc k + n ≡ k + suc n = omega arith in rw (← z) (differ-then _ (blockVerdict whole k) _ _ (from n (suc k)))
+
+  blocks-differ : Differ (OneOver whole) (blocksVerdict default whole) (blocksVerdict strict whole)
+  unfolding blocksVerdict
+  blocks-differ = let z : 0 + blocks whole ≡ blocks whole = omega arith in rw z at (from (blocks whole) 0)
+
+  pub parts-differ : Differ (OneOver whole) (partsVerdict deep default columns rows map bytes) (partsVerdict deep strict columns rows map bytes)
+  parts-differ = differ-if _ (partsFit deep bytes) (refuse 20 0) _ _ blocks-differ
+
+-- what the strict form accepts leaves no byte over
+pub none-over : (deep : Bool) (columns rows : ℕ) (map bytes : List ℕ) (n : ℕ) → Used strict (packetIn deep columns rows map bytes) n
+    → lastLength (packetIn deep columns rows map bytes) ≡ lastUsed (packetIn deep columns rows map bytes) n + 1 → ⊥
+none-over false columns rows map bytes n u o = omega (arith, u .first, o)
+none-over true columns rows map bytes n u o = omega (arith, u .second, o)
 
 -- ---- the whole check
 
-module _ (columns rows : ℕ) (map bytes : List ℕ) where
-  verdicts-differ : Differ (OneOver (packet columns rows map bytes)) (verdict default columns rows map bytes) (verdict strict columns rows map bytes)
-  unfolding verdict
+module _ (deep : Bool) (columns rows : ℕ) (map bytes : List ℕ) where
+  verdicts-differ : Differ (OneOver (packetIn deep columns rows map bytes)) (verdictIn deep default columns rows map bytes) (verdictIn deep strict columns rows map bytes)
+  unfolding verdictIn
   verdicts-differ =
       differ-if _ (legalSize columns rows) (refuse 6 0) _ _
-      (differ-if _ (mapFits (packet columns rows map bytes)) (refuse 10 0) _ _ (blocks-differ (packet columns rows map bytes)))
+      (differ-if _ (mapFits (packetIn deep columns rows map bytes)) (refuse 10 0) _ _ (parts-differ deep columns rows map bytes))
 
-  exactly : (spare : ℕ) → (verdict spare columns rows map bytes ≡ accept → Accepts spare columns rows map bytes) × (Accepts spare columns rows map bytes → verdict spare columns rows map bytes ≡ accept)
-  exactly spare = accepted-exactly spare columns rows map bytes
+  exactly : (spare : ℕ) → (verdictIn deep spare columns rows map bytes ≡ accept → AcceptsIn deep spare columns rows map bytes)
+      × (AcceptsIn deep spare columns rows map bytes → verdictIn deep spare columns rows map bytes ≡ accept)
+  exactly spare = accepted-exactly deep spare columns rows map bytes
 
-  odd-refused : Odd columns rows map bytes → verdict strict columns rows map bytes ≡ refuse 15 0
+  odd-refused : Odd deep columns rows map bytes → verdictIn deep strict columns rows map bytes ≡ refuse 15 0
   odd-refused o = by verdicts-differ
     where
-      by : Differ (OneOver (packet columns rows map bytes)) (verdict default columns rows map bytes) (verdict strict columns rows map bytes) → verdict strict columns rows map bytes ≡ refuse 15 0
+      by : Differ (OneOver (packetIn deep columns rows map bytes)) (verdictIn deep default columns rows map bytes) (verdictIn deep strict columns rows map bytes)
+          → verdictIn deep strict columns rows map bytes ≡ refuse 15 0
       by (inr d) = d .2
       by (inl e) =
           let a = exactly strict .0 (sym e ∙ exactly default .1 (o .accepted)) in
-          absurd (let z : ⊥ = omega (arith, a .used, o .over) in z)
+          absurd (none-over deep columns rows map bytes (blocks (packetIn deep columns rows map bytes)) (a .used) (o .over))
 
-  same-verdict : (Odd columns rows map bytes → ⊥) → verdict default columns rows map bytes ≡ verdict strict columns rows map bytes
+  same-verdict : (Odd deep columns rows map bytes → ⊥) → verdictIn deep default columns rows map bytes ≡ verdictIn deep strict columns rows map bytes
   same-verdict n = by verdicts-differ
     where
-      by : Differ (OneOver (packet columns rows map bytes)) (verdict default columns rows map bytes) (verdict strict columns rows map bytes) → verdict default columns rows map bytes ≡ verdict strict columns rows map bytes
+      by : Differ (OneOver (packetIn deep columns rows map bytes)) (verdictIn deep default columns rows map bytes) (verdictIn deep strict columns rows map bytes)
+          → verdictIn deep default columns rows map bytes ≡ verdictIn deep strict columns rows map bytes
       by (inl e) = e
       by (inr d) = absurd (n (record { accepted = exactly default .0 (d .1); over = d .0 }))
 
-  pub forms : Forms columns rows map bytes
+  pub forms : Forms deep columns rows map bytes
   forms =
       record {
         odd = λ o. (exactly default .1 (o .accepted), odd-refused o);
         same = same-verdict;
         nothing-over = λ e. same-verdict (λ o. let z : ⊥ = omega (arith, e, o .over) in z);
-        strict-accepts = λ e. exactly default .1 (accepts-more strict default columns rows map bytes (omega arith) (exactly strict .0 e));
+        strict-accepts = λ e. exactly default .1 (accepts-more deep strict default columns rows map bytes (omega arith) (exactly strict .0 e));
       }

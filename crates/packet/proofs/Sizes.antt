@@ -1,7 +1,7 @@
 -- The size and the map: the tests as statements, and the verdict by them.
 -- Assumes nothing.
 use mathlib.Core.Path.{_≡_}
-use mathlib.Core.Bool.{true, false}
+use mathlib.Core.Bool.{Bool, true, false}
 use mathlib.Core.List.{List}
 use Prim.Native.Nat.{ℕ, _+_, _*_, _/_, _≤_}
 use native.Mathlib.Omega.{arith}
@@ -10,8 +10,8 @@ use native.Mathlib.Nat.{mul-le-mul}
 use lib.ListN.{length}
 use Rattle.words.proofs.Tests.{not-first, first}
 use Rattle.refusal.specs.Number.{Verdict, refuse}
-use Rattle.packet.specs.Packet.{packet, blocks, pixels}
-use Rattle.packet.specs.Verdict.{legal, legalSize, mapFits, blocksVerdict, verdict}
+use Rattle.packet.specs.Packet.{Packet, packetIn, blocks, pixels}
+use Rattle.packet.specs.Verdict.{legal, legalSize, mapFits, partsVerdict, verdictIn}
 use Rattle.packet.specs.Accepted.{Legal}
 use Rattle.packet.specs.Asked.{Sized}
 
@@ -39,10 +39,9 @@ unfolding legalSize
 is-size columns rows a b = rw (is-legal 80 columns a, is-legal 60 rows b)
 
 -- with a map that has a nibble a block
-pub is-sized : (columns rows : ℕ) (map bytes : List ℕ) → legalSize columns rows ≡ true → length map ≡ (blocks (packet columns rows map bytes) + 1) / 2
-    → Sized (packet columns rows map bytes)
-is-sized columns rows map bytes e m =
-    let l = size-is columns rows e in
+pub is-sized : (p : Packet) → legalSize (p .columns) (p .rows) ≡ true → length (p .map) ≡ (blocks p + 1) / 2 → Sized p
+is-sized p e m =
+    let l = size-is (p .columns) (p .rows) e in
     record {
       some-columns = l .0 .least;
       columns = l .0 .bound;
@@ -53,20 +52,20 @@ is-sized columns rows map bytes e m =
 
 -- ---- the verdict
 
-module _ (spare columns rows : ℕ) (map bytes : List ℕ) where
-  pub refuses-6 : legalSize columns rows ≡ false → refuse 6 0 ≡ verdict spare columns rows map bytes
-  unfolding verdict
+module _ (deep : Bool) (spare columns rows : ℕ) (map bytes : List ℕ) where
+  pub refuses-6 : legalSize columns rows ≡ false → refuse 6 0 ≡ verdictIn deep spare columns rows map bytes
+  unfolding verdictIn
   refuses-6 e = rw e
 
   module _ (e : legalSize columns rows ≡ true) where
-    pub refuses-10 : (length map ≡ (blocks (packet columns rows map bytes) + 1) / 2 → ⊥) → refuse 10 0 ≡ verdict spare columns rows map bytes
-    unfolding verdict mapFits
+    pub refuses-10 : (length map ≡ (blocks (packetIn deep columns rows map bytes) + 1) / 2 → ⊥) → refuse 10 0 ≡ verdictIn deep spare columns rows map bytes
+    unfolding verdictIn mapFits
     refuses-10 n = rw (e, ne-eqb _ _ n)
 
-    module _ (m : length map ≡ (blocks (packet columns rows map bytes) + 1) / 2) where
-      pub judges-blocks : (v : Verdict) → v ≡ blocksVerdict spare (packet columns rows map bytes) → v ≡ verdict spare columns rows map bytes
-      unfolding verdict mapFits
-      judges-blocks v q = rw (e, eq-eqb _ _ m) q
+    pub judges-parts : length map ≡ (blocks (packetIn deep columns rows map bytes) + 1) / 2 → (v : Verdict) → v ≡ partsVerdict deep spare columns rows map bytes
+        → v ≡ verdictIn deep spare columns rows map bytes
+    unfolding verdictIn mapFits
+    judges-parts m v q = rw (e, eq-eqb _ _ m) q
 
 -- a picture has few blocks, and few pixels
 pub few : (columns rows : ℕ) → legalSize columns rows ≡ true → columns * rows ≤ 4800

@@ -5,6 +5,8 @@ use block::data_length;
 use refusal::Refusal;
 use words::part_from;
 ghost use mathlib.Core.Path.{_≡_};
+ghost use mathlib.Core.Bool.{false};
+ghost use mathlib.Core.List.{[]};
 ghost use Prim.Native.Nat.{_*_, _≤_};
 ghost use lib.ListN.{length};
 ghost use Rattle.packet.specs.Packet.{packet, startOf};
@@ -50,10 +52,10 @@ pub fn is_legal_size(columns: usize, rows: usize) -> bool
     false
 }
 
-// The position of block k's data, found from the map and the data in front of it.
+// The position of block k's data in an 8-bit packet, found from the map and the data in front of it.
 pub fn data_position(map: &[u8], data: &[u8], k: usize) -> usize
     requires { ⌜ (k ≤ 4800) × (k ≤ 2 * length (now map)) ⌝ }
-    ensures { λ r. ⌜ r ≡ startOf (now (map .entry)) (now («data» .entry)) k ⌝ }
+    ensures { λ r. ⌜ r ≡ startOf false (now (map .entry)) (now («data» .entry)) [] k .bytes ⌝ }
 {
     let mut at = 0;
     let mut i = 0;
@@ -64,14 +66,14 @@ pub fn data_position(map: &[u8], data: &[u8], k: usize) -> usize
     at
 }
 
-// The first of n blocks that is touched; n where none is.
-fn first_touched(map: &[u8], n: usize) -> usize
+// The first of n blocks that is touched, by a code other than u; n where none is.
+fn first_touched(u: u8, map: &[u8], n: usize) -> usize
     requires { ⌜ n ≤ 2 * length (now map) ⌝ }
-    ensures { λ r. ⌜ r ≡ firstFrom (now (map .entry)) n 0 ⌝ }
+    ensures { λ r. ⌜ r ≡ firstFrom u (now (map .entry)) n 0 ⌝ }
 {
     let mut k = 0;
     while k < n {
-        if code_at(map, k) != 1 {
+        if code_at(map, k) != u {
             return k;
         }
         k += 1;
@@ -79,14 +81,14 @@ fn first_touched(map: &[u8], n: usize) -> usize
     k
 }
 
-// The end of the last of n blocks that is touched; 0 where none is.
-fn past_touched(map: &[u8], n: usize) -> usize
+// The end of the last of n blocks that is touched, by a code other than u; 0 where none is.
+fn past_touched(u: u8, map: &[u8], n: usize) -> usize
     requires { ⌜ n ≤ 2 * length (now map) ⌝ }
-    ensures { λ r. ⌜ r ≡ pastTouched (now (map .entry)) n ⌝ }
+    ensures { λ r. ⌜ r ≡ pastTouched u (now (map .entry)) n ⌝ }
 {
     let mut k = n;
     while 0 < k {
-        if code_at(map, k - 1) != 1 {
+        if code_at(map, k - 1) != u {
             return k;
         }
         k -= 1;
@@ -105,15 +107,15 @@ fn rows_from(columns: usize, first: usize, past: usize) -> Touched
     Touched::Rows(first / columns, (past - 1) / columns)
 }
 
-// The blocks of a packet in order, and then what they leave over: at most spare bytes. Those before the first touched block and behind the last are code 1: they have no data and are never refused.
+// The blocks of an 8-bit packet in order, and then what they leave over: at most spare bytes. Those before the first touched block and behind the last are code 1: they have no data and are never refused.
 pub fn check_blocks(spare: usize, columns: usize, rows: usize, map: &[u8], data: &[u8]) -> Inspected
     requires { ⌜ Sized (packet columns rows (now map) (now «data»)) ⌝ }
     ensures { λ r. ⌜ found r ≡ finding (blocksVerdict spare (packet columns rows (now (map .entry)) (now («data» .entry)))) (touched (packet columns rows (now (map .entry)) (now («data» .entry)))) ⌝ }
 {
     let w = 8 * columns;
     let h = 8 * rows;
-    let first = first_touched(map, columns * rows);
-    let past = past_touched(map, columns * rows);
+    let first = first_touched(1, map, columns * rows);
+    let past = past_touched(1, map, columns * rows);
     let mut k = first;
     let mut at = 0;
     // From the block's left edge to the picture's right edge: fewer instructions a block than its distance from the left.
@@ -129,7 +131,7 @@ pub fn check_blocks(spare: usize, columns: usize, rows: usize, map: &[u8], data:
         if s.len() < length {
             return Inspected::Refused(Refusal::DataShort(k));
         }
-        if copy_inside(code, s, w, h, w - right, y) {
+        if copy_inside(false, code, s, s, w, h, w - right, y) {
             k += 1;
             at += length;
             right -= 8;
@@ -148,7 +150,7 @@ pub fn check_blocks(spare: usize, columns: usize, rows: usize, map: &[u8], data:
     Inspected::Refused(Refusal::LeftOver)
 }
 
-// Whether the rules accept a packet for a picture of columns by rows blocks, where so many bytes may be left over, and if not, why.
+// Whether the rules accept an 8-bit packet for a picture of columns by rows blocks, where so many bytes may be left over, and if not, why.
 fn check_leaving(spare: usize, columns: usize, rows: usize, map: &[u8], data: &[u8]) -> Inspected
     ensures { λ r. ⌜ found r ≡ finding (verdict spare columns rows (now (map .entry)) (now («data» .entry))) (touched (packet columns rows (now (map .entry)) (now («data» .entry)))) ⌝ }
 {

@@ -11,7 +11,7 @@ use Rattle.block.specs.Asked.{Sided}
 use Rattle.block.proofs.Codes.{cell}
 use Rattle.pattern.specs.Form.{Shape}
 use Rattle.pattern.specs.Pattern.{Shaped, patternLength, patternSource}
-use Rattle.pattern.proofs.Bounds.{source-inside}
+use Rattle.pattern.proofs.Bounds.{small, source-inside}
 use Rattle.pixel.proofs.Sources.{raster-below}
 use Rattle.stores.specs.Stores.{Plan, further}
 use Rattle.stores.specs.Loop.{Begun}
@@ -64,4 +64,4 @@ unfolding cellSource
 cell-inside side i j long z h l e = omega (arith, cell side i z h, e)
 
 pub pattern-inside : (q : Shape) (s : List ℕ) (i j long : ℕ) → Shaped q → i < 64 → patternLength q ≤ long → j ≡ patternSource q s i → j < long
-pattern-inside q s i j long z h l e = omega (arith, source-inside q s i z h, e)
+pattern-inside q s i j long z h l e = omega (arith, source-inside q s i z h, small z .colour-some, e)

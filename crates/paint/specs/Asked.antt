@@ -2,8 +2,8 @@
 -- Assumes nothing.
 use mathlib.Core.Path.{_≡_}
 use mathlib.Core.Logic.{_≢_}
-use mathlib.Core.Bool.{true}
-use mathlib.Core.List.{List}
+use mathlib.Core.Bool.{Bool, true, false}
+use mathlib.Core.List.{List, []}
 use Prim.Native.Nat.{ℕ, _+_, _*_, _≤_, _<_}
 use lib.ListN.{length}
 use Rattle.block.specs.Block.{kindOf, dataLength, copyInside}
@@ -26,9 +26,13 @@ pub record Canvas (w h x y front back : ℕ) : Type 0 where
   pub back-room : h * w ≤ back
 
 -- a block of this code that is accepted there, and no more pixels than it stores
-pub record Drawable (code : ℕ) (s : List ℕ) (w h x y n : ℕ) : Type 0 where
+pub record Drawable (deep : Bool) (code : ℕ) (s o : List ℕ) (w h x y n : ℕ) : Type 0 where
   pub known : code < 16
-  pub taken : code ≢ 6
-  pub there : dataLength (kindOf code s) ≤ length s
-  pub inside : copyInside (kindOf code s) w h x y ≡ true
-  pub count : n ≤ pixelCount (kindOf code s)
+  pub taken : deep ≡ false → code ≢ 6
+  pub there : dataLength deep (kindOf deep code s o) ≤ length s
+  pub inside : copyInside (kindOf deep code s o) w h x y ≡ true
+  pub count : n ≤ pixelCount (kindOf deep code s o)
+
+-- of an 8-bit film
+abbrev pub ByteDrawable : ℕ → List ℕ → ℕ → ℕ → ℕ → ℕ → ℕ → Type 0
+ByteDrawable code s w h x y n = Drawable false code s [] w h x y n

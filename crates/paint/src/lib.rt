@@ -6,11 +6,11 @@ use pixel::source_of;
 ghost use mathlib.Core.Path.{_≡_};
 ghost use Prim.Native.Nat.{_+_};
 ghost use lib.ListN.{length, set};
-ghost use Rattle.block.specs.Block.{kindOf};
+ghost use Rattle.block.specs.Block.{byteKind};
 ghost use Rattle.stores.specs.Stores.{firstPixels};
 ghost use Rattle.stores.specs.Loop.{Begun, Next};
 ghost use Rattle.paint.specs.Value.{pixelCount, planOf};
-ghost use Rattle.paint.specs.Asked.{Canvas, Drawable};
+ghost use Rattle.paint.specs.Asked.{Canvas, ByteDrawable};
 
 // The one store of a pixel: pixel i of the block, and those before it stand.
 pub fn put(
@@ -50,7 +50,7 @@ pub fn set_next(
     place: &mut usize,
     k: usize,
 )
-    requires { ⌜ Begun (planOf code (now s) (now front) w x y) 0 (pixelCount (kindOf code (now s))) (now back) × (k ≡ now place + 1) ⌝ }
+    requires { ⌜ Begun (planOf code (now s) (now front) w x y) 0 (pixelCount (byteKind code (now s))) (now back) × (k ≡ now place + 1) ⌝ }
     ensures { λ _. ⌜ now (place .exit) ≡ k ⌝ }
 {
     set_place(place, k);
@@ -68,12 +68,13 @@ pub fn paint_part(
     y: usize,
     n: usize,
 )
-    requires { ⌜ Drawable code (now s) w h x y n × Canvas w h x y (length (now front)) (length (now back)) ⌝ }
+    requires { ⌜ ByteDrawable code (now s) w h x y n × Canvas w h x y (length (now front)) (length (now back)) ⌝ }
     ensures { λ _. ⌜ now (back .exit) ≡ firstPixels (planOf code (now (s .entry)) (now (front .entry)) w x y) 0 (now (back .entry)) n ⌝ }
 {
+    let second = &s[..0];
     let mut i = 0;
     while i < n {
-        let from = source_of(code, s, w, h, x, y, i);
+        let from = source_of(false, code, s, second, w, h, x, y, i);
         let v = fetch(from, s, front, back);
         put(
             code,

@@ -3,7 +3,7 @@ use words::byte_at;
 ghost use mathlib.Core.Path.{_≡_};
 ghost use Prim.Native.Nat.{_+_, _<_, _≤_};
 ghost use lib.ListN.{length};
-ghost use Rattle.pattern.specs.Form.{numbers, falling, form7, form8, form9, formA};
+ghost use Rattle.pattern.specs.Form.{bytes, numbers, falling, form7, form8, form9, formA};
 ghost use Rattle.pattern.specs.Pattern.{Shaped, FieldInside, patternLength, partLength, partStart, fieldNumber, fieldAt, patternSource};
 
 // Two or four colours; then the size of a cell where the block is one part, else how it is cut into parts.
@@ -23,28 +23,41 @@ pub enum Form {
 }
 
 // Whether the pair of colours at byte p falls.
-pub fn is_falling(s: &[u8], p: usize) -> bool
+pub fn is_falling(deep: bool, s: &[u8], p: usize) -> bool
     requires { ⌜ p < 64 ⌝ }
-    ensures { λ r. ⌜ r ≡ falling (now (s .entry)) p ⌝ }
+    ensures { λ r. ⌜ r ≡ falling deep (now (s .entry)) p ⌝ }
 {
+    if deep {
+        return 128 <= byte_at(s, p + 1);
+    }
     byte_at(s, p + 1) < byte_at(s, p)
 }
 
-pub fn form_of_7(s: &[u8]) -> Form
-    ensures { λ r. ⌜ r ≡ form7 (now (s .entry)) ⌝ }
+// The bytes of a pixel.
+pub fn bytes_of(deep: bool) -> usize
+    ensures { λ r. ⌜ (r ≡ bytes deep) × (1 ≤ r) × (r ≤ 2) ⌝ }
 {
-    if is_falling(s, 0) {
+    if deep {
+        return 2;
+    }
+    1
+}
+
+pub fn form_of_7(deep: bool, s: &[u8]) -> Form
+    ensures { λ r. ⌜ r ≡ form7 deep (now (s .entry)) ⌝ }
+{
+    if is_falling(deep, s, 0) {
         return Form::Two2x2;
     }
     Form::Two1x1
 }
 
 // Here and below both pairs are compared before either result is tested, so that the compiler needs no branch.
-pub fn form_of_8(s: &[u8]) -> Form
-    ensures { λ r. ⌜ r ≡ form8 (now (s .entry)) ⌝ }
+pub fn form_of_8(deep: bool, s: &[u8]) -> Form
+    ensures { λ r. ⌜ r ≡ form8 deep (now (s .entry)) ⌝ }
 {
-    let second = is_falling(s, 6);
-    if is_falling(s, 0) {
+    let second = is_falling(deep, s, 2 * bytes_of(deep) + 4);
+    if is_falling(deep, s, 0) {
         if second {
             return Form::TwoTopBottom;
         }
@@ -53,11 +66,11 @@ pub fn form_of_8(s: &[u8]) -> Form
     Form::TwoQuarters
 }
 
-pub fn form_of_9(s: &[u8]) -> Form
-    ensures { λ r. ⌜ r ≡ form9 (now (s .entry)) ⌝ }
+pub fn form_of_9(deep: bool, s: &[u8]) -> Form
+    ensures { λ r. ⌜ r ≡ form9 deep (now (s .entry)) ⌝ }
 {
-    let second = is_falling(s, 2);
-    if is_falling(s, 0) {
+    let second = is_falling(deep, s, 2 * bytes_of(deep));
+    if is_falling(deep, s, 0) {
         if second {
             return Form::Four1x2;
         }
@@ -69,11 +82,11 @@ pub fn form_of_9(s: &[u8]) -> Form
     Form::Four1x1
 }
 
-pub fn form_of_a(s: &[u8]) -> Form
-    ensures { λ r. ⌜ r ≡ formA (now (s .entry)) ⌝ }
+pub fn form_of_a(deep: bool, s: &[u8]) -> Form
+    ensures { λ r. ⌜ r ≡ formA deep (now (s .entry)) ⌝ }
 {
-    let second = is_falling(s, 12);
-    if is_falling(s, 0) {
+    let second = is_falling(deep, s, 4 * bytes_of(deep) + 8);
+    if is_falling(deep, s, 0) {
         if second {
             return Form::FourTopBottom;
         }
@@ -83,23 +96,23 @@ pub fn form_of_a(s: &[u8]) -> Form
 }
 
 // The bytes of a part: its colours and its fields.
-fn part_length(bits: usize, across: usize, down: usize, wide: usize, high: usize) -> usize
-    requires { ⌜ Shaped (numbers bits across down wide high) ⌝ }
-    ensures { λ r. ⌜ r ≡ partLength (numbers bits across down wide high) ⌝ }
+fn part_length(
+    colour: usize,
+    bits: usize,
+    across: usize,
+    down: usize,
+    wide: usize,
+    high: usize,
+) -> usize
+    requires { ⌜ Shaped (numbers colour bits across down wide high) ⌝ }
+    ensures { λ r. ⌜ r ≡ partLength (numbers colour bits across down wide high) ⌝ }
 {
-    2 * bits + across / wide * (down / high) * bits / 8
+    colour * (2 * bits) + across / wide * (down / high) * bits / 8
 }
 
 // Where the part of pixel i begins.
-fn part_start(bits: usize, across: usize, down: usize, wide: usize, high: usize, i: usize) -> usize
-    requires { ⌜ Shaped (numbers bits across down wide high) × (i < 64) ⌝ }
-    ensures { λ r. ⌜ r ≡ partStart (numbers bits across down wide high) i ⌝ }
-{
-    (i % 8 / across * (8 / down) + i / 8 / down) * part_length(bits, across, down, wide, high)
-}
-
-// The number of pixel i's field in its part.
-fn field_number(
+fn part_start(
+    colour: usize,
     bits: usize,
     across: usize,
     down: usize,
@@ -107,8 +120,25 @@ fn field_number(
     high: usize,
     i: usize,
 ) -> usize
-    requires { ⌜ Shaped (numbers bits across down wide high) × (i < 64) ⌝ }
-    ensures { λ r. ⌜ r ≡ fieldNumber (numbers bits across down wide high) i ⌝ }
+    requires { ⌜ Shaped (numbers colour bits across down wide high) × (i < 64) ⌝ }
+    ensures { λ r. ⌜ r ≡ partStart (numbers colour bits across down wide high) i ⌝ }
+{
+    (i % 8 / across * (8 / down) + i / 8 / down)
+        * part_length(colour, bits, across, down, wide, high)
+}
+
+// The number of pixel i's field in its part.
+fn field_number(
+    colour: usize,
+    bits: usize,
+    across: usize,
+    down: usize,
+    wide: usize,
+    high: usize,
+    i: usize,
+) -> usize
+    requires { ⌜ Shaped (numbers colour bits across down wide high) × (i < 64) ⌝ }
+    ensures { λ r. ⌜ r ≡ fieldNumber (numbers colour bits across down wide high) i ⌝ }
 {
     i / 8 % down / high * (across / wide) + i % 8 % across / wide
 }
@@ -125,6 +155,7 @@ fn field_at(s: &[u8], p: usize, bits: usize, n: usize) -> usize
 
 // The byte of a block's data s that gives pixel i.
 pub fn pattern_source(
+    colour: usize,
     bits: usize,
     across: usize,
     down: usize,
@@ -133,10 +164,10 @@ pub fn pattern_source(
     s: &[u8],
     i: usize,
 ) -> usize
-    requires { ⌜ Shaped (numbers bits across down wide high) × (patternLength (numbers bits across down wide high) ≤ length (now s)) × (i < 64) ⌝ }
-    ensures { λ r. ⌜ r ≡ patternSource (numbers bits across down wide high) (now (s .entry)) i ⌝ }
+    requires { ⌜ Shaped (numbers colour bits across down wide high) × (patternLength (numbers colour bits across down wide high) ≤ length (now s)) × (i < 64) ⌝ }
+    ensures { λ r. ⌜ r ≡ patternSource (numbers colour bits across down wide high) (now (s .entry)) i ⌝ }
 {
-    let part = part_start(bits, across, down, wide, high, i);
-    let n = field_number(bits, across, down, wide, high, i);
-    part + field_at(s, part + 2 * bits, bits, n)
+    let part = part_start(colour, bits, across, down, wide, high, i);
+    let n = field_number(colour, bits, across, down, wide, high, i);
+    part + colour * field_at(s, part + colour * (2 * bits), bits, n)
 }

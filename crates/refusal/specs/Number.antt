@@ -1,8 +1,8 @@
--- Document 01, "Numbers of refusal", and document 02, W5 (17 to 19), W8 (21), W9 (22), W10 (23) and W12 (24 to 26): the number and the block that each refusal carries.
+-- Document 01, "Numbers of refusal", and document 02, W5 (17 to 19), W7 (20), W8 (21), W9 (22), W10 (23) and W12 (24 to 26): the number and the block that each refusal carries.
 -- Assumes nothing.
 use Prim.Native.Nat.{ℕ}
 use Rattle.refusal.specs.declared.Refusal.{Refusal}
-use Rattle.refusal.specs.declared.Refusal.the-variants.{Header, FilmEnd, ChunkEnd, Opcode, BodyLength, Size, Palette, Buffer, NoMap, MapLength, Place, Code, DataShort, CopyOutside, LeftOver, State, SoundFormat, SoundLength, Room, NoSize, Position, PacketLength, FrameShort, SkipOutside, EndMark}
+use Rattle.refusal.specs.declared.Refusal.the-variants.{Header, FilmEnd, ChunkEnd, Opcode, BodyLength, Size, Palette, Buffer, NoMap, MapLength, Place, Code, DataShort, CopyOutside, LeftOver, State, SoundFormat, SoundLength, Room, Parts, NoSize, Position, PacketLength, FrameShort, SkipOutside, EndMark}
 
 abbrev pub number : Refusal → ℕ
 number Header = 1
@@ -24,6 +24,7 @@ number State = 16
 number SoundFormat = 17
 number SoundLength = 18
 number Room = 19
+number Parts = 20
 number NoSize = 21
 number Position = 22
 number PacketLength = 23
@@ -52,6 +53,7 @@ block State = 0
 block SoundFormat = 0
 block SoundLength = 0
 block Room = 0
+block Parts = 0
 block NoSize = 0
 block Position = 0
 block PacketLength = 0

@@ -13,7 +13,7 @@ pub enum Refusal {
     Opcode,
     // An opcode's body has the wrong length.
     BodyLength,
-    // The size or the true-colour word is wrong, or a size is known already.
+    // The size is wrong, or one is known already.
     Size,
     // A palette range or component is too large.
     Palette,
@@ -41,6 +41,8 @@ pub enum Refusal {
     SoundLength,
     // The output room is too small.
     Room,
+    // The second part of a packet with true colour begins outside it.
+    Parts,
     // The film ends before a size.
     NoSize,
     // The position lies outside the picture.
@@ -78,6 +80,7 @@ pub fn number_of(r: Refusal) -> u8
         Refusal::SoundFormat => 17,
         Refusal::SoundLength => 18,
         Refusal::Room => 19,
+        Refusal::Parts => 20,
         Refusal::NoSize => 21,
         Refusal::Position => 22,
         Refusal::PacketLength => 23,
@@ -110,6 +113,7 @@ pub fn block_of(r: Refusal) -> usize
         Refusal::SoundFormat => 0,
         Refusal::SoundLength => 0,
         Refusal::Room => 0,
+        Refusal::Parts => 0,
         Refusal::NoSize => 0,
         Refusal::Position => 0,
         Refusal::PacketLength => 0,

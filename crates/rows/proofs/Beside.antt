@@ -7,7 +7,7 @@ use native.Mathlib.Nat.{add-zero}
 use native.Mathlib.Omega.{arith}
 use lib.ListN.{length, getD, set, List·getD-append}
 use lib.Seq.{getD-append-add}
-use Rattle.block.specs.Block.{kindOf}
+use Rattle.block.specs.Block.{byteKind}
 use Rattle.stores.specs.Stores.{Plan, further}
 use Rattle.stores.specs.Loop.{Next}
 use Rattle.stores.proofs.Order.{further-add, begun-further, further-long}
@@ -40,7 +40,7 @@ module _ {d : Plan} {p n : ℕ} {b₀ : List ℕ} {to : ℕ} {value : ℕ → �
 
 -- the numbers of a block's pixels are small
 pub beside-low : (code : ℕ) (s front : List ℕ) (w x y : ℕ) {p n : ℕ} {b : List ℕ} {to : ℕ} {value : ℕ → ℕ} → Beside (planOf code s front w x y) p n b to value → p + n ≤ 64
-beside-low code s front w x y r = omega (arith, r .listed, count-few (kindOf code s))
+beside-low code s front w x y r = omega (arith, r .listed, count-few (byteKind code s))
 
 -- ---- four
 
@@ -112,25 +112,43 @@ module _ {d : Plan} {p : ℕ} {b : List ℕ} {to : ℕ} (l m : List ℕ) (long :
 
 -- ---- eight that are read before the first is stored
 
-module _ (t : List ℕ) (from : ℕ) where
-  abbrev pub found : List ℕ
-  found =
-      colours (getD t from 0) (getD t (from + 1) 0) (getD t (from + 2) 0) (getD t (from + 3) 0)
-      ++ colours (getD t (from + 4) 0) (getD t (from + 5) 0) (getD t (from + 6) 0) (getD t (from + 7) 0)
+-- eight colours that are f 0 to f 7
+pub record Eight (f : ℕ → ℕ) (a b c d e g h i : ℕ) : Type 0 where
+  pub first : a ≡ f 0
+  pub second : b ≡ f 1
+  pub third : c ≡ f 2
+  pub fourth : d ≡ f 3
+  pub fifth : e ≡ f 4
+  pub sixth : g ≡ f 5
+  pub seventh : h ≡ f 6
+  pub eighth : i ≡ f 7
 
-  element : (i : ℕ) → i < 8 → getD found i 0 ≡ getD t (from + i) 0
-  element zero h = ap (λ (n : ℕ). getD t n 0) (sym (add-zero from))
-  element (suc zero) h = refl
-  element (suc (suc zero)) h = refl
-  element (suc (suc (suc zero))) h = refl
-  element (suc (suc (suc (suc zero)))) h = refl
-  element (suc (suc (suc (suc (suc zero))))) h = refl
-  element (suc (suc (suc (suc (suc (suc zero)))))) h = refl
-  element (suc (suc (suc (suc (suc (suc (suc zero))))))) h = refl
+module _ (f : ℕ → ℕ) {u₁ u₂ u₃ u₄ u₅ u₆ u₇ u₈ : ℕ} (q : Eight f u₁ u₂ u₃ u₄ u₅ u₆ u₇ u₈) where
+  element : (i : ℕ) → i < 8 → getD (colours u₁ u₂ u₃ u₄ ++ colours u₅ u₆ u₇ u₈) i 0 ≡ f i
+  element zero h = q .first
+  element (suc zero) h = q .second
+  element (suc (suc zero)) h = q .third
+  element (suc (suc (suc zero))) h = q .fourth
+  element (suc (suc (suc (suc zero)))) h = q .fifth
+  element (suc (suc (suc (suc (suc zero))))) h = q .sixth
+  element (suc (suc (suc (suc (suc (suc zero)))))) h = q .seventh
+  element (suc (suc (suc (suc (suc (suc (suc zero))))))) h = q .eighth
   element (suc (suc (suc (suc (suc (suc (suc (suc i)))))))) h = absurd (past i h)
     where
       past : (i : ℕ) → suc (suc (suc (suc (suc (suc (suc (suc i))))))) < 8 → ⊥
       past i h = omega arith
 
-  pub beside-read : {d : Plan} {p : ℕ} {b : List ℕ} {to : ℕ} → Beside d p 8 b to (λ i. getD t (from + i) 0) → Beside d p 8 b to (λ i. getD found i 0)
-  beside-read r = record { begun = r .begun; listed = r .listed; targets = r .targets; values = λ i h. element i h ∙ r .values i h; inside = r .inside }
+  pub eight-read : {d : Plan} {p : ℕ} {b : List ℕ} {to : ℕ} → Beside d p 8 b to f → Beside d p 8 b to (λ i. getD (colours u₁ u₂ u₃ u₄ ++ colours u₅ u₆ u₇ u₈) i 0)
+  eight-read r = record { begun = r .begun; listed = r .listed; targets = r .targets; values = λ i h. element i h ∙ r .values i h; inside = r .inside }
+
+-- the first of those that f reads from index from on
+pub read-first : (f : ℕ → ℕ) (from : ℕ) → f from ≡ f (from + 0)
+read-first f from = ap f (sym (add-zero from))
+
+-- bytes of t
+module _ (t : List ℕ) (from : ℕ) where
+  pub beside-read : {d : Plan} {p : ℕ} {b : List ℕ} {to : ℕ} → Beside d p 8 b to (λ i. getD t (from + i) 0)
+      → Beside d p 8 b to (λ i. getD (colours (getD t from 0) (getD t (from + 1) 0) (getD t (from + 2) 0) (getD t (from + 3) 0) ++ colours (getD t (from + 4) 0) (getD t (from + 5) 0) (getD t (from + 6) 0) (getD t (from + 7) 0)) i 0)
+  beside-read =
+      eight-read (λ i. getD t (from + i) 0)
+      (record { first = read-first (λ n. getD t n 0) from; second = refl; third = refl; fourth = refl; fifth = refl; sixth = refl; seventh = refl; eighth = refl })

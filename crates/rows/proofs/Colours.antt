@@ -1,17 +1,18 @@
 -- Colours read once for several pixels: the value that a pixel takes from them is the one that the block's rule gives it.
 -- Assumes nothing.
 use mathlib.Core.Path.{_≡_, refl, ap, subst, _∙_}
+use mathlib.Core.Bool.{Bool}
 use mathlib.Core.List.{List}
 use Prim.Native.Nat.{ℕ, zero, suc, _+_, _*_, _/_, _%_, _≤_, _<_}
 use native.Mathlib.Omega.{arith}
 use lib.ListN.{length, getD}
 use Rattle.block.specs.declared.Source.the-variants.{Data}
-use Rattle.block.specs.Block.{Side, one, two, four, eight, pixels, cellSource, ditherSource}
+use Rattle.block.specs.Block.{Side, one, two, four, eight, pixels, Kind, colourBytes, cellSource, ditherSource, colourAt, stored}
 use Rattle.block.specs.Asked.{Sided}
 use Rattle.motion.specs.Motion.{rasterIndex}
-use Rattle.stores.specs.Stores.{further}
+use Rattle.stores.specs.Stores.{Plan, further}
 use Rattle.stores.specs.Loop.{Begun}
-use Rattle.paint.specs.Value.{planOf}
+use Rattle.paint.specs.Value.{Older, blockPlan}
 use Rattle.paint.specs.Asked.{Square}
 use Rattle.paint.proofs.Painting.{Painting, painting-start, painting-by, painting-length, painting-begun}
 use Rattle.rows.specs.Row.{colours, Sources, Beside, Band}
@@ -91,33 +92,35 @@ module _ {side p : ℕ} (z : Band side p) (r i : ℕ) (even : r % 8 ≡ 0) (l : 
       rw (a, b, c, d, band-both .down, band-both .across)
 
 -- the colours of a band: those of pixels 0, 2, 4 and 6 of its first row
-pub record Read (side p : ℕ) (s : List ℕ) (a b c d : ℕ) : Type 0 where
-  pub first : a ≡ getD s (cellSource side p) 0
-  pub second : b ≡ getD s (cellSource side (p + 2)) 0
-  pub third : c ≡ getD s (cellSource side (p + 4)) 0
-  pub fourth : d ≡ getD s (cellSource side (p + 6)) 0
+abbrev pub cellColour : Bool → ℕ → List ℕ → ℕ → ℕ
+cellColour deep side s i = stored deep (colourAt deep s (colourBytes deep (cellSource side i)))
 
-band-value : {side p : ℕ} (z : Band side p) (s : List ℕ) (a b c d : ℕ) → Read side p s a b c d
-    → (r i : ℕ) → r % 8 ≡ 0 → r < 8 * side → i < 8 → getD (colours a b c d) (i / 2 % 4) 0 ≡ getD s (cellSource side ((p + r) + i)) 0
-band-value {side} {p} z s a b c d q r i even l h =
+pub record Read (deep : Bool) (side p : ℕ) (s : List ℕ) (a b c d : ℕ) : Type 0 where
+  pub first : a ≡ cellColour deep side s p
+  pub second : b ≡ cellColour deep side s (p + 2)
+  pub third : c ≡ cellColour deep side s (p + 4)
+  pub fourth : d ≡ cellColour deep side s (p + 6)
+
+band-value : (deep : Bool) {side p : ℕ} (z : Band side p) (s : List ℕ) (a b c d : ℕ) → Read deep side p s a b c d
+    → (r i : ℕ) → r % 8 ≡ 0 → r < 8 * side → i < 8 → getD (colours a b c d) (i / 2 % 4) 0 ≡ cellColour deep side s ((p + r) + i)
+band-value deep {side} {p} z s a b c d q r i even l h =
     let e : p ≡ p + 0 * 2 = omega arith in
     let f : p + (r + i) ≡ (p + r) + i = omega arith in
-    colour-is (λ (n : ℕ). getD s (cellSource side (p + n * 2)) 0) a b c d (q .first ∙ ap (λ (n : ℕ). getD s (cellSource side n) 0) e) (q .second) (q .third) (q .fourth) (i / 2 % 4) (omega arith)
-    ∙ ap (λ (n : ℕ). getD s n 0) (band-cell z r i even l h ∙ ap (cellSource side) f)
+    colour-is (λ (n : ℕ). cellColour deep side s (p + n * 2)) a b c d (q .first ∙ ap (cellColour deep side s) e) (q .second) (q .third) (q .fourth) (i / 2 % 4) (omega arith)
+    ∙ ap (λ (n : ℕ). stored deep (colourAt deep s (colourBytes deep n))) (band-cell z r i even l h ∙ ap (cellSource side) f)
 
 -- the loop over the rows of a band: after each the picture is as the band's pixels up to there leave it
-pub record Banded (code : ℕ) (s front : List ℕ) (w x y p side : ℕ) (b₀ b : List ℕ) (at r : ℕ) : Type 0 where
+pub record Banded (d : Plan) (w x y p side : ℕ) (b₀ b : List ℕ) (at r : ℕ) : Type 0 where
   pub even : r % 8 ≡ 0
   pub place : at ≡ rasterIndex w x y (p + r)
-  pub painting : Painting (planOf code s front w x y) p b₀ (8 * side) b r
+  pub painting : Painting d p b₀ (8 * side) b r
 
-pub banded-start : (code : ℕ) (s front : List ℕ) (w x y p side : ℕ) (b : List ℕ) (to : ℕ) → to ≡ rasterIndex w x y p
-    → Banded code s front w x y p side b b to 0
-banded-start code s front w x y p side b to e =
+pub banded-start : (d : Plan) (w x y p side : ℕ) (b : List ℕ) (to : ℕ) → to ≡ rasterIndex w x y p → Banded d w x y p side b b to 0
+banded-start d w x y p side b to e =
     let z : p ≡ p + 0 = omega arith in
     record { even = refl; place = e ∙ ap (rasterIndex w x y) z; painting = painting-start _ _ _ _ }
 
-module _ {code : ℕ} {s front : List ℕ} {w x y p side : ℕ} {b₀ b : List ℕ} {at r : ℕ} (g : Banded code s front w x y p side b₀ b at r)
+module _ {d : Plan} {w x y p side : ℕ} {b₀ b : List ℕ} {at r : ℕ} (g : Banded d w x y p side b₀ b at r)
     (z : Band side p) (q : Square w x y (length b₀)) (l : r < 8 * side) where
   pub banded-small : p + r < 64
   banded-small = omega (arith, band-room z .room)
@@ -125,15 +128,7 @@ module _ {code : ℕ} {s front : List ℕ} {w x y p side : ℕ} {b₀ b : List �
   pub banded-low : at + w ≤ 320000
   banded-low = row-low w x y (p + r) at (g .place) q banded-small
 
-  -- a row asks, as the block does
-  pub banded-beside : Sources code s w x y (λ i. Data (cellSource side i)) → Begun (planOf code s front w x y) 0 p b₀ → {u₁ u₂ u₃ u₄ : ℕ} → Read side p s u₁ u₂ u₃ u₄
-      → Beside (planOf code s front w x y) (p + r) 8 b at (λ i. getD (colours u₁ u₂ u₃ u₄) (i / 2 % 4) 0)
-  banded-beside k o {u₁} {u₂} {u₃} {u₄} c =
-      data-beside front k (omega (arith, band-room z .row, g .even)) banded-small (g .place)
-      (square-kept q (painting-length _ _ _ _ _ _ (g .painting))) (painting-begun _ _ _ _ _ _ (g .painting) o)
-      (λ i. getD (colours u₁ u₂ u₃ u₄) (i / 2 % 4) 0) (λ i h. band-value z s u₁ u₂ u₃ u₄ c r i (g .even) l h)
-
-  pub banded-more : {b′ : List ℕ} → b′ ≡ further (planOf code s front w x y) 0 b (p + r) 8 → Banded code s front w x y p side b₀ b′ (at + w) (r + 8)
+  pub banded-more : {b′ : List ℕ} → b′ ≡ further d 0 b (p + r) 8 → Banded d w x y p side b₀ b′ (at + w) (r + 8)
   banded-more {b′} e =
       let f : (p + r) + 8 ≡ p + (r + 8) = omega arith in
       record {
@@ -141,6 +136,15 @@ module _ {code : ℕ} {s front : List ℕ} {w x y p side : ℕ} {b₀ b : List �
         place = row-below w x y (p + r) at (g .place) ∙ ap (rasterIndex w x y) f;
         painting = painting-by _ _ _ _ _ _ (g .painting) 8 (omega (arith, g .even)) b′ e;
       }
+
+-- a row asks, as the block does
+pub banded-beside : (older : Older) {deep : Bool} {κ : Kind} {s : List ℕ} {w x y p side : ℕ} {b₀ b : List ℕ} {at r : ℕ} → Banded (blockPlan deep κ s w x y older) w x y p side b₀ b at r
+    → Band side p → Square w x y (length b₀) → r < 8 * side → Sources deep κ s w x y (λ i. Data (colourBytes deep (cellSource side i))) → Begun (blockPlan deep κ s w x y older) 0 p b₀
+    → {u₁ u₂ u₃ u₄ : ℕ} → Read deep side p s u₁ u₂ u₃ u₄ → Beside (blockPlan deep κ s w x y older) (p + r) 8 b at (λ i. getD (colours u₁ u₂ u₃ u₄) (i / 2 % 4) 0)
+banded-beside older {deep} {s = s} {r = r} g z q l k o {u₁} {u₂} {u₃} {u₄} c =
+    data-beside older k (omega (arith, band-room z .row, g .even)) (banded-small g z q l) (g .place)
+    (square-kept q (painting-length _ _ _ _ _ _ (g .painting))) (painting-begun _ _ _ _ _ _ (g .painting) o)
+    (λ i. getD (colours u₁ u₂ u₃ u₄) (i / 2 % 4) 0) (λ i h. band-value deep z s u₁ u₂ u₃ u₄ c r i (g .even) l h)
 
 -- ---- code F
 

@@ -2,6 +2,7 @@
 -- and for what a row asks.
 -- Assumes nothing.
 use mathlib.Core.Path.{_≡_, refl, sym, ap, subst, _∙_}
+use mathlib.Core.Bool.{Bool, cond}
 use mathlib.Core.List.{List}
 use Prim.Native.Nat.{ℕ, _+_, _*_, _/_, _%_, _≤_, _<_}
 use native.Mathlib.Nat.{mul-le-mul, zero-add}
@@ -9,13 +10,14 @@ use native.Mathlib.Omega.{arith}
 use lib.ListN.{length, getD}
 use Rattle.motion.specs.Motion.{rasterIndex}
 use Rattle.motion.proofs.Vectors.{row-small}
+use Rattle.block.specs.declared.Picture.{Picture}
 use Rattle.block.specs.declared.Source.{Source}
-use Rattle.block.specs.declared.Source.the-variants.{Data, Front, Back}
-use Rattle.block.specs.Block.{fetched}
+use Rattle.block.specs.declared.Source.the-variants.{Data, Copied}
+use Rattle.block.specs.Block.{Kind, colourAt, stored, pictured, fetched}
 use Rattle.stores.specs.Stores.{Plan, firstPixels, further}
 use Rattle.stores.specs.Loop.{Begun}
 use Rattle.stores.proofs.Order.{further-first, further-off, begun-none}
-use Rattle.paint.specs.Value.{pixelValue, planOf}
+use Rattle.paint.specs.Value.{Older, pixelValue, blockPlan}
 use Rattle.paint.specs.Asked.{Square}
 use Rattle.paint.proofs.Painting.{Painting, painting-start, painting-by, painting-end, painting-length, painting-begun, square-inside, square-below}
 use Rattle.rows.specs.Row.{Sources, Beside, Disjoint}
@@ -101,48 +103,61 @@ module _ (w x y p to : ℕ) (z : p % 8 ≡ 0) (e : to ≡ rasterIndex w x y p) w
 
 -- ---- what a row asks
 
-module _ (front : List ℕ) {code : ℕ} {s : List ℕ} {w x y : ℕ} {from : ℕ → Source} (q : Sources code s w x y from) {p to : ℕ} (z : p % 8 ≡ 0) (h : p < 64)
-    (e : to ≡ rasterIndex w x y p) {b : List ℕ} (l : Square w x y (length b)) (g : Begun (planOf code s front w x y) 0 p b) where
-  -- its values are what stands at the block's sources
-  pub row-beside : (value : ℕ → ℕ) → ((i : ℕ) → i < 8 → value i ≡ fetched (from (p + i)) s front (further (planOf code s front w x y) 0 b p i))
-      → Beside (planOf code s front w x y) p 8 b to value
+module _ (older : Older) {deep : Bool} {κ : Kind} {s : List ℕ} {w x y : ℕ} {from : ℕ → Source} (q : Sources deep κ s w x y from) {p to : ℕ} (z : p % 8 ≡ 0) (h : p < 64)
+    (e : to ≡ rasterIndex w x y p) {b : List ℕ} (l : Square w x y (length b)) (g : Begun (blockPlan deep κ s w x y older) 0 p b) where
+  -- its values are what stands at the block's sources; new i is the picture as the row's first i pixels leave it
+  pub row-beside : (value : ℕ → ℕ)
+      → ((i : ℕ) → i < 8 → (new : List ℕ) → new ≡ further (blockPlan deep κ s w x y older) 0 b p i → value i ≡ fetched deep (from (p + i)) s (older .last) new (cond deep (older .oldest) new))
+      → Beside (blockPlan deep κ s w x y older) p 8 b to value
   unfolding pixelValue
   row-beside value vs =
       record {
         begun = g;
         listed = omega (arith, q .all, z);
         targets = λ i k. row-target w x y p to z e i (p + i) k refl;
-        values = λ i k. vs i k ∙ ap (λ (u : Source). fetched u s front (further (planOf code s front w x y) 0 b p i)) (q .each (p + i) (omega (arith, z)));
+        values = λ i k. vs i k (further (blockPlan deep κ s w x y older) 0 b p i) refl ∙ ap (λ (u : Source). fetched deep u s (older .last) (further (blockPlan deep κ s w x y older) 0 b p i) (cond deep (older .oldest) (further (blockPlan deep κ s w x y older) 0 b p i))) (q .each (p + i) (omega (arith, z)));
         inside = row-inside w x y p to z e l h;
       }
 
--- of a copy of front
-pub front-beside : (front : List ℕ) (sx sy : ℕ) {code : ℕ} {s : List ℕ} {w x y : ℕ} → Sources code s w x y (λ i. Front (rasterIndex w sx sy i)) → {p from to : ℕ}
+-- of a copy of a picture t that no store changes
+pub fixed-beside : (older : Older) (t : List ℕ) (sx sy : ℕ) {deep : Bool} {κ : Kind} {s : List ℕ} {w x y : ℕ} (q : Picture)
+    → ((new : List ℕ) → t ≡ pictured q (older .last) new (cond deep (older .oldest) new))
+    → Sources deep κ s w x y (λ i. Copied q (rasterIndex w sx sy i)) → {p from to : ℕ}
     → p % 8 ≡ 0 → p < 64 → from ≡ rasterIndex w sx sy p → to ≡ rasterIndex w x y p → {b : List ℕ} → Square w x y (length b)
-    → Begun (planOf code s front w x y) 0 p b → Beside (planOf code s front w x y) p 8 b to (λ i. getD front (from + i) 0)
+    → Begun (blockPlan deep κ s w x y older) 0 p b → Beside (blockPlan deep κ s w x y older) p 8 b to (λ i. stored deep (getD t (from + i) 0))
 unfolding fetched
-front-beside front sx sy {w = w} q {p} {from} z h f e l g =
-    row-beside front q z h e l g (λ i. getD front (from + i) 0) (λ i k. ap (λ (n : ℕ). getD front n 0) (row-target w sx sy p from z f i (p + i) k refl))
+fixed-beside older t sx sy {deep} {w = w} q fixed k {p} {from} z h f e l g =
+    row-beside older k z h e l g (λ i. stored deep (getD t (from + i) 0))
+    (λ i m new _. ap (stored deep) (ap (λ (u : List ℕ). getD u (from + i) 0) (fixed new) ∙ ap (λ (n : ℕ). getD (pictured q (older .last) new (cond deep (older .oldest) new)) n 0) (row-target w sx sy p from z f i (p + i) m refl)))
 
--- of a copy of back itself: the pixels stored before one is read are none that is read
-pub back-beside : (front : List ℕ) (sx sy : ℕ) {code : ℕ} {s : List ℕ} {w x y : ℕ} → Sources code s w x y (λ i. Back (rasterIndex w sx sy i))
+-- of a copy of the picture that is drawn on: the pixels stored before one is read are none that is read
+pub drawn-beside : (older : Older) (sx sy : ℕ) {deep : Bool} {κ : Kind} {s : List ℕ} {w x y : ℕ} (q : Picture)
+    → ((new : List ℕ) → pictured q (older .last) new (cond deep (older .oldest) new) ≡ new)
+    → Sources deep κ s w x y (λ i. Copied q (rasterIndex w sx sy i))
     → Disjoint (rasterIndex w sx sy 0) (rasterIndex w x y 0) → {p from to : ℕ}
     → p % 8 ≡ 0 → p < 64 → from ≡ rasterIndex w sx sy p → to ≡ rasterIndex w x y p → {b : List ℕ} → Square w x y (length b)
-    → Begun (planOf code s front w x y) 0 p b → Beside (planOf code s front w x y) p 8 b to (λ i. getD b (from + i) 0)
+    → Begun (blockPlan deep κ s w x y older) 0 p b → Beside (blockPlan deep κ s w x y older) p 8 b to (λ i. stored deep (getD b (from + i) 0))
 unfolding fetched rasterIndex
-back-beside front sx sy {code} {s} {w} {x} {y} q apart {p} {from} {to} z h f e {b} l g =
-    row-beside front q z h e l g (λ i. getD b (from + i) 0)
-    (λ i k.
-    sym (further-off (planOf code s front w x y) 0 b p i (from + i) (λ j m v. past i k j m (v ∙ sym (row-target w x y p to z e j (p + j) (omega arith) refl))))
-    ∙ ap (λ (n : ℕ). getD (further (planOf code s front w x y) 0 b p i) n 0) (row-target w sx sy p from z f i (p + i) k refl))
+drawn-beside older sx sy {deep} {κ} {s} {w} {x} {y} q drawn k apart {p} {from} {to} z h f e {b} l g =
+    row-beside older k z h e l g (λ i. stored deep (getD b (from + i) 0)) (λ i m new n. ap (stored deep) (read i m new n))
   where
     past : (i : ℕ) → i < 8 → (j : ℕ) → j < i → from + i ≡ to + j → ⊥
     past i k j m v = omega (arith, e, f, apart, v)
 
--- of bytes of the data
-pub data-beside : (front : List ℕ) {code : ℕ} {s : List ℕ} {w x y : ℕ} {at : ℕ → ℕ} → Sources code s w x y (λ i. Data (at i)) → {p to : ℕ}
+    kept-off : (i : ℕ) → i < 8 → getD b (from + i) 0 ≡ getD (further (blockPlan deep κ s w x y older) 0 b p i) (from + i) 0
+    kept-off i k =
+        sym (further-off (blockPlan deep κ s w x y older) 0 b p i (from + i) (λ j m v. past i k j m (v ∙ sym (row-target w x y p to z e j (p + j) (omega arith) refl))))
+
+    read : (i : ℕ) → i < 8 → (new : List ℕ) → new ≡ further (blockPlan deep κ s w x y older) 0 b p i
+        → getD b (from + i) 0 ≡ getD (pictured q (older .last) new (cond deep (older .oldest) new)) (rasterIndex w sx sy (p + i)) 0
+    read i k new n =
+        kept-off i k ∙ ap (λ (u : List ℕ). getD u (from + i) 0) (sym n ∙ sym (drawn new))
+        ∙ ap (λ (m : ℕ). getD (pictured q (older .last) new (cond deep (older .oldest) new)) m 0) (row-target w sx sy p from z f i (p + i) k refl)
+
+-- of colours of the data
+pub data-beside : (older : Older) {deep : Bool} {κ : Kind} {s : List ℕ} {w x y : ℕ} {at : ℕ → ℕ} → Sources deep κ s w x y (λ i. Data (at i)) → {p to : ℕ}
     → p % 8 ≡ 0 → p < 64 → to ≡ rasterIndex w x y p → {b : List ℕ} → Square w x y (length b)
-    → Begun (planOf code s front w x y) 0 p b → (value : ℕ → ℕ) → ((i : ℕ) → i < 8 → value i ≡ getD s (at (p + i)) 0)
-    → Beside (planOf code s front w x y) p 8 b to value
+    → Begun (blockPlan deep κ s w x y older) 0 p b → (value : ℕ → ℕ) → ((i : ℕ) → i < 8 → value i ≡ stored deep (colourAt deep s (at (p + i))))
+    → Beside (blockPlan deep κ s w x y older) p 8 b to value
 unfolding fetched
-data-beside front q z h e l g value vs = row-beside front q z h e l g value vs
+data-beside older q z h e l g value vs = row-beside older q z h e l g value (λ i k new _. vs i k)

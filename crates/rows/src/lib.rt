@@ -1,4 +1,4 @@
-// A whole block of each family, row by row: as quick as stores of one pixel allow. A row's index is that of the row above and the width: a sum, not a product.
+// A whole block of each family of an 8-bit film, row by row: as quick as stores of one pixel allow. A row's index is that of the row above and the width: a sum, not a product.
 // Parameters that no code reads name the list of the block's stores, for the contracts. The compiler leaves them out.
 use block::cell_source;
 use motion::raster_index;
@@ -11,14 +11,15 @@ ghost use lib.ListN.{length, getD};
 ghost use Rattle.pattern.specs.Form.{numbers};
 ghost use Rattle.pattern.specs.Pattern.{Shaped, patternLength, patternSource};
 ghost use Rattle.motion.specs.Motion.{rasterIndex};
-ghost use Rattle.block.specs.declared.Source.the-variants.{Data, Front, Back};
+ghost use Rattle.block.specs.declared.Picture.the-variants.{Last};
+ghost use Rattle.block.specs.declared.Source.the-variants.{Data, Copied};
 ghost use Rattle.block.specs.Block.{cellSource, ditherSource};
 ghost use Rattle.block.specs.Asked.{Sided};
 ghost use Rattle.stores.specs.Stores.{firstPixels, further};
 ghost use Rattle.stores.specs.Loop.{Begun};
 ghost use Rattle.paint.specs.Value.{planOf};
 ghost use Rattle.paint.specs.Asked.{Square};
-ghost use Rattle.rows.specs.Row.{colours, Sources, Beside, Disjoint, Band};
+ghost use Rattle.rows.specs.Row.{colours, ByteSources, BackSources, Beside, Disjoint, Band};
 
 // Four pixels side by side, from pixel p on.
 fn put_four(
@@ -112,7 +113,7 @@ pub fn whole_front(
     sx: usize,
     sy: usize,
 )
-    requires { ⌜ Sources code (now s) w x y (λ i. Front (rasterIndex w sx sy i)) × Square w sx sy (length (now front)) × Square w x y (length (now back)) ⌝ }
+    requires { ⌜ ByteSources code (now s) w x y (λ i. Copied Last (rasterIndex w sx sy i)) × Square w sx sy (length (now front)) × Square w x y (length (now back)) ⌝ }
     ensures { λ _. ⌜ now (back .exit) ≡ firstPixels (planOf code (now (s .entry)) (now (front .entry)) w x y) 0 (now (back .entry)) 64 ⌝ }
 {
     let mut from = raster_index(w, sx, sy, 0);
@@ -165,7 +166,7 @@ pub fn whole_back(
     sx: usize,
     sy: usize,
 )
-    requires { ⌜ Sources code (now s) w x y (λ i. Back (rasterIndex w sx sy i)) × Square w sx sy (length (now back)) × Square w x y (length (now back)) × Disjoint (rasterIndex w sx sy 0) (rasterIndex w x y 0) ⌝ }
+    requires { ⌜ BackSources code (now s) w x y (λ i. rasterIndex w sx sy i) × Square w sx sy (length (now back)) × Square w x y (length (now back)) × Disjoint (rasterIndex w sx sy 0) (rasterIndex w x y 0) ⌝ }
     ensures { λ _. ⌜ now (back .exit) ≡ firstPixels (planOf code (now (s .entry)) (now (front .entry)) w x y) 0 (now (back .entry)) 64 ⌝ }
 {
     let mut from = raster_index(w, sx, sy, 0);
@@ -181,7 +182,7 @@ pub fn whole_back(
 
 // Code B: a byte of s for each pixel.
 pub fn whole_raw(code: u8, s: &[u8], front: &[u8], back: &mut [u8], w: usize, x: usize, y: usize)
-    requires { ⌜ Sources code (now s) w x y (λ i. Data (cellSource 1 i)) × (64 ≤ length (now s)) × Square w x y (length (now back)) ⌝ }
+    requires { ⌜ ByteSources code (now s) w x y (λ i. Data (cellSource 1 i)) × (64 ≤ length (now s)) × Square w x y (length (now back)) ⌝ }
     ensures { λ _. ⌜ now (back .exit) ≡ firstPixels (planOf code (now (s .entry)) (now (front .entry)) w x y) 0 (now (back .entry)) 64 ⌝ }
 {
     let mut to = raster_index(w, x, y, 0);
@@ -265,7 +266,7 @@ fn cells_band(
     side: usize,
     to: usize,
 )
-    requires { ⌜ Sources code (now s) w x y (λ i. Data (cellSource side i)) × Band side p × (8 / side * (8 / side) ≤ length (now s)) × Square w x y (length (now back)) × Begun (planOf code (now s) (now front) w x y) 0 p (now back) × (to ≡ rasterIndex w x y p) ⌝ }
+    requires { ⌜ ByteSources code (now s) w x y (λ i. Data (cellSource side i)) × Band side p × (8 / side * (8 / side) ≤ length (now s)) × Square w x y (length (now back)) × Begun (planOf code (now s) (now front) w x y) 0 p (now back) × (to ≡ rasterIndex w x y p) ⌝ }
     ensures { λ _. ⌜ now (back .exit) ≡ further (planOf code (now (s .entry)) (now (front .entry)) w x y) 0 (now (back .entry)) p (8 * side) ⌝ }
 {
     let a = cell_colour(side, s, p);
@@ -292,7 +293,7 @@ pub fn whole_cells(
     y: usize,
     side: usize,
 )
-    requires { ⌜ Sources code (now s) w x y (λ i. Data (cellSource side i)) × Sided side × (1 < side) × (8 / side * (8 / side) ≤ length (now s)) × Square w x y (length (now back)) ⌝ }
+    requires { ⌜ ByteSources code (now s) w x y (λ i. Data (cellSource side i)) × Sided side × (1 < side) × (8 / side * (8 / side) ≤ length (now s)) × Square w x y (length (now back)) ⌝ }
     ensures { λ _. ⌜ now (back .exit) ≡ firstPixels (planOf code (now (s .entry)) (now (front .entry)) w x y) 0 (now (back .entry)) 64 ⌝ }
 {
     let mut to = raster_index(w, x, y, 0);
@@ -306,7 +307,7 @@ pub fn whole_cells(
 
 // Code F: the two bytes of s in turn, each read once.
 pub fn whole_dither(code: u8, s: &[u8], front: &[u8], back: &mut [u8], w: usize, x: usize, y: usize)
-    requires { ⌜ Sources code (now s) w x y (λ i. Data (ditherSource i)) × (2 ≤ length (now s)) × Square w x y (length (now back)) ⌝ }
+    requires { ⌜ ByteSources code (now s) w x y (λ i. Data (ditherSource i)) × (2 ≤ length (now s)) × Square w x y (length (now back)) ⌝ }
     ensures { λ _. ⌜ now (back .exit) ≡ firstPixels (planOf code (now (s .entry)) (now (front .entry)) w x y) 0 (now (back .entry)) 64 ⌝ }
 {
     let mut a = s[0];
@@ -340,13 +341,13 @@ fn pattern_row(
     high: usize,
     to: usize,
 )
-    requires { ⌜ Shaped (numbers bits across down wide high) × (patternLength (numbers bits across down wide high) ≤ length (now s)) × Beside (planOf code (now s) (now front) w x y) p 8 (now back) to (λ i. getD (now s) (patternSource (numbers bits across down wide high) (now s) (p + i)) 0) ⌝ }
+    requires { ⌜ Shaped (numbers 1 bits across down wide high) × (patternLength (numbers 1 bits across down wide high) ≤ length (now s)) × Beside (planOf code (now s) (now front) w x y) p 8 (now back) to (λ i. getD (now s) (patternSource (numbers 1 bits across down wide high) (now s) (p + i)) 0) ⌝ }
     ensures { λ _. ⌜ now (back .exit) ≡ further (planOf code (now (s .entry)) (now (front .entry)) w x y) 0 (now (back .entry)) p 8 ⌝ }
 {
     let m = across * (8 / across);
     let mut j = 0;
     while j < m {
-        let v = s[pattern_source(bits, across, down, wide, high, s, p + j)];
+        let v = s[pattern_source(1, bits, across, down, wide, high, s, p + j)];
         put(code, s, front, back, w, x, y, p + j, to + j, v);
         j += 1;
     }
@@ -367,7 +368,7 @@ pub fn whole_pattern(
     wide: usize,
     high: usize,
 )
-    requires { ⌜ Sources code (now s) w x y (λ i. Data (patternSource (numbers bits across down wide high) (now s) i)) × Shaped (numbers bits across down wide high) × (patternLength (numbers bits across down wide high) ≤ length (now s)) × Square w x y (length (now back)) ⌝ }
+    requires { ⌜ ByteSources code (now s) w x y (λ i. Data (patternSource (numbers 1 bits across down wide high) (now s) i)) × Shaped (numbers 1 bits across down wide high) × (patternLength (numbers 1 bits across down wide high) ≤ length (now s)) × Square w x y (length (now back)) ⌝ }
     ensures { λ _. ⌜ now (back .exit) ≡ firstPixels (planOf code (now (s .entry)) (now (front .entry)) w x y) 0 (now (back .entry)) 64 ⌝ }
 {
     let mut to = raster_index(w, x, y, 0);

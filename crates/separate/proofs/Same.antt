@@ -29,7 +29,7 @@ use Rattle.heads.specs.Heads.{hears}
 use Rattle.next.specs.Next.{Standing, nextOf}
 use Rattle.next.specs.Next as found
 use Rattle.opcodes.specs.Opcodes.{heardStep}
-use Rattle.film.specs.Film.{Lent, lent, Outcome, part, paletteStep, update, act, actOn, heardBy, hear, takeOn, standing, stepOf}
+use Rattle.film.specs.Film.{Lent, lent, Outcome, part, paletteStep, update, act, actOn, heardBy, hear, takeOn, standing, shortest, stepOf}
 use Rattle.film.proofs.Steps as laws
 use Rattle.begin.proofs.Before.{acts-map, acts-draw, same-next}
 use Rattle.begin.proofs.Twin.{Which, gradient, entries, groups, maps, draws, quiets, which}
@@ -59,10 +59,10 @@ word-part film s n i h = omega (arith, byte-part film s n i h, byte-part film s 
 
 module _ (film : List ℕ) (bytes : Bytes film) (st : State) (z : st .columns ≡ 0) (palette : List ℕ) (place : ℕ) (x y : Beside) (big : Ample x) (big′ : Ample y) where
   abbrev l : Lent
-  l = lent palette (x .first) (x .second) place (x .room)
+  l = lent palette (x .first) (x .second) place (x .room) (x .words)
 
   abbrev m : Lent
-  m = lent palette (y .first) (y .second) place (y .room)
+  m = lent palette (y .first) (y .second) place (y .room) (y .words)
 
   -- all stores that are due are allowed to both
   colours-twin : (p : ℕ) (u : Update) → (verdictOn u palette ≡ accept → length (u .stores) ≤ 1536) → Twin (update st p u (x .allowed .stores) l) (update st p u (y .allowed .stores) m)
@@ -127,5 +127,5 @@ module _ (film : List ℕ) (bytes : Bytes film) (st : State) (z : st .columns �
   pub same-step : Twin (stepBeside x film st palette place) (stepBeside y film st palette place)
   unfolding stepOf
   same-step =
-      rw (same-next film st (length palette) (length (x .first)) (length (x .second)) z, same-next film st (length palette) (length (y .first)) (length (y .second)) z)
-      (standing-twin (nextOf film st (length palette) 0 0))
+      rw (same-next film st (length palette) (shortest st l) z, same-next film st (length palette) (shortest st m) z)
+      (standing-twin (nextOf film st (length palette) 0))

@@ -9,6 +9,7 @@ use lib.ListN.{length}
 use Rattle.sound.specs.Step.{enough}
 use Rattle.state.specs.declared.State.{State}
 use Rattle.opening.specs.Opening.{Opening, started, openingOf}
+use Rattle.film.specs.Film.{words}
 use Rattle.walk.specs.Walk.{Forward}
 use Rattle.begin.specs.Begin.{zeros, allowance, stepBefore, Course, goes, stops, courseOf, Came, until, toSize, kept, beginAt}
 use Rattle.separate.specs.Separate.{Bytes, Beside, Ample, stepBeside, Stepping, there, ends, more, Separately}
@@ -18,7 +19,7 @@ use Rattle.begin.proofs.Until.{roomy, until-sized, until-goes, until-stops, goe
 
 -- what the opening call's definition lends to its steps
 abbrev plain : Beside
-plain = record { first = []; second = []; room = zeros enough; allowed = allowance }
+plain = record { first = []; second = []; room = zeros enough; words = words [] [] []; allowed = allowance }
 
 always : Ample plain
 always = record { room = roomy; stores = ample }

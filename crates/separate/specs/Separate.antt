@@ -9,7 +9,7 @@ use Rattle.draw.specs.declared.Allowed.{Allowed}
 use Rattle.sound.specs.Step.{enough}
 use Rattle.state.specs.declared.State.{State}
 use Rattle.opening.specs.Opening.{started, refuses, openingOf}
-use Rattle.film.specs.Film.{lent, Outcome, stepOf}
+use Rattle.film.specs.Film.{Words, lent, Outcome, stepOf}
 use Rattle.walk.specs.Play.{most}
 use Rattle.begin.specs.Begin.{goes, stops, courseOf, sized, stopped, Came, came, kept, nowhere, beginOf}
 
@@ -22,6 +22,7 @@ pub record Beside : Type 0 where
   pub first : List ℕ
   pub second : List ℕ
   pub room : List ℕ
+  pub words : Words
   pub allowed : Allowed
 
 -- the room and the stores are always enough
@@ -30,7 +31,7 @@ pub record Ample (x : Beside) : Type 0 where
   pub stores : most ≤ x .allowed .stores
 
 abbrev pub stepBeside : Beside → List ℕ → State → List ℕ → ℕ → Outcome
-stepBeside x film st palette place = stepOf film st (x .allowed) (lent palette (x .first) (x .second) place (x .room))
+stepBeside x film st palette place = stepOf film st (x .allowed) (lent palette (x .first) (x .second) place (x .room) (x .words))
 
 -- steps from a state, a palette and a place, until a size appears or one stops
 pub data Stepping (film : List ℕ) : State → List ℕ → ℕ → Came → Type 0 where

@@ -15,40 +15,50 @@ pub at-is : (st : State) (c d : Cursor) (r : State) → c ≡ d → r ≡ at st 
 at-is st c d r e h = h ∙ ap (at st) e
 
 -- a state as code builds it
-abbrev pub state : Cursor → ℕ → ℕ → ℕ → Map → Bool → Sound → State
-state c columns rows front map unsent sound = record { cursor = c; columns = columns; rows = rows; front = front; map = map; unsent = unsent; sound = sound }
+abbrev pub state : Cursor → ℕ → ℕ → Bool → ℕ → Map → Bool → Sound → State
+state c columns rows deep front map unsent sound = record { cursor = c; columns = columns; rows = rows; deep = deep; front = front; map = map; unsent = unsent; sound = sound }
 
 module _ (st : State) (p : ℕ) (c : Cursor) (e : c ≡ cursorBehind (st .cursor) p) where
-  pub sized-is : (columns rows : ℕ) → state c columns rows (st .front) (st .map) (st .unsent) (st .sound) ≡ sized st p columns rows
+  pub sized-is : (columns rows : ℕ) (deep : Bool) → state c columns rows deep (st .front) (st .map) (st .unsent) (st .sound) ≡ sized st p columns rows deep
   unfolding sized
-  sized-is columns rows = ap (λ (x : Cursor). state x columns rows (st .front) (st .map) (st .unsent) (st .sound)) e
+  sized-is columns rows deep = ap (λ (x : Cursor). state x columns rows deep (st .front) (st .map) (st .unsent) (st .sound)) e
 
-  pub sent-is : (f : ℕ) → f ≡ shownNext (st .unsent) (st .front) → state c (st .columns) (st .rows) f (st .map) false (st .sound) ≡ sent st p
+  pub sent-is : (f : ℕ) → f ≡ shownNext (st .deep) (st .unsent) (st .front) → state c (st .columns) (st .rows) (st .deep) f (st .map) false (st .sound) ≡ sent st p
   unfolding sent
   sent-is f q =
-      ap (λ (x : Cursor). state x (st .columns) (st .rows) f (st .map) false (st .sound)) e
-      ∙ ap (λ (x : ℕ). state (cursorBehind (st .cursor) p) (st .columns) (st .rows) x (st .map) false (st .sound)) q
+      ap (λ (x : Cursor). state x (st .columns) (st .rows) (st .deep) f (st .map) false (st .sound)) e
+      ∙ ap (λ (x : ℕ). state (cursorBehind (st .cursor) p) (st .columns) (st .rows) (st .deep) x (st .map) false (st .sound)) q
 
-  pub mapped-is : (map : Map) → state c (st .columns) (st .rows) (st .front) map (st .unsent) (st .sound) ≡ mapped st p map
+  pub mapped-is : (map : Map) → state c (st .columns) (st .rows) (st .deep) (st .front) map (st .unsent) (st .sound) ≡ mapped st p map
   unfolding mapped
-  mapped-is map = ap (λ (x : Cursor). state x (st .columns) (st .rows) (st .front) map (st .unsent) (st .sound)) e
+  mapped-is map = ap (λ (x : Cursor). state x (st .columns) (st .rows) (st .deep) (st .front) map (st .unsent) (st .sound)) e
 
-  pub heard-is : (sound : Sound) → state c (st .columns) (st .rows) (st .front) (st .map) (st .unsent) sound ≡ heard st p sound
+  pub heard-is : (sound : Sound) → state c (st .columns) (st .rows) (st .deep) (st .front) (st .map) (st .unsent) sound ≡ heard st p sound
   unfolding heard
-  heard-is sound = ap (λ (x : Cursor). state x (st .columns) (st .rows) (st .front) (st .map) (st .unsent) sound) e
+  heard-is sound = ap (λ (x : Cursor). state x (st .columns) (st .rows) (st .deep) (st .front) (st .map) (st .unsent) sound) e
 
-  pub finished-is : state c (st .columns) (st .rows) (st .front) Missing true (st .sound) ≡ finished st p
+  pub finished-is : state c (st .columns) (st .rows) (st .deep) (st .front) Missing true (st .sound) ≡ finished st p
   unfolding finished
-  finished-is = ap (λ (x : Cursor). state x (st .columns) (st .rows) (st .front) Missing true (st .sound)) e
+  finished-is = ap (λ (x : Cursor). state x (st .columns) (st .rows) (st .deep) (st .front) Missing true (st .sound)) e
 
-pub turned-0 : (u : Bool) (f : ℕ) → u ≡ true → f ≡ 0 → 1 ≡ shownNext u f
-unfolding shownNext
-turned-0 u f e q = rw (e, eq-eqb _ _ q)
+module _ (d u : Bool) (f : ℕ) where
+  pub turned-0 : u ≡ true → f ≡ 0 → 1 ≡ shownNext d u f
+  unfolding shownNext
+  turned-0 e q = rw (e, eq-eqb _ _ q)
 
-pub turned-1 : (u : Bool) (f : ℕ) → u ≡ true → (f ≡ 0 → ⊥) → 0 ≡ shownNext u f
-unfolding shownNext
-turned-1 u f e n = rw (e, ne-eqb _ _ n)
+  module _ (e : u ≡ true) (n : f ≡ 0 → ⊥) where
+    pub turned-1 : d ≡ true → f ≡ 1 → 2 ≡ shownNext d u f
+    unfolding shownNext
+    turned-1 t q = rw (e, ne-eqb _ _ n, t, eq-eqb _ _ q)
 
-pub not-turned : (u : Bool) (f : ℕ) → u ≡ false → f ≡ shownNext u f
-unfolding shownNext
-not-turned u f e = rw e
+    pub turned-2 : d ≡ true → (f ≡ 1 → ⊥) → 0 ≡ shownNext d u f
+    unfolding shownNext
+    turned-2 t m = rw (e, ne-eqb _ _ n, t, ne-eqb _ _ m)
+
+    pub turned-back : d ≡ false → 0 ≡ shownNext d u f
+    unfolding shownNext
+    turned-back t = rw (e, ne-eqb _ _ n, t)
+
+  pub not-turned : u ≡ false → f ≡ shownNext d u f
+  unfolding shownNext
+  not-turned e = rw e

@@ -30,7 +30,7 @@ cursorAtEnd c film = cursor film film
 
 -- with another cursor, and all else as it was
 unfoldable pub at : State → Cursor → State
-at st c = record { cursor = c; columns = st .columns; rows = st .rows; front = st .front; map = st .map; unsent = st .unsent; sound = st .sound }
+at st c = record { cursor = c; columns = st .columns; rows = st .rows; deep = st .deep; front = st .front; map = st .map; unsent = st .unsent; sound = st .sound }
 
 -- behind an opcode
 abbrev pub behind : State → ℕ → State
@@ -44,31 +44,31 @@ into st chunk = at st chunk
 abbrev pub atEnd : State → ℕ → State
 atEnd st film = at st (cursorAtEnd (st .cursor) film)
 
--- 05: with a size
-unfoldable pub sized : State → ℕ → ℕ → ℕ → State
-sized st p columns rows =
-    record { cursor = cursorBehind (st .cursor) p; columns = columns; rows = rows; front = st .front; map = st .map; unsent = st .unsent; sound = st .sound }
+-- 05: with a size, and whether with true colour
+unfoldable pub sized : State → ℕ → ℕ → ℕ → Bool → State
+sized st p columns rows deep =
+    record { cursor = cursorBehind (st .cursor) p; columns = columns; rows = rows; deep = deep; front = st .front; map = st .map; unsent = st .unsent; sound = st .sound }
 
--- if a frame is finished and unsent, front and back change roles; otherwise nothing does
-unfoldable pub shownNext : Bool → ℕ → ℕ
-shownNext unsent front = cond unsent (cond (eqb front 0) 1 0) front
+-- if a frame is finished and unsent, front and back change roles, or, with true colour, front becomes the next of three; otherwise nothing does
+unfoldable pub shownNext : Bool → Bool → ℕ → ℕ
+shownNext deep unsent front = cond unsent (cond (eqb front 0) 1 (cond deep (cond (eqb front 1) 2 0) 0)) front
 
 -- 07: nothing is then unsent
 unfoldable pub sent : State → ℕ → State
 sent st p =
-    record { cursor = cursorBehind (st .cursor) p; columns = st .columns; rows = st .rows; front = shownNext (st .unsent) (st .front); map = st .map; unsent = false; sound = st .sound }
+    record { cursor = cursorBehind (st .cursor) p; columns = st .columns; rows = st .rows; deep = st .deep; front = shownNext (st .deep) (st .unsent) (st .front); map = st .map; unsent = false; sound = st .sound }
 
 -- 0F: with this pending map
 unfoldable pub mapped : State → ℕ → Map → State
 mapped st p map =
-    record { cursor = cursorBehind (st .cursor) p; columns = st .columns; rows = st .rows; front = st .front; map = map; unsent = st .unsent; sound = st .sound }
+    record { cursor = cursorBehind (st .cursor) p; columns = st .columns; rows = st .rows; deep = st .deep; front = st .front; map = map; unsent = st .unsent; sound = st .sound }
 
 -- 03, 08, 09 where a stream is chosen: with the sound that comes of them
 unfoldable pub heard : State → ℕ → Sound → State
 heard st p sound =
-    record { cursor = cursorBehind (st .cursor) p; columns = st .columns; rows = st .rows; front = st .front; map = st .map; unsent = st .unsent; sound = sound }
+    record { cursor = cursorBehind (st .cursor) p; columns = st .columns; rows = st .rows; deep = st .deep; front = st .front; map = st .map; unsent = st .unsent; sound = sound }
 
 -- 11, drawn whole: the map is used up, and a frame is finished and unsent
 unfoldable pub finished : State → ℕ → State
 finished st p =
-    record { cursor = cursorBehind (st .cursor) p; columns = st .columns; rows = st .rows; front = st .front; map = Missing; unsent = true; sound = st .sound }
+    record { cursor = cursorBehind (st .cursor) p; columns = st .columns; rows = st .rows; deep = st .deep; front = st .front; map = Missing; unsent = true; sound = st .sound }

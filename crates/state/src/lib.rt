@@ -8,7 +8,7 @@ ghost use Prim.Native.Nat.{_+_, _<_, _^_};
 ghost use lib.Dec.{leb};
 ghost use Rattle.packet.specs.Verdict.{told};
 ghost use Rattle.state.specs.Moves.{cursorBehind, cursorInto, cursorAtEnd, at, behind, into, atEnd, sized, shownNext, sent, mapped, heard, finished};
-ghost use Rattle.state.specs.State.{possibleSize, possible, mapInside, boundsVerdict, stateVerdict, area, lentVerdict, leading, chosen, shownOf};
+ghost use Rattle.state.specs.State.{mostFront, possibleSize, possible, mapInside, boundsVerdict, stateVerdict, area, leastOf, shortestOf, lentVerdict, leading, chosen, shownOf, chosenWords, shownWordsOf};
 
 // Where the next head stands, and where the chunk around it ends.
 pub struct Cursor {
@@ -22,11 +22,13 @@ pub enum Map {
     Part(usize, usize),
 }
 
-// columns, rows: the size in blocks, 0 by 0 before opcode 05. front: which lent picture is shown, 0 or 1. unsent: a frame is finished and not yet sent. sound: the chosen stream, its format and its last samples.
+// columns, rows: the size in blocks, 0 by 0 before opcode 05. deep: the film has true colour, false before 05. front: which lent picture is shown, 0 or 1, of pictures of
+// words 0 to 2. unsent: a frame is finished and not yet sent. sound: the chosen stream, its format and its last samples.
 pub struct State {
     pub cursor: Cursor,
     pub columns: usize,
     pub rows: usize,
+    pub deep: bool,
     pub front: usize,
     pub map: Map,
     pub unsent: bool,
@@ -79,6 +81,7 @@ impl State {
             cursor,
             columns: self.columns,
             rows: self.rows,
+            deep: self.deep,
             front: self.front,
             map,
             unsent: self.unsent,
@@ -109,9 +112,9 @@ impl State {
         self.at(c.at_end(film))
     }
 
-    // 05: with a size.
-    pub fn sized(self, p: usize, columns: usize, rows: usize) -> State
-        ensures { λ r. ⌜ r ≡ sized self p columns rows ⌝ }
+    // 05: with a size, and whether with true colour.
+    pub fn sized(self, p: usize, columns: usize, rows: usize, deep: bool) -> State
+        ensures { λ r. ⌜ r ≡ sized self p columns rows deep ⌝ }
     {
         let c = self.cursor;
         let cursor = c.behind(p);
@@ -121,6 +124,7 @@ impl State {
             cursor,
             columns,
             rows,
+            deep,
             front: self.front,
             map,
             unsent: self.unsent,
@@ -134,13 +138,14 @@ impl State {
     {
         let c = self.cursor;
         let cursor = c.behind(p);
-        let front = shown_next(self.unsent, self.front);
+        let front = shown_next(self.deep, self.unsent, self.front);
         let map = self.map;
         let sound = self.sound;
         State {
             cursor,
             columns: self.columns,
             rows: self.rows,
+            deep: self.deep,
             front,
             map,
             unsent: false,
@@ -159,6 +164,7 @@ impl State {
             cursor,
             columns: self.columns,
             rows: self.rows,
+            deep: self.deep,
             front: self.front,
             map,
             unsent: self.unsent,
@@ -177,6 +183,7 @@ impl State {
             cursor,
             columns: self.columns,
             rows: self.rows,
+            deep: self.deep,
             front: self.front,
             map,
             unsent: self.unsent,
@@ -195,6 +202,7 @@ impl State {
             cursor,
             columns: self.columns,
             rows: self.rows,
+            deep: self.deep,
             front: self.front,
             map: Map::Missing,
             unsent: true,
@@ -203,23 +211,42 @@ impl State {
     }
 }
 
-// The picture that is shown after a 07.
-fn shown_next(unsent: bool, front: usize) -> usize
-    ensures { λ r. ⌜ r ≡ shownNext unsent front ⌝ }
+// The picture that is shown after a 07: the next of two, or of three.
+fn shown_next(deep: bool, unsent: bool, front: usize) -> usize
+    ensures { λ r. ⌜ r ≡ shownNext deep unsent front ⌝ }
 {
     if unsent {
         if front == 0 {
             return 1;
+        }
+        if deep {
+            if front == 1 {
+                return 2;
+            }
+            return 0;
         }
         return 0;
     }
     front
 }
 
-fn is_possible_size(columns: usize, rows: usize) -> bool
-    ensures { λ r. ⌜ r ≡ possibleSize columns rows ⌝ }
+// The last picture that front can be.
+fn most_front(deep: bool) -> usize
+    ensures { λ r. ⌜ r ≡ mostFront deep ⌝ }
+{
+    if deep {
+        return 2;
+    }
+    1
+}
+
+fn is_possible_size(deep: bool, columns: usize, rows: usize) -> bool
+    ensures { λ r. ⌜ r ≡ possibleSize deep columns rows ⌝ }
 {
     if columns == 0 {
+        if deep {
+            return false;
+        }
         return rows == 0;
     }
     is_legal_size(columns, rows)
@@ -229,7 +256,7 @@ fn is_possible_size(columns: usize, rows: usize) -> bool
 fn is_possible(st: State) -> bool
     ensures { λ r. ⌜ r ≡ possible st ⌝ }
 {
-    if is_possible_size(st.columns, st.rows) {
+    if is_possible_size(st.deep, st.columns, st.rows) {
         let s = st.sound;
         return s.is_possible();
     }
@@ -263,10 +290,11 @@ fn judge_bounds(
     end: usize,
     film: usize,
     map: bool,
+    most: usize,
     front: usize,
     kept: bool,
 ) -> Checked
-    ensures { λ r. ⌜ told r ≡ boundsVerdict position end film map front kept ⌝ }
+    ensures { λ r. ⌜ told r ≡ boundsVerdict position end film map most front kept ⌝ }
 {
     if end < position {
         return Checked::Refused(Refusal::State);
@@ -275,7 +303,7 @@ fn judge_bounds(
         return Checked::Refused(Refusal::State);
     }
     if map {
-        if 1 < front {
+        if most < front {
             return Checked::Refused(Refusal::State);
         }
         if kept {
@@ -293,11 +321,12 @@ pub fn judge_state(st: State, n: usize) -> Checked
     let c = st.cursor;
     let m = st.map;
     let map = is_map_inside(m, n);
+    let most = most_front(st.deep);
     let kept = is_possible(st);
-    judge_bounds(c.position, c.chunk_end, n, map, st.front, kept)
+    judge_bounds(c.position, c.chunk_end, n, map, most, st.front, kept)
 }
 
-// The bytes of a picture, 0 where the size is not a legal one.
+// The pixels of a picture, 0 where the size is not a legal one.
 pub fn area_of(columns: usize, rows: usize) -> usize
     ensures { λ r. ⌜ r ≡ area columns rows ⌝ }
 {
@@ -307,15 +336,31 @@ pub fn area_of(columns: usize, rows: usize) -> usize
     0
 }
 
-// Whether the lent palette and pictures, of these lengths, hold pictures of so many bytes.
-pub fn judge_lent(bytes: usize, palette: usize, a: usize, b: usize) -> Checked
-    ensures { λ r. ⌜ told r ≡ lentVerdict bytes palette a b ⌝ }
+fn least(a: usize, b: usize) -> usize
+    ensures { λ r. ⌜ r ≡ leastOf a b ⌝ }
+{
+    if a < b {
+        return a;
+    }
+    b
+}
+
+// The length of the shortest of the film's own pictures: two of bytes, or three of words.
+pub fn shortest(deep: bool, a: usize, b: usize, c: usize, d: usize, e: usize) -> usize
+    ensures { λ r. ⌜ r ≡ shortestOf deep a b c d e ⌝ }
+{
+    if deep {
+        return least(least(c, d), e);
+    }
+    least(a, b)
+}
+
+// Whether the lent palette and the shortest picture, of these lengths, hold pictures of so many pixels.
+pub fn judge_lent(pixels: usize, palette: usize, shortest: usize) -> Checked
+    ensures { λ r. ⌜ told r ≡ lentVerdict pixels palette shortest ⌝ }
 {
     if palette == 768 {
-        if a < bytes {
-            return Checked::Refused(Refusal::Buffer);
-        }
-        if b < bytes {
+        if shortest < pixels {
             return Checked::Refused(Refusal::Buffer);
         }
         return Checked::Accepted;
@@ -344,10 +389,48 @@ fn chosen_part<'a>(front: usize, n: usize, a: &'a [u8], b: &'a [u8]) -> &'a [u8]
     leading_part(a, 0)
 }
 
-// The shown picture: the leading bytes, one a pixel, of the lent picture that is front.
+// The shown picture: the leading bytes, one a pixel, of the lent picture that is front. None of a film with true colour.
 pub fn shown<'a>(st: State, a: &'a [u8], b: &'a [u8]) -> &'a [u8]
     ensures { λ r. ⌜ now r ≡ shownOf st (now (a .entry)) (now (b .entry)) ⌝ }
 {
+    if st.deep {
+        return &a[..0];
+    }
     let n = area_of(st.columns, st.rows);
     chosen_part(st.front, n, a, b)
+}
+
+fn leading_words(s: &[u16], n: usize) -> &[u16]
+    ensures { λ r. ⌜ now r ≡ leading (now (s .entry)) n ⌝ }
+{
+    if n <= s.len() {
+        return &s[..n];
+    }
+    &s[..0]
+}
+
+fn chosen_words<'a>(front: usize, n: usize, c: &'a [u16], d: &'a [u16], e: &'a [u16]) -> &'a [u16]
+    ensures { λ r. ⌜ now r ≡ chosenWords front n (now (c .entry)) (now (d .entry)) (now (e .entry)) ⌝ }
+{
+    if front == 0 {
+        return leading_words(c, n);
+    }
+    if front == 1 {
+        return leading_words(d, n);
+    }
+    if front == 2 {
+        return leading_words(e, n);
+    }
+    leading_words(c, 0)
+}
+
+// The shown picture of a film with true colour: the leading words, one a pixel, of the lent picture that is front. None of any other film.
+pub fn shown_words<'a>(st: State, c: &'a [u16], d: &'a [u16], e: &'a [u16]) -> &'a [u16]
+    ensures { λ r. ⌜ now r ≡ shownWordsOf st (now (c .entry)) (now (d .entry)) (now (e .entry)) ⌝ }
+{
+    if st.deep {
+        let n = area_of(st.columns, st.rows);
+        return chosen_words(st.front, n, c, d, e);
+    }
+    &c[..0]
 }

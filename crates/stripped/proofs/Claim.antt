@@ -36,7 +36,7 @@ module _ (film : List ℕ) (stream : ℕ) (r : List ℕ) (h : 26 ≤ length film
 
   first-alike : Alike film (firstState stream) new (firstState stream)
   unfolding firstState pending
-  first-alike = record { columns = refl; rows = refl; front = refl; map = refl; unsent = refl; sound = refl }
+  first-alike = record { columns = refl; rows = refl; deep = refl; front = refl; map = refl; unsent = refl; sound = refl }
 
   first-related : (spare : ℕ) → Related film new stream (within most spare) (firstState stream) (firstState stream)
   unfolding firstState

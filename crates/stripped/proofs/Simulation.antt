@@ -1,7 +1,7 @@
 -- `simulates`: a film and what is left of it, played from equal lent memory, give the same to see and to hear, and the same end.
 -- Assumes nothing.
 use mathlib.Core.Path.{_≡_, refl, sym, ap, ap₂, _∙_, subst}
-use mathlib.Core.Bool.{Bool, true, false}
+use mathlib.Core.Bool.{Bool, true, false, cond}
 use mathlib.Core.List.{List, [], _∷_, _++_, append-nil}
 use Prim.Native.Nat.{ℕ, _+_, _-_, _≤_, _<_}
 use native.Mathlib.Omega.{arith}
@@ -15,7 +15,7 @@ use Rattle.sound.specs.Format.{chosen}
 use Rattle.draw.specs.declared.Allowed.{Allowed}
 use Rattle.state.specs.declared.Cursor.{Cursor}
 use Rattle.state.specs.declared.State.{State}
-use Rattle.state.specs.State.{stateVerdict, area, lentVerdict, shownOf}
+use Rattle.state.specs.State.{stateVerdict, area, shortestOf, lentVerdict, shownOf, shownWordsOf}
 use Rattle.state.specs.State as shown
 use Rattle.state.specs.Moves.{cursor, cursorBehind, cursorInto, at, behind, into, cursorAtEnd}
 use Rattle.heads.specs.declared.Opcode.{Opcode}
@@ -25,8 +25,8 @@ use Rattle.next.specs.Next.{Standing, on, chunkStanding, opcodeStanding, chunkE
 use Rattle.next.specs.Next as found
 use Rattle.next.proofs.Standing.{possible}
 use Rattle.opcodes.specs.Opcodes.{Answer, taken, quiet, refused}
-use Rattle.film.specs.Film.{Lent, Outcome, after, takeOn, standing, stepOf}
-use Rattle.walk.specs.Play.{Event, samples, sentBy, eventsOf, End, by-refusal, leadOf, Plays, stops, goes}
+use Rattle.film.specs.Film.{Lent, shortest, Outcome, after, takeOn, standing, stepOf}
+use Rattle.walk.specs.Play.{Event, samples, shownBy, sentBy, eventsOf, End, by-refusal, leadOf, Plays, stops, goes}
 use Rattle.walk.specs.Play as play
 use Rattle.walk.proofs.Play.{play-possible}
 use Rattle.chunks.specs.Chunks.{endOf, intact, chunk-to, followingAt}
@@ -47,7 +47,7 @@ use Rattle.stripped.proofs.Twice.{ends-at, body-end}
 
 module _ (film : List ℕ) (st : State) (allowed : Allowed) (l : Lent) (ok : stateVerdict st (length film) ≡ accept) where
   abbrev lent-ok : Verdict
-  lent-ok = lentVerdict (area (st .columns) (st .rows)) (length (l .palette)) (length (l .first)) (length (l .second))
+  lent-ok = lentVerdict (area (st .columns) (st .rows)) (length (l .palette)) (shortest st l)
 
   step-8 : (n k : ℕ) → lent-ok ≡ refuse n k → stepOf film st allowed l ≡ after (quiet (refused n k)) l
   unfolding stepOf nextOf on standing
@@ -74,9 +74,9 @@ module _ (b : Bool) (film : List ℕ) (c : Cursor) where
 
 -- ---- what is given
 
-sent-same : (u v : Bool) (t t′ : State) (l : Lent) → shownOf t (l .first) (l .second) ≡ shownOf t′ (l .first) (l .second) → sentBy u v t l ≡ sentBy u v t′ l
+sent-same : (u v : Bool) (t t′ : State) (l : Lent) → shownBy t l ≡ shownBy t′ l → sentBy u v t l ≡ sentBy u v t′ l
 unfolding sentBy
-sent-same true false t t′ l e = ap (λ (x : List ℕ). play.picture x (l .palette) ∷ []) e
+sent-same true false t t′ l e = ap (λ (x : Event). x ∷ []) e
 sent-same true true t t′ l e = refl
 sent-same false v t t′ l e = refl
 
@@ -90,21 +90,31 @@ nothing-given st t o e q = ap₂ (λ (n : ℕ) (u : Bool). samples (take n (o .l
     by false = refl
 
 module _ (film out : List ℕ) where
+  -- states that are alike show the same
+  shown-same : (t t′ : State) → Alike film t out t′ → (l : Lent) → shownBy t l ≡ shownBy t′ l
+  unfolding shownBy shownOf shownWordsOf
+  shown-same t t′ c l =
+      λ i.
+      let n = area (c .columns i) (c .rows i) in
+      cond (c .deep i)
+      (play.words (cond (c .deep i) (shown.chosenWords (c .front i) n (l .words .picture0) (l .words .picture1) (l .words .picture2)) []) (l .palette))
+      (play.picture (cond (c .deep i) [] (shown.chosen (c .front i) n (l .first) (l .second))) (l .palette))
+
   -- the same by two steps that come to the same
   same-given : (st t st′ t′ : State) (x y : Outcome) → Alike film st out st′ → Alike film t out t′ → x .step .bytes ≡ y .step .bytes → x .lent ≡ y .lent → eventsOf st t x ≡ eventsOf st′ t′ y
-  unfolding eventsOf shownOf
+  unfolding eventsOf
   same-given st t st′ t′ x y a c e q =
       ap₂ (λ (v w : List Event). v ++ w) (λ i. samples (take (e i) (q i .room)))
       ((λ i. sentBy (a .unsent i) (c .unsent i) t (q i))
-      ∙ sent-same (st′ .unsent) (t′ .unsent) t t′ (y .lent) (λ i. shown.chosen (c .front i) (area (c .columns i) (c .rows i)) (y .lent .first) (y .lent .second)))
+      ∙ sent-same (st′ .unsent) (t′ .unsent) t t′ (y .lent) (shown-same t t′ c (y .lent)))
 
   both-still : (st st′ : State) → Alike film st out st′ → (c c′ : Cursor) → Alike film (at st c) out (at st′ c′)
   unfolding at
-  both-still st st′ a c c′ = record { columns = a .columns; rows = a .rows; front = a .front; map = a .map; unsent = a .unsent; sound = a .sound }
+  both-still st st′ a c c′ = record { columns = a .columns; rows = a .rows; deep = a .deep; front = a .front; map = a .map; unsent = a .unsent; sound = a .sound }
 
   still-alike : (st st′ : State) → Alike film st out st′ → (c : Cursor) → Alike film (at st c) out st′
   unfolding at
-  still-alike st st′ a c = record { columns = a .columns; rows = a .rows; front = a .front; map = a .map; unsent = a .unsent; sound = a .sound }
+  still-alike st st′ a c = record { columns = a .columns; rows = a .rows; deep = a .deep; front = a .front; map = a .map; unsent = a .unsent; sound = a .sound }
 
 at-cursor : (st : State) (c : Cursor) → at st c .cursor ≡ c
 unfolding at
@@ -155,7 +165,11 @@ module _ (film out : List ℕ) (stream : ℕ) (allowed : Allowed) where
     in-film = possible st (length film) (R .fine)
 
     lent-same : (v : Verdict) → lent-ok film st allowed l (R .fine) ≡ v → lent-ok out st′ allowed l (R .fine′) ≡ v
-    lent-same v q = ap₂ (λ (c r : ℕ). lentVerdict (area c r) (length (l .palette)) (length (l .first)) (length (l .second))) (sym (R .alike .columns)) (sym (R .alike .rows)) ∙ q
+    lent-same v q =
+        (λ i.
+        lentVerdict (area (sym (R .alike .columns) i) (sym (R .alike .rows) i)) (length (l .palette))
+        (shortestOf (sym (R .alike .deep) i) (length (l .first)) (length (l .second)) (length (l .words .picture0)) (length (l .words .picture1)) (length (l .words .picture2))))
+        ∙ q
 
     -- the film alone moves its cursor
     film-moves : (c : Cursor) (b r : List ℕ) (z : Bool) → stepOf film st allowed l ≡ after (quiet (taken (at st c))) l → Body film stream (c .position) (c .«chunk_end») b z

@@ -10,10 +10,10 @@ use lib.ListN.{length, drop}
 use lib.Seq.{drop-at}
 use Rattle.room.specs.Room.{written}
 use Rattle.packet.specs.declared.Touched.{Touched}
-use Rattle.stores.specs.Stores.{memory}
+use Rattle.stores.specs.Calls.{step}
 use Rattle.stores.specs.Calls as drawing
 use Rattle.draw.specs.declared.Allowed.{Allowed}
-use Rattle.draw.specs.Call.{Reason, request, report}
+use Rattle.draw.specs.Call.{Reason, calling, report}
 use Rattle.words.specs.Word.{wordAt}
 use Rattle.palette.specs.Update.{Change}
 use Rattle.palette.specs.Update as palette
@@ -26,9 +26,10 @@ use Rattle.state.specs.declared.State.{State}
 use Rattle.heads.specs.declared.Opcode.{Opcode}
 use Rattle.heads.specs.Heads.{hears}
 use Rattle.opcodes.specs.Opcodes.{heardStep, drawnAs}
-use Rattle.film.specs.Film.{Lent, withRoom, swap, Outcome, after, called, drawSecond, drawOn, part, paletteStep, mapTo, heardBy, hear, takeOn, standing, stepOf}
+use Rattle.film.specs.Film.{Lent, withRoom, drawnAt, Outcome, after, requestOf, drawOn, part, paletteStep, mapTo, heardBy, hear, takeOn, standing, stepOf}
+use Rattle.film.proofs.Pictures.{drawn-room}
 use Rattle.walk.specs.Draws.{packetOf}
-use Rattle.walk.specs.View.{endOf, View, refuses, ends, enters, sounds, maps, colours, undrawn, draws, others}
+use Rattle.walk.specs.View.{endOf, View, refuses, ends, enters, sounds, maps, colours, too-short, undrawn, draws, others}
 use Rattle.walk.specs.Apart.{RoomKept, OthersKept, AtSound, Apart}
 use Rattle.walk.proofs.View.{view-of}
 
@@ -57,17 +58,11 @@ change-silent st p (palette.unfinished n) = refl
 change-silent st p (palette.refused n k) = refl
 
 module _ (film : List ℕ) (st : State) (allowed : Allowed) (l : Lent) where
-  second-silent : (p : ℕ) (map packet : List ℕ) (m : Lent) → m .room ≡ l .room → RoomKept l (drawSecond st p map packet allowed m)
-  unfolding called
-  second-silent p map packet m e =
-      let r = report (memory (m .second) (m .place)) (request (st .columns) (st .rows) map packet (m .first) allowed) in
-      silent l e (drawn-silent st p (r .answer) (r .count) (r .rows))
-
   on-silent : (p : ℕ) (map packet : List ℕ) → RoomKept l (drawOn st p map packet allowed l)
   unfolding drawOn
   on-silent p map packet =
-      let x = second-silent p map packet (swap l) refl in
-      silent-by l (eqb (st .front) 0) (second-silent p map packet l refl) (silent l (x .room) (x .bytes))
+      let r = report (drawnAt st l) (requestOf st map packet allowed l) in
+      silent l (drawn-room st l (step calling (drawnAt st l) (requestOf st map packet allowed l))) (drawn-silent st p (r .answer) (r .count) (r .rows))
 
   -- ---- sound
 
@@ -115,6 +110,7 @@ module _ (film : List ℕ) (st : State) (allowed : Allowed) (l : Lent) where
   silent-view (sounds o a h) f = absurd (f (record { found = o; stands = a .stands; acted = h }))
   silent-view (maps o a u e) f = silent-by l (eqb (allowed .stores) 0) (silent l refl refl) (silent l refl refl)
   silent-view (colours o x a u c) f = silent l refl (change-silent st (endOf o) _)
+  silent-view (too-short o a u e d n) f = silent l refl refl
   silent-view (undrawn o a u e m) f = silent l refl refl
   silent-view (draws o start long a u e m c) f = on-silent (endOf o) (part film start (start + long)) (packetOf film o)
   silent-view (others o a u x) f = silent l refl refl

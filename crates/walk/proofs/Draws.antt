@@ -3,28 +3,29 @@
 use mathlib.Core.Path.{_≡_, refl, sym, ap, _∙_}
 use mathlib.Core.Bool.{Bool, true, false, cond}
 use mathlib.Core.List.{List}
-use Prim.Native.Nat.{ℕ, _+_, _≤_}
+use Prim.Native.Nat.{ℕ, _+_, _-_, _≤_}
 use native.Mathlib.Omega.{arith}
-use borrow.Author.Tests.{ltb-false, ne-eqb}
-use lib.Dec.{eqb, ltb}
-use lib.ListN.{length}
+use borrow.Author.Tests.{le-ltb, ne-eqb}
+use lib.Dec.{eqb}
+use lib.ListN.{length, drop, length-take, length-drop}
 use Rattle.words.specs.Word.{wordAt}
-use Rattle.words.proofs.Tests.{not-first, first}
 use Rattle.refusal.specs.Number.{Verdict, accept, refuse}
 use Rattle.packet.specs.declared.Touched.{Touched}
 use Rattle.packet.specs.Verdict.{legalSize}
+use Rattle.packet.specs.Accepted.{PartsFit}
 use Rattle.packet.proofs.Sizes.{is-size}
-use Rattle.stores.specs.Stores.{Memory, memory}
+use Rattle.stores.specs.Stores.{Memory}
 use Rattle.stores.specs.Calls.{answered, outcome}
 use Rattle.draw.specs.declared.Allowed.{Allowed}
-use Rattle.draw.specs.Call.{Request, request, drawVerdict, comes, calling, report}
-use Rattle.draw.specs.Taken.{DrawAccepts}
+use Rattle.draw.specs.Call.{Request, drawVerdict, comes, calling, report}
+use Rattle.draw.specs.Taken.{DrawAcceptsIn}
 use Rattle.draw.proofs.Exactly.{drawn-exactly}
 use Rattle.palette.specs.Update.{Update}
 use Rattle.state.specs.declared.Map.{Map}
 use Rattle.state.specs.declared.Map.the-variants.{Part}
 use Rattle.state.specs.declared.State.{State}
-use Rattle.state.specs.State.{area, lentVerdict}
+use Rattle.state.specs.State.{area}
+use Rattle.state.proofs.Tests.{lent-fits}
 use Rattle.state.specs.Moves.{behind, atEnd, sized, sent, heard}
 use Rattle.sound.specs.Format.{chosen}
 use Rattle.sound.specs.Step as sound
@@ -34,10 +35,11 @@ use Rattle.heads.specs.Heads.{hears}
 use Rattle.next.proofs.Standing.{not-17}
 use Rattle.next.specs.Next.{Standing, on, nextOf}
 use Rattle.next.specs.Next as found
-use Rattle.opcodes.specs.Opcodes.{Answer, taken, ended, refused, sizeAnswer, colourOf, quietAnswer, heardStep, drawnAs, drawnStep}
-use Rattle.film.specs.Film.{Lent, swap, Outcome, after, called, drawSecond, drawOn, part, drawBy, act, actOn, heardBy, hear, takeOn, standing, stepOf}
+use Rattle.opcodes.specs.Opcodes.{Answer, taken, ended, refused, isDeep, sizeAnswer, colourOf, quietAnswer, heardStep, drawnAs, drawnStep}
+use Rattle.film.specs.Film.{Lent, shortest, lastOf, oldestOf, newOf, drawnAt, standsAt, Outcome, requestOf, drawOn, part, drawMapped, isBodyShort, drawBy, act, actOn, heardBy, hear, takeOn, standing, stepOf}
+use Rattle.film.proofs.Pictures.{pictures-fit}
 use Rattle.walk.specs.Draws.{bodyOf, packetOf, Draws, AtPacket, Drew}
-use Rattle.walk.specs.View.{endOf, AtOpcode, Colours, gradient, entries, masks, View, refuses, ends, enters, sounds, maps, colours, undrawn, draws, others}
+use Rattle.walk.specs.View.{endOf, AtOpcode, Colours, gradient, entries, masks, View, refuses, ends, enters, sounds, maps, colours, too-short, undrawn, draws, others}
 use Rattle.walk.proofs.View.{view-of}
 
 -- ---- a drawing call that is not refused
@@ -67,22 +69,10 @@ unfolding on
 on-opcode accept s o e = (refl, e)
 on-opcode (refuse n k) s o e = absurd (let z : _≡_ {A = ℕ} 0 1 = cc in let y : ⊥ = omega arith in y)
 
-no-accept : (n k : ℕ) → refuse n k ≡ accept → ⊥
-no-accept n k e = let z : _≡_ {A = ℕ} 0 1 = cc in omega arith
-
--- both pictures are as long as the size asks
-room-is : (n p a b : ℕ) → lentVerdict n p a b ≡ accept → (n ≤ a) × (n ≤ b)
-unfolding lentVerdict
-room-is n p a b r =
-    let x = first (eqb p 768) _ _ _ (no-accept 8 0) r in
-    let y = not-first (ltb a n) _ _ _ (no-accept 8 0) (x .1) in
-    let z = not-first (ltb b n) _ accept _ (no-accept 8 0) (y .1) in
-    (ltb-false a n (y .0), ltb-false b n (z .0))
-
-long-enough : (film : List ℕ) (st : State) (p a b : ℕ) (o : Opcode) → nextOf film st p a b ≡ found.opcode o
-    → (area (st .columns) (st .rows) ≤ a) × (area (st .columns) (st .rows) ≤ b)
+-- the pictures are as long as the size asks
+stands-long : (film : List ℕ) (st : State) (l : Lent) (o : Opcode) → standsAt film st l ≡ found.opcode o → area (st .columns) (st .rows) ≤ shortest st l
 unfolding nextOf
-long-enough film st p a b o e = room-is (area (st .columns) (st .rows)) p a b (on-opcode _ _ o (on-opcode _ _ o e .1) .0)
+stands-long film st l o e = lent-fits _ _ _ (on-opcode _ _ o (on-opcode _ _ o e .1) .0)
 
 -- ---- answers that are none of a drawing
 
@@ -106,8 +96,7 @@ not-sized : (st : State) (p columns rows colour : ℕ) → Drew (sizeAnswer st p
 unfolding sizeAnswer
 not-sized st p columns rows colour =
     let no = not-refused 6 0 in
-    not-by (eqb (st .columns) 0) _ (refused 6 0)
-    (not-by (legalSize columns rows) _ (refused 6 0) (not-by (eqb colour 0) (taken (sized st p columns rows)) (refused 6 0) (not-taken (sized st p columns rows)) no) no) no
+    not-by (eqb (st .columns) 0) _ (refused 6 0) (not-by (legalSize columns rows) _ (refused 6 0) (not-taken (sized st p columns rows (isDeep colour))) no) no
 
 pub not-quiet : (film : ℕ) (st : State) (kind version : ℕ) (body : List ℕ) (p : ℕ) → Drew (quietAnswer film st kind version body p) → ⊥
 unfolding quietAnswer
@@ -126,45 +115,33 @@ not-heard st p (sound.refused n k) = not-refused n k
 module _ (film : List ℕ) (st : State) (allowed : Allowed) where
   -- the call's tests, by the packet, the map and the place
   abbrev Accepted : List ℕ → List ℕ → Lent → Type 0
-  Accepted map packet l = DrawAccepts (allowed .spare) (st .columns) (st .rows) map packet (length (l .first)) (length (l .second)) (l .place)
+  Accepted map packet l =
+      DrawAcceptsIn (st .deep) (allowed .spare) (st .columns) (st .rows) map packet (length (lastOf st l)) (length (oldestOf st l)) (length (newOf st l)) (l .place)
 
-  drew-second : (p : ℕ) (map packet : List ℕ) (l : Lent) → Accepted map packet l → Drew (drawSecond st p map packet allowed l .step .answer)
-  unfolding called
-  drew-second p map packet l a =
-      drew-accepted st p (request (st .columns) (st .rows) map packet (l .first) allowed) (memory (l .second) (l .place))
-      (drawn-exactly (allowed .spare) (st .columns) (st .rows) map packet (length (l .first)) (length (l .second)) (l .place) .1 a)
+  module _ (p : ℕ) (map packet : List ℕ) (l : Lent) where
+    tests : (drawVerdict (requestOf st map packet allowed l) (drawnAt st l) ≡ accept → Accepted map packet l)
+        × (Accepted map packet l → drawVerdict (requestOf st map packet allowed l) (drawnAt st l) ≡ accept)
+    tests = drawn-exactly (st .deep) (allowed .spare) (st .columns) (st .rows) map packet (length (lastOf st l)) (length (oldestOf st l)) (length (newOf st l)) (l .place)
 
-  second-drew : (p : ℕ) (map packet : List ℕ) (l : Lent) → Drew (drawSecond st p map packet allowed l .step .answer) → Accepted map packet l
-  unfolding called
-  second-drew p map packet l d =
-      drawn-exactly (allowed .spare) (st .columns) (st .rows) map packet (length (l .first)) (length (l .second)) (l .place) .0
-      (accepted-drew st p (request (st .columns) (st .rows) map packet (l .first) allowed) (memory (l .second) (l .place)) d)
+    drew-on : Accepted map packet l → Drew (drawOn st p map packet allowed l .step .answer)
+    unfolding drawOn
+    drew-on a = drew-accepted st p (requestOf st map packet allowed l) (drawnAt st l) (tests .1 a)
 
-  -- whichever picture is front
-  other-way : (map packet : List ℕ) (l : Lent) → Accepted map packet l → Accepted map packet (swap l)
-  other-way map packet l a = record { accepted = a .accepted; front-long = a .back-long; back-long = a .front-long; within = a .within }
+    on-drew : Drew (drawOn st p map packet allowed l .step .answer) → Accepted map packet l
+    unfolding drawOn
+    on-drew d = tests .0 (accepted-drew st p (requestOf st map packet allowed l) (drawnAt st l) d)
 
-  drew-on : (p : ℕ) (map packet : List ℕ) (l : Lent) → Accepted map packet l → Drew (drawOn st p map packet allowed l .step .answer)
-  unfolding drawOn
-  drew-on p map packet l a = by (eqb (st .front) 0)
-    where
-      by : (b : Bool) → Drew (cond b (drawSecond st p map packet allowed l) (after (drawSecond st p map packet allowed (swap l) .step) (swap (drawSecond st p map packet allowed (swap l) .lent))) .step .answer)
-      by true = drew-second p map packet l a
-      by false = drew-second p map packet (swap l) (other-way map packet l a)
-
-  on-drew : (p : ℕ) (map packet : List ℕ) (l : Lent) → Drew (drawOn st p map packet allowed l .step .answer) → Accepted map packet l
-  unfolding drawOn
-  on-drew p map packet l = by (eqb (st .front) 0)
-    where
-      by : (b : Bool) → Drew (cond b (drawSecond st p map packet allowed l) (after (drawSecond st p map packet allowed (swap l) .step) (swap (drawSecond st p map packet allowed (swap l) .lent))) .step .answer)
-          → Accepted map packet l
-      by true d = second-drew p map packet l d
-      by false d = other-way map packet (swap l) (second-drew p map packet (swap l) d)
+  -- a packet in two parts has its first word
+  body-long : (deep : Bool) (body : List ℕ) → PartsFit deep (part body 14 (length body)) → isBodyShort deep (length body) ≡ false
+  unfolding isBodyShort
+  body-long false body f = refl
+  body-long true body f = let h : 16 ≤ length body = omega (arith, f .word, length-take (length body - 14) (drop 14 body), length-drop 14 body) in le-ltb _ _ h
 
   drew-by : (map : Map) (start long : ℕ) → map ≡ Part start long → eqb (st .columns) 0 ≡ false → (body : List ℕ) (p : ℕ) (l : Lent)
       → Accepted (part film start (start + long)) (part body 14 (length body)) l → Drew (drawBy map film st body p allowed l .step .answer)
-  unfolding drawBy
-  drew-by map start long e n body p l a = rw (e, n) (drew-on p (part film start (start + long)) (part body 14 (length body)) l a)
+  unfolding drawBy drawMapped
+  drew-by map start long e n body p l a =
+      rw (body-long (st .deep) body (a .accepted .parts), e, n) (drew-on p (part film start (start + long)) (part body 14 (length body)) l a)
 
   drew-act : (kind version s : ℕ) (body : List ℕ) (p : ℕ) (l : Lent) → kind ≡ 17 → Drew (drawBy (st .map) film st body p allowed l .step .answer)
       → Drew (act film st kind version s body p allowed l .step .answer)
@@ -196,6 +173,7 @@ module _ (film : List ℕ) (st : State) (allowed : Allowed) where
   view-drew {l} (sounds o a h) x d = absurd (not-heard st (endOf o) (heardBy (st .sound) (o .kind) (o .version) (bodyOf film o) (length (l .room))) d)
   view-drew (maps o a u e) x d = absurd (let q = stands-11 o a x in let z : ⊥ = omega arith in z)
   view-drew (colours o u a h c) x d = absurd (no-colours (o .kind) (bodyOf film o) c (stands-11 o a x))
+  view-drew (too-short o a u e f n) x d = absurd (not-refused 5 0 d)
   view-drew (undrawn o a u e m) x d = absurd (not-refused 9 0 d)
   view-drew {l} (draws o start long a u e m c) x d =
       let y = on-drew (endOf o) (part film start (start + long)) (packetOf film o) l d in
@@ -210,12 +188,12 @@ module _ (film : List ℕ) (st : State) (allowed : Allowed) where
         let o = d .found in
         let a = d .accepted in
         let e = is-size (st .columns) (st .rows) (a .wide) (a .high) in
-        let r = long-enough film st (length (l .palette)) (length (l .first)) (length (l .second)) o (d .stands) in
+        let r = pictures-fit st l (area (st .columns) (st .rows)) (stands-long film st l o (d .stands)) in
         let n : eqb (st .columns) 0 ≡ false = ne-eqb (st .columns) 0 (λ z. let y : ⊥ = omega (arith, a .wide .least, z) in y) in
         rw (d .stands)
         (drew-taken o l (d .is-11)
         (drew-act (o .kind) (o .version) (o .start) (bodyOf film o) (o .start + o .long) l (d .is-11)
         (drew-by (st .map) (d .start) (d .long) (d .mapped) n (bodyOf film o) (o .start + o .long) l
-        (record { accepted = a; front-long = rw e at (r .0); back-long = rw e at (r .1); within = d .within })))),
+        (record { accepted = a; front-long = rw e at (r .0); oldest-long = rw e at (r .2); back-long = rw e at (r .1); within = d .within })))),
     view-drew (view-of film st allowed l),
   )

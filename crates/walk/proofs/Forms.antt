@@ -4,24 +4,25 @@ use mathlib.Core.Path.{_≡_, refl, sym, ap, _∙_, subst}
 use mathlib.Core.Logic.{_⊎_, inl, inr}
 use mathlib.Core.Bool.{Bool, true, false, cond}
 use mathlib.Core.List.{List}
-use Prim.Native.Nat.{ℕ, _+_, _-_, _≤_}
+use Prim.Native.Nat.{ℕ, _+_, _-_, zero-le}
 use native.Mathlib.Decide.{decLt}
 use native.Mathlib.Omega.{arith}
 use borrow.Author.Tests.{eqb-true}
 use lib.Dec.{eqb}
 use lib.ListN.{length}
 use Rattle.refusal.specs.Number.{Verdict}
-use Rattle.packet.specs.Packet.{packet, blocks, start}
+use Rattle.packet.specs.Packet.{Packet, packetIn, blocks, start}
 use Rattle.packet.specs.declared.Touched.the-variants.{None}
 use Rattle.packet.specs.Rows.{touched}
 use Rattle.packet.specs.Verdict.{default, strict}
-use Rattle.packet.specs.Forms.{OneOver}
-use Rattle.stores.specs.Stores.{Memory, memory}
+use Rattle.packet.specs.Accepted.{Used}
+use Rattle.packet.specs.Forms.{lastLength, lastUsed, OneOver}
+use Rattle.stores.specs.Stores.{Memory}
 use Rattle.stores.specs.Calls.{leave, outcome}
 use Rattle.draw.specs.Forms.{inForm}
-use Rattle.draw.specs.Call.{Request, within, request, packetOf as packetIn, drawVerdict, comes}
-use Rattle.draw.specs.Drawing.{plan}
+use Rattle.draw.specs.Call.{Request, within, packetOf as packetOfCall, callPlan, drawVerdict, comes}
 use Rattle.packet.proofs.Forms.{Differ as DifferAs}
+use Rattle.packet.proofs.Forms as packet
 use Rattle.draw.proofs.Forms.{verdicts-differ}
 use Rattle.palette.specs.Gradient.{createGradient}
 use Rattle.palette.specs.Entries.{setPalette}
@@ -33,10 +34,11 @@ use Rattle.state.specs.Moves.{mapped}
 use Rattle.sound.specs.Format.{chosen}
 use Rattle.heads.specs.declared.Opcode.{Opcode}
 use Rattle.heads.specs.Heads.{hears}
-use Rattle.next.specs.Next.{Standing, nextOf}
+use Rattle.next.specs.Next.{Standing}
 use Rattle.next.specs.Next as found
 use Rattle.opcodes.specs.Opcodes.{refused, quiet, quietAnswer, drawnAs, drawnStep}
-use Rattle.film.specs.Film.{Lent, withPictures, swap, Outcome, after, called, drawSecond, drawOn, part, drawBy, update, mapTo, act, actOn, hear, takeOn, standing, stepOf}
+use Rattle.film.specs.Film.{Lent, drawnAt, withDrawn, standsAt, Outcome, after, requestOf, drawOn, part, drawMapped, isBodyShort, drawBy, update, mapTo, act, actOn, hear, takeOn, standing, stepOf}
+use Rattle.film.proofs.Pictures.{drawn-back}
 use Rattle.walk.specs.Draws.{packetOf, Draws, AtPacket, Drew}
 use Rattle.walk.specs.Forms.{Odd, Forms}
 use Rattle.walk.proofs.Draws.{drew-accepted, not-refused, draws-exactly}
@@ -57,42 +59,50 @@ differ-by : (l : Lent) (b : Bool) (x x′ y y′ : Outcome) → Differ l x x′ 
 differ-by l true x x′ y y′ p q = p
 differ-by l false x x′ y y′ p q = q
 
+-- what may leave one byte over leaves none over, or one
+used-either : (deep : Bool) (columns rows : ℕ) (map bytes : List ℕ) (n : ℕ) → Used default (packetIn deep columns rows map bytes) n
+    → Used strict (packetIn deep columns rows map bytes) n ⊎ (lastLength (packetIn deep columns rows map bytes) ≡ lastUsed (packetIn deep columns rows map bytes) n + 1)
+used-either false columns rows map bytes n u =
+    let p = packetIn false columns rows map bytes in
+    elim (decLt (start p n .bytes) (length (p .bytes))) [
+      | yes h ↦ inr (omega (arith, u .first))
+      | no h ↦ inl (record { first = omega arith; second = zero-le })
+    ]
+used-either true columns rows map bytes n u =
+    let p = packetIn true columns rows map bytes in
+    elim (decLt (start p n .offsets) (length (p .offsets))) [
+      | yes h ↦ inr (omega (arith, u .second))
+      | no h ↦ inl (record { first = u .first; second = omega arith })
+    ]
+
 module _ (film : List ℕ) (st : State) (n : ℕ) where
-  second-differ : (p : ℕ) (map packet : List ℕ) (l : Lent)
-      → Differ l (drawSecond st p map packet (within n default) l) (drawSecond st p map packet (within n strict) l)
-  unfolding called outcome leave comes drawnAs
-  second-differ p map packet l = by (verdicts-differ q m)
+  on-differ : (p : ℕ) (map packet : List ℕ) (l : Lent) → Differ l (drawOn st p map packet (within n default) l) (drawOn st p map packet (within n strict) l)
+  unfolding drawOn outcome leave comes drawnAs
+  on-differ p map packet l = by (verdicts-differ q m)
     where
       q : Request
-      q = request (st .columns) (st .rows) map packet (l .first) (within n default)
+      q = requestOf st map packet (within n default) l
 
       m : Memory
-      m = memory (l .second) (l .place)
+      m = drawnAt st l
 
       outcomeBy : Verdict → Outcome
-      outcomeBy v =
-          after (drawnStep st p (outcome (plan (packetIn q) (l .first)) (touched (packetIn q)) None m (comes v n)))
-          (withPictures l (l .first) (leave (plan (packetIn q) (l .first)) m (comes v n) .picture) (leave (plan (packetIn q) (l .first)) m (comes v n) .place))
+      outcomeBy v = after (drawnStep st p (outcome (callPlan q) (touched (packetOfCall q)) None m (comes v n))) (withDrawn st l (leave (callPlan q) m (comes v n)))
 
-      by : DifferAs (OneOver (packetIn q)) (drawVerdict q m) (drawVerdict (inForm strict q) m)
-          → Differ l (drawSecond st p map packet (within n default) l) (drawSecond st p map packet (within n strict) l)
+      by : DifferAs (OneOver (packetOfCall q)) (drawVerdict q m) (drawVerdict (inForm strict q) m)
+          → Differ l (outcomeBy (drawVerdict q m)) (outcomeBy (drawVerdict (inForm strict q) m))
       by (inl e) = inl (ap outcomeBy e)
-      by (inr d) = inr (drew-accepted st p q m (d .1), ap outcomeBy (d .2))
+      by (inr d) = inr (drew-accepted st p q m (d .1), ap outcomeBy (d .2) ∙ ap (λ (k : Lent). after (quiet (refused 15 0)) k) (drawn-back st l))
 
-  swap-differ : (l : Lent) (x y : Outcome) → Differ (swap l) x y → Differ l (after (x .step) (swap (x .lent))) (after (y .step) (swap (y .lent)))
-  swap-differ l x y (inl e) = inl (ap (λ (o : Outcome). after (o .step) (swap (o .lent))) e)
-  swap-differ l x y (inr d) = inr (d .0, ap (λ (o : Outcome). after (o .step) (swap (o .lent))) (d .1))
-
-  on-differ : (p : ℕ) (map packet : List ℕ) (l : Lent) → Differ l (drawOn st p map packet (within n default) l) (drawOn st p map packet (within n strict) l)
-  unfolding drawOn
-  on-differ p map packet l =
-      differ-by l (eqb (st .front) 0) _ _ _ _ (second-differ p map packet l) (swap-differ l _ _ (second-differ p map packet (swap l)))
-
-  map-differ : (map : Map) (body : List ℕ) (p : ℕ) (l : Lent) → Differ l (drawBy map film st body p (within n default) l) (drawBy map film st body p (within n strict) l)
-  unfolding drawBy
+  map-differ : (map : Map) (body : List ℕ) (p : ℕ) (l : Lent) → Differ l (drawMapped map film st body p (within n default) l) (drawMapped map film st body p (within n strict) l)
+  unfolding drawMapped
   map-differ Missing body p l = inl refl
   map-differ (Part s long) body p l =
       differ-by l (eqb (st .columns) 0) _ _ _ _ (inl refl) (on-differ p (part film s (s + long)) (part body 14 (length body)) l)
+
+  body-differ : (map : Map) (body : List ℕ) (p : ℕ) (l : Lent) → Differ l (drawBy map film st body p (within n default) l) (drawBy map film st body p (within n strict) l)
+  unfolding drawBy
+  body-differ map body p l = differ-by l (isBodyShort (st .deep) (length body)) _ _ _ _ (inl refl) (map-differ map body p l)
 
   act-differ : (kind version s : ℕ) (body : List ℕ) (p : ℕ) (l : Lent)
       → DifferIf (kind ≡ 17) l (act film st kind version s body p (within n default) l) (act film st kind version s body p (within n strict) l)
@@ -109,11 +119,11 @@ module _ (film : List ℕ) (st : State) (n : ℕ) where
           → DifferIf (kind ≡ 17) l (cond b (mapTo st (mapped st p (Part s (p - s))) n l) (cond c (drawBy (st .map) film st body p (within n default) l) other))
           (cond b (mapTo st (mapped st p (Part s (p - s))) n l) (cond c (drawBy (st .map) film st body p (within n strict) l) other))
       by true c e = inl refl
-      by false true e = differ-if (kind ≡ 17) l _ _ (eqb-true _ _ e) (map-differ (st .map) body p l)
+      by false true e = differ-if (kind ≡ 17) l _ _ (eqb-true _ _ e) (body-differ (st .map) body p l)
       by false false e = inl refl
 
   module _ (l : Lent) where
-    taken-differ : (o : Opcode) → nextOf film st (length (l .palette)) (length (l .first)) (length (l .second)) ≡ found.opcode o
+    taken-differ : (o : Opcode) → standsAt film st l ≡ found.opcode o
         → DifferIf (AtPacket film st l) l (takeOn film st o (within n default) l) (takeOn film st o (within n strict) l)
     unfolding takeOn
     taken-differ o q = by (hears (chosen (st .sound .stream)) (o .kind)) (act-differ (o .kind) (o .version) (o .start) (part film (o .start) (o .start + o .long)) (o .start + o .long) l)
@@ -127,7 +137,7 @@ module _ (film : List ℕ) (st : State) (n : ℕ) where
         by false (inl e) = inl e
         by false (inr d) = inr (record { found = o; stands = q; is-11 = d .0 }, d .1, d .2)
 
-    standing-differ : (s : Standing) → nextOf film st (length (l .palette)) (length (l .first)) (length (l .second)) ≡ s
+    standing-differ : (s : Standing) → standsAt film st l ≡ s
         → DifferIf (AtPacket film st l) l (standing s film st (within n default) l) (standing s film st (within n strict) l)
     unfolding standing
     standing-differ (found.refused k b) q = inl refl
@@ -137,7 +147,7 @@ module _ (film : List ℕ) (st : State) (n : ℕ) where
 
     steps-differ : DifferIf (AtPacket film st l) l (stepOf film st (within n default) l) (stepOf film st (within n strict) l)
     unfolding stepOf
-    steps-differ = standing-differ (nextOf film st (length (l .palette)) (length (l .first)) (length (l .second))) refl
+    steps-differ = standing-differ (standsAt film st l) refl
 
     exactly : (spare : ℕ)
         → (Draws spare film st l → Drew (stepOf film st (within n spare) l .step .answer)) × (AtPacket film st l → Drew (stepOf film st (within n spare) l .step .answer) → Draws spare film st l)
@@ -146,13 +156,14 @@ module _ (film : List ℕ) (st : State) (n : ℕ) where
     at-packet : {spare : ℕ} → Draws spare film st l → AtPacket film st l
     at-packet d = record { found = d .found; stands = d .stands; is-11 = d .is-11 }
 
-    -- the bytes that a drawing uses, with so many that may be left over
-    Used : ℕ → Opcode → ℕ → ℕ → Type 0
-    Used spare o s long =
-        let p = packet (st .columns) (st .rows) (part film s (s + long)) (packetOf film o) in
-        length (packetOf film o) ≤ start p (blocks p) + spare
+    -- the packet that a drawing uses up, with so many bytes that may be left over
+    abbrev packetAt : Opcode → ℕ → ℕ → Packet
+    packetAt o s long = packetIn (st .deep) (st .columns) (st .rows) (part film s (s + long)) (packetOf film o)
 
-    used-as : (spare : ℕ) (o o′ : Opcode) (s s′ long long′ : ℕ) → o ≡ o′ → s ≡ s′ → long ≡ long′ → Used spare o s long → Used spare o′ s′ long′
+    abbrev UsedUp : ℕ → Opcode → ℕ → ℕ → Type 0
+    UsedUp spare o s long = Used spare (packetAt o s long) (blocks (packetAt o s long))
+
+    used-as : (spare : ℕ) (o o′ : Opcode) (s s′ long long′ : ℕ) → o ≡ o′ → s ≡ s′ → long ≡ long′ → UsedUp spare o s long → UsedUp spare o′ s′ long′
     used-as spare o o′ s s′ long long′ e f g u = rw (← e, ← f, ← g) u
 
     opcode-is : (o o′ : Opcode) → found.opcode o ≡ found.opcode o′ → o ≡ o′
@@ -163,16 +174,14 @@ module _ (film : List ℕ) (st : State) (n : ℕ) where
 
     -- what the strict form draws leaves no byte over
     none-over : Draws strict film st l → Odd film st l → ⊥
-    unfolding Used
     none-over d o =
         let a = o .draws in
         let m = part-is (d .start) (d .long) (a .start) (a .long) (sym (d .mapped) ∙ a .mapped) in
         let u = used-as strict (d .found) (a .found) (d .start) (a .start) (d .long) (a .long) (opcode-is (d .found) (a .found) (sym (d .stands) ∙ a .stands)) (m .0) (m .1) (d .accepted .used) in
-        omega (arith, u, o .over)
+        packet.none-over (st .deep) (st .columns) (st .rows) _ _ _ u (o .over)
 
     -- and what leaves none over the strict form draws
-    strictly : (d : Draws default film st l) → Used strict (d .found) (d .start) (d .long) → Draws strict film st l
-    unfolding Used
+    strictly : (d : Draws default film st l) → UsedUp strict (d .found) (d .start) (d .long) → Draws strict film st l
     strictly d u =
         record {
           found = d .found;
@@ -181,7 +190,8 @@ module _ (film : List ℕ) (st : State) (n : ℕ) where
           start = d .start;
           long = d .long;
           mapped = d .mapped;
-          accepted = record { wide = d .accepted .wide; high = d .accepted .high; mapped = d .accepted .mapped; drawn = d .accepted .drawn; used = u };
+          accepted =
+              record { wide = d .accepted .wide; high = d .accepted .high; mapped = d .accepted .mapped; parts = d .accepted .parts; drawn = d .accepted .drawn; used = u };
           within = d .within;
         }
 
@@ -197,17 +207,11 @@ module _ (film : List ℕ) (st : State) (n : ℕ) where
             absurd (none-over (exactly strict .1 (at-packet (o .draws)) (subst (λ (y : Outcome). Drew (y .step .answer)) e (exactly default .0 (o .draws)))) o)
 
     is-odd : (d : Draws default film st l) → (Draws strict film st l → ⊥) → Odd film st l
-    unfolding Used
-    is-odd d never =
-        let p = packet (st .columns) (st .rows) (part film (d .start) (d .start + d .long)) (packetOf film (d .found)) in
-        record {
-          draws = d;
-          over =
-              elim (decLt (start p (blocks p)) (length (packetOf film (d .found)))) [
-                | yes h ↦ omega (arith, d .accepted .used)
-                | no h ↦ absurd (never (strictly d (omega arith)))
-              ];
-        }
+    is-odd d never = by (used-either (st .deep) (st .columns) (st .rows) _ _ _ (d .accepted .used))
+      where
+        by : UsedUp strict (d .found) (d .start) (d .long) ⊎ OneOver (packetAt (d .found) (d .start) (d .long)) → Odd film st l
+        by (inl u) = absurd (never (strictly d u))
+        by (inr o) = record { draws = d; over = o }
 
     same-step : (Odd film st l → ⊥) → stepOf film st (within n default) l ≡ stepOf film st (within n strict) l
     same-step never = by steps-differ

@@ -1,3 +1,4 @@
+pub mod Pictures
 pub mod View
 pub mod Walk
 pub mod Possible

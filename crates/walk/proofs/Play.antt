@@ -1,24 +1,21 @@
 -- `play-one`: a film plays in one way at most. `play-possible`: of the states on the way. `play-all`: with `most` stores a call, or more, it plays, whatever the film, the state and what is lent.
 -- Assumes nothing.
 use mathlib.Core.Path.{_≡_, refl, sym, ap, ap₂, _∙_, subst}
-use mathlib.Core.Bool.{Bool, true, false, cond}
 use mathlib.Core.List.{List, [], _++_}
 use Prim.Native.Nat.{ℕ, zero, suc, _+_, _-_, _≤_}
 use native.Mathlib.Omega.{arith}
 use borrow.Author.Tests.{eq-eqb, ne-eqb, le-ltb}
-use lib.Dec.{eqb}
 use lib.ListN.{length}
 use lib.Seq.{take-all}
 use Rattle.refusal.specs.Number.{Verdict, accept, refuse}
 use Rattle.packet.specs.declared.Touched.the-variants.{None}
 use Rattle.packet.specs.Rows.{touched}
-use Rattle.stores.specs.Stores.{Plan, Memory, memory, pixels, stores, following, due, run}
+use Rattle.stores.specs.Stores.{Plan, Memory, pixels, stores, following, due, run}
 use Rattle.stores.specs.Stores as drawing
 use Rattle.stores.specs.Calls.{answered, outcome}
 use Rattle.stores.proofs.Steps.{run-append}
 use Rattle.draw.specs.declared.Allowed.{Allowed}
-use Rattle.draw.specs.Drawing.{plan}
-use Rattle.draw.specs.Call.{Request, request, drawVerdict, comes, report}
+use Rattle.draw.specs.Call.{Request, olderOf, callPlan, drawVerdict, comes, report}
 use Rattle.draw.specs.Call.{packetOf as packetIn}
 use Rattle.draw.proofs.Judged.{accepted-call}
 use Rattle.book.proofs.Lawful.{stores-few}
@@ -28,10 +25,10 @@ use Rattle.palette.proofs.Entries.{entries-few}
 use Rattle.palette.proofs.Groups.{groups-few}
 use Rattle.state.specs.declared.State.{State}
 use Rattle.opcodes.specs.Opcodes.{Answer, taken, whole, unfinished, ended, refused, drawnAs, drawnStep}
-use Rattle.film.specs.Film.{Lent, swap, Outcome, after, called, drawSecond, drawOn, part, paletteStep, update, mapTo, heardBy, hear, stepOf}
+use Rattle.film.specs.Film.{Lent, drawnAt, Outcome, requestOf, drawOn, part, paletteStep, update, mapTo, heardBy, hear, stepOf}
 use Rattle.walk.specs.Walk.{Forward, Moves}
 use Rattle.walk.specs.Draws.{bodyOf, packetOf, Drew}
-use Rattle.walk.specs.View.{endOf, Colours, gradient, entries, masks, View, refuses, ends, enters, sounds, maps, colours, undrawn, draws, others}
+use Rattle.walk.specs.View.{endOf, Colours, gradient, entries, masks, View, refuses, ends, enters, sounds, maps, colours, too-short, undrawn, draws, others}
 use Rattle.walk.specs.Possible.{OfState, Follows}
 use Rattle.walk.specs.Play.{most, Event, eventsOf, End, over, by-refusal, on, leadOf, Plays, stops, goes, Play}
 use Rattle.walk.proofs.Walk.{step-moves}
@@ -101,29 +98,19 @@ module _ (film : List ℕ) (st : State) (allowed : Allowed) (big : most ≤ allo
   called-done p q m enough s = by (drawVerdict q m) refl
     where
       by : (v : Verdict) → drawVerdict q m ≡ v
-          → drawnStep st p (outcome (plan (packetIn q) (q .front)) (touched (packetIn q)) None m (comes v (q .allowed .stores))) .answer ≡ unfinished s → ⊥
+          → drawnStep st p (outcome (callPlan q) (touched (packetIn q)) None m (comes v (q .allowed .stores))) .answer ≡ unfinished s → ⊥
       by accept e f =
-          let a = accepted-call _ _ _ _ _ _ _ _ e .1 in
-          let few = stores-few (packetIn q) (a .sized) (q .front) (m .place) (a .at) in
-          let t = through (plan (packetIn q) (q .front)) m (q .allowed .stores) (a .at) (omega (arith, few)) in
+          let a = accepted-call _ _ _ _ _ _ _ _ _ _ e .1 in
+          let few = stores-few (packetIn q) (a .sized) (olderOf q) (m .place) (a .at) in
+          let t = through (callPlan q) m (q .allowed .stores) (a .at) (omega (arith, few)) in
           let g = rw (eq-eqb _ _ t) at f in
           let z : _≡_ {A = ℕ} 0 1 = cc in
           omega arith
       by (refuse n k) e f = let z : _≡_ {A = ℕ} 0 1 = cc in omega arith
 
-  second-done : (p : ℕ) (map packet : List ℕ) (l : Lent) (s : State) → drawSecond st p map packet allowed l .step .answer ≡ unfinished s → ⊥
-  unfolding called
-  second-done p map packet l s e = called-done p (request (st .columns) (st .rows) map packet (l .first) allowed) (memory (l .second) (l .place)) big s e
-
   on-done : (p : ℕ) (map packet : List ℕ) (l : Lent) (s : State) → drawOn st p map packet allowed l .step .answer ≡ unfinished s → ⊥
   unfolding drawOn
-  on-done p map packet l s = by (eqb (st .front) 0)
-    where
-      by : (b : Bool)
-          → cond b (drawSecond st p map packet allowed l) (after (drawSecond st p map packet allowed (swap l) .step) (swap (drawSecond st p map packet allowed (swap l) .lent))) .step .answer
-          ≡ unfinished s → ⊥
-      by true e = second-done p map packet l s e
-      by false e = second-done p map packet (swap l) s e
+  on-done p map packet l s e = called-done p (requestOf st map packet allowed l) (drawnAt st l) big s e
 
   update-done : (p : ℕ) (u : Update) (l : Lent) → (verdictOn u (l .palette) ≡ accept → length (u .stores) ≤ 1536) → (s : State)
       → update st p u (allowed .stores) l .step .answer ≡ unfinished s → ⊥
@@ -153,6 +140,7 @@ module _ (film : List ℕ) (st : State) (allowed : Allowed) (big : most ≤ allo
   done {l} (sounds o a h) s q = not-heard st (endOf o) (heardBy (st .sound) (o .kind) (o .version) (bodyOf film o) (length (l .room))) (stuck _ s q)
   done {l} (maps o a u e) s q = map-done _ l s q
   done {l} (colours o x a u c) s q = update-done (endOf o) x l (λ v. colours-few (o .kind) (bodyOf film o) c (length (l .palette)) v) s q
+  done (too-short o a u e d n) s q = not-refused 5 0 (stuck _ s q)
   done (undrawn o a u e m) s q = not-refused 9 0 (stuck _ s q)
   done {l} (draws o start long a u e m c) s q = on-done (endOf o) (part film start (start + long)) (packetOf film o) l s q
   done (others o a u x) s q = not-quiet (length film) st (o .kind) (o .version) (bodyOf film o) (endOf o) (stuck _ s q)

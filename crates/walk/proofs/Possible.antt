@@ -15,8 +15,7 @@ use Rattle.packet.specs.declared.Touched.{Touched}
 use Rattle.packet.specs.Verdict.{legal, legalSize}
 use Rattle.stores.specs.Calls.{Answer, whole, unfinished, refusal}
 use Rattle.draw.specs.declared.Allowed.{Allowed}
-use Rattle.draw.specs.Call.{Reason, request, report}
-use Rattle.stores.specs.Stores.{memory}
+use Rattle.draw.specs.Call.{Reason, report}
 use Rattle.palette.specs.Update.{Change}
 use Rattle.palette.specs.Update as palette
 use Rattle.sound.specs.declared.Format.{Format}
@@ -30,15 +29,15 @@ use Rattle.state.specs.declared.Map.{Map}
 use Rattle.state.specs.declared.Map.the-variants.{Part}
 use Rattle.state.specs.declared.State.{State}
 use Rattle.state.specs.Moves.{cursorBehind, cursorAtEnd, at, behind, atEnd, sized, shownNext, sent, mapped, heard, finished}
-use Rattle.state.specs.State.{possibleSize, mapInside, possible, boundsVerdict, stateVerdict}
+use Rattle.state.specs.State.{mostFront, possibleSize, mapInside, possible, boundsVerdict, stateVerdict}
 use Rattle.next.proofs.Standing.{found-chunk}
 use Rattle.next.proofs.Standing as next
-use Rattle.opcodes.specs.Opcodes.{taken, refused, stored, quiet, sizeAnswer, colourOf, quietAnswer, heardStep, drawnAs}
+use Rattle.opcodes.specs.Opcodes.{taken, refused, stored, quiet, isDeep, sizeAnswer, colourOf, quietAnswer, heardStep, drawnAs}
 use Rattle.opcodes.specs.Opcodes as step
-use Rattle.film.specs.Film.{Lent, withPictures, swap, Outcome, after, called, drawSecond, drawOn, paletteStep, mapTo, heardBy, hear, stepOf}
+use Rattle.film.specs.Film.{Lent, withPictures, drawnAt, shortest, Outcome, after, requestOf, drawOn, paletteStep, mapTo, heardBy, hear, stepOf}
 use Rattle.walk.specs.Possible.{OfState, Follows}
 use Rattle.walk.specs.Draws.{bodyOf}
-use Rattle.walk.specs.View.{View, refuses, ends, enters, sounds, maps, colours, undrawn, draws, others, endOf}
+use Rattle.walk.specs.View.{View, refuses, ends, enters, sounds, maps, colours, too-short, undrawn, draws, others, endOf}
 use Rattle.walk.proofs.View.{view-of}
 
 none : (n : ℕ) → refuse n 0 ≡ accept → ⊥
@@ -50,16 +49,16 @@ false-true e = let z : _≡_ {A = ℕ} 0 1 = cc in omega arith
 -- what 16 asks of a state beside its cursor
 pub record Kept (film : ℕ) (st : State) : Type 0 where
   pub map : mapInside (st .map) film ≡ true
-  pub front : st .front ≤ 1
+  pub front : st .front ≤ mostFront (st .deep)
   pub rest : possible st ≡ true
 
-kept-is : (st : State) (film : ℕ) → stateVerdict st film ≡ accept → Kept film st
+pub kept-is : (st : State) (film : ℕ) → stateVerdict st film ≡ accept → Kept film st
 unfolding stateVerdict boundsVerdict
 kept-is st film v =
     let a = not-first (ltb (st .cursor .«chunk_end») (st .cursor .position)) _ _ _ (none 16) v in
     let b = not-first (ltb film (st .cursor .«chunk_end»)) _ _ _ (none 16) (a .1) in
     let c = first (mapInside (st .map) film) _ _ _ (none 16) (b .1) in
-    let d = not-first (ltb 1 (st .front)) _ _ _ (none 16) (c .1) in
+    let d = not-first (ltb (mostFront (st .deep)) (st .front)) _ _ _ (none 16) (c .1) in
     let e = first (possible st) _ _ _ (none 16) (d .1) in
     record { map = c .0; front = ltb-false _ _ (d .0); rest = e .0 }
 
@@ -69,24 +68,39 @@ accepts st film a b k = rw (le-ltb _ _ a, le-ltb _ _ b, k .map, le-ltb _ _ (k .f
 
 -- ---- sizes and fronts
 
-shown-most : (u : Bool) (f : ℕ) → f ≤ 1 → shownNext u f ≤ 1
-unfolding shownNext
-shown-most false f h = h
-shown-most true f h = by (eqb f 0)
+shown-most : (d u : Bool) (f : ℕ) → f ≤ mostFront d → shownNext d u f ≤ mostFront d
+unfolding shownNext mostFront
+shown-most d false f h = h
+shown-most d true f h = by d (eqb f 0) (eqb f 1)
   where
-    by : (b : Bool) → cond b 1 0 ≤ 1
-    by true = omega arith
-    by false = omega arith
+    by : (d a b : Bool) → cond a 1 (cond d (cond b 2 0) 0) ≤ cond d 2 1
+    by true true b = omega arith
+    by true false true = omega arith
+    by true false false = omega arith
+    by false true b = omega arith
+    by false false b = omega arith
+
+-- before 05 no film has true colour, so front is 0 or 1, which it can be of any film
+flat-front : (d e : Bool) (f : ℕ) → d ≡ false → f ≤ mostFront d → f ≤ mostFront e
+unfolding mostFront
+flat-front true e f q h = absurd (false-true (sym q))
+flat-front false true f q h = omega arith
+flat-front false false f q h = h
+
+pub unsized-flat : (deep : Bool) (columns rows : ℕ) → eqb columns 0 ≡ true → possibleSize deep columns rows ≡ true → deep ≡ false
+unfolding possibleSize
+unsized-flat true columns rows e h = absurd (false-true (rw e at h))
+unsized-flat false columns rows e h = refl
 
 not-legal : (rows : ℕ) → legalSize 0 rows ≡ false
 unfolding legalSize legal
 not-legal rows = refl
 
-legal-possible : (columns rows : ℕ) → legalSize columns rows ≡ true → possibleSize columns rows ≡ true
+legal-possible : (deep : Bool) (columns rows : ℕ) → legalSize columns rows ≡ true → possibleSize deep columns rows ≡ true
 unfolding possibleSize
-legal-possible columns rows h = by (eqb columns 0) refl
+legal-possible deep columns rows h = by (eqb columns 0) refl
   where
-    by : (b : Bool) → eqb columns 0 ≡ b → cond b (eqb rows 0) (legalSize columns rows) ≡ true
+    by : (b : Bool) → eqb columns 0 ≡ b → cond b (cond deep false (eqb rows 0)) (legalSize columns rows) ≡ true
     by true e = absurd (false-true (sym (not-legal rows) ∙ ap (λ (n : ℕ). legalSize n rows) (sym (eqb-true columns 0 e)) ∙ h))
     by false e = h
 
@@ -169,9 +183,9 @@ module _ (film : List ℕ) (st : State) (v : stateVerdict st (length film) ≡ a
   k : Kept (length film) st
   k = kept-is st (length film) v
 
-  both : (possibleSize (st .columns) (st .rows) ≡ true) × (possibleSound (st .sound) ≡ true)
+  both : (possibleSize (st .deep) (st .columns) (st .rows) ≡ true) × (possibleSound (st .sound) ≡ true)
   unfolding possible
-  both = first (possibleSize (st .columns) (st .rows)) false (possibleSound (st .sound)) true false-true (k .rest)
+  both = first (possibleSize (st .deep) (st .columns) (st .rows)) false (possibleSound (st .sound)) true false-true (k .rest)
 
   to-at : (c : Cursor) → c .position ≤ c .«chunk_end» → c .«chunk_end» ≤ length film → To (at st c)
   unfolding at possible
@@ -194,7 +208,7 @@ module _ (film : List ℕ) (st : State) (v : stateVerdict st (length film) ≡ a
     unfolding sent possible cursorBehind
     to-sent =
         record {
-          possible = accepts (sent st p) (length film) within inside (record { map = k .map; front = shown-most (st .unsent) (st .front) (k .front); rest = k .rest });
+          possible = accepts (sent st p) (length film) within inside (record { map = k .map; front = shown-most (st .deep) (st .unsent) (st .front) (k .front); rest = k .rest });
           stream = refl;
         }
 
@@ -213,11 +227,17 @@ module _ (film : List ℕ) (st : State) (v : stateVerdict st (length film) ≡ a
     to-heard s h e =
         record { possible = accepts (heard st p s) (length film) within inside (record { map = k .map; front = k .front; rest = rw (both .0) h }); stream = e }
 
-    to-sized : (columns rows : ℕ) → legalSize columns rows ≡ true → To (sized st p columns rows)
+    to-sized : (columns rows : ℕ) (deep : Bool) → eqb (st .columns) 0 ≡ true → legalSize columns rows ≡ true → To (sized st p columns rows deep)
     unfolding sized possible cursorBehind
-    to-sized columns rows h =
+    to-sized columns rows deep e h =
         record {
-          possible = accepts (sized st p columns rows) (length film) within inside (record { map = k .map; front = k .front; rest = rw (legal-possible columns rows h) (both .1) });
+          possible =
+              accepts (sized st p columns rows deep) (length film) within inside
+              (record {
+                map = k .map;
+                front = flat-front (st .deep) deep (st .front) (unsized-flat (st .deep) (st .columns) (st .rows) e (both .0)) (k .front);
+                rest = rw (legal-possible deep columns rows h) (both .1);
+              });
           stream = refl;
         }
 
@@ -225,14 +245,13 @@ module _ (film : List ℕ) (st : State) (v : stateVerdict st (length film) ≡ a
 
     size-given : (columns rows c : ℕ) → OfState To (sizeAnswer st p columns rows c)
     unfolding sizeAnswer OfState
-    size-given columns rows c = by (eqb (st .columns) 0) (legalSize columns rows) refl (eqb c 0)
+    size-given columns rows c = by (eqb (st .columns) 0) refl (legalSize columns rows) refl
       where
-        by : (t u : Bool) → legalSize columns rows ≡ u → (w : Bool)
-            → OfState To (cond t (cond u (cond w (taken (sized st p columns rows)) (refused 6 0)) (refused 6 0)) (refused 6 0))
-        by true true e true = to-sized columns rows e
-        by true true e false = tt
-        by true false e w = tt
-        by false u e w = tt
+        by : (t : Bool) → eqb (st .columns) 0 ≡ t → (u : Bool) → legalSize columns rows ≡ u
+            → OfState To (cond t (cond u (taken (sized st p columns rows (isDeep c))) (refused 6 0)) (refused 6 0))
+        by true e true f = to-sized columns rows (isDeep c) e f
+        by true e false f = tt
+        by false e u f = tt
 
     quiet-given : (kind version : ℕ) (body : List ℕ) → OfState To (quietAnswer (length film) st kind version body p)
     unfolding quietAnswer OfState
@@ -273,20 +292,11 @@ module _ (film : List ℕ) (st : State) (v : stateVerdict st (length film) ≡ a
     drawn-given unfinished n t = record { possible = v; stream = refl }
     drawn-given (refusal r) n t = tt
 
-    second-given : (map packet : List ℕ) (allowed : Allowed) (l : Lent) → OfState To (drawSecond st p map packet allowed l .step .answer)
-    unfolding called
-    second-given map packet allowed l =
-        let r = report (memory (l .second) (l .place)) (request (st .columns) (st .rows) map packet (l .first) allowed) in
-        drawn-given (r .answer) (r .count) (r .rows)
-
     on-given : (map packet : List ℕ) (allowed : Allowed) (l : Lent) → OfState To (drawOn st p map packet allowed l .step .answer)
     unfolding drawOn
-    on-given map packet allowed l = by (eqb (st .front) 0)
-      where
-        by : (b : Bool)
-            → OfState To (cond b (drawSecond st p map packet allowed l) (after (drawSecond st p map packet allowed (swap l) .step) (swap (drawSecond st p map packet allowed (swap l) .lent))) .step .answer)
-        by true = second-given map packet allowed l
-        by false = second-given map packet allowed (swap l)
+    on-given map packet allowed l =
+        let r = report (drawnAt st l) (requestOf st map packet allowed l) in
+        drawn-given (r .answer) (r .count) (r .rows)
 
 -- ---- a step
 
@@ -296,7 +306,7 @@ module _ (film : List ℕ) (st : State) (allowed : Allowed) (l : Lent) where
   given (refuses n i e) = tt
   given (ends e v) = record { possible = v; stream = refl }
   given (enters c e v) =
-      let f = found-chunk film st (length (l .palette)) (length (l .first)) (length (l .second)) c e in
+      let f = found-chunk film st (length (l .palette)) (shortest st l) c e in
       to-at film st v c (f .2 .ordered) (f .2 .inside)
   given (sounds o a h) =
       heard-given film st (a .accepted) (endOf o) (a .ready .within) _
@@ -305,6 +315,7 @@ module _ (film : List ℕ) (st : State) (allowed : Allowed) (l : Lent) where
       let h : o .start + (endOf o - o .start) ≤ length film = omega (arith, a .ready .inside) in
       map-given film st (a .accepted) (endOf o) (a .ready .within) (Part (o .start) (endOf o - o .start)) (le-leb _ _ h) (allowed .stores) l
   given (colours o x a u c) = palette-given film st (a .accepted) (endOf o) (a .ready .within) _
+  given (too-short o a u e d n) = tt
   given (undrawn o a u e m) = tt
   given (draws o start long a u e m n) = on-given film st (a .accepted) (endOf o) (a .ready .within) _ _ allowed l
   given (others o a u n) = quiet-given film st (a .accepted) (endOf o) (a .ready .within) (o .kind) (o .version) (bodyOf film o)

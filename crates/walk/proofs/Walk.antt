@@ -1,6 +1,6 @@
 -- `step-moves`, `step-keeps`: of every step. `walked-far`, `walked-few`: of every walk.
 -- Assumes nothing.
-use mathlib.Core.Path.{refl, ap, subst}
+use mathlib.Core.Path.{refl, subst}
 use mathlib.Core.Bool.{Bool, true, false, cond}
 use mathlib.Core.List.{List}
 use Prim.Native.Nat.{ℕ, _+_, _*_, _≤_}
@@ -13,11 +13,10 @@ use Rattle.packet.specs.declared.Touched.{Touched}
 use Rattle.packet.specs.declared.Touched.the-variants.{None}
 use Rattle.packet.specs.Rows.{touched}
 use Rattle.packet.specs.Verdict.{legalSize}
-use Rattle.stores.specs.Stores.{Plan, memory, count, after as afterStores}
-use Rattle.stores.specs.Calls.{Call, allowed as allows, refused as denied, answered, leave, outcome, step}
-use Rattle.draw.specs.Drawing.{plan}
+use Rattle.stores.specs.Stores.{Plan, count, after as afterStores}
+use Rattle.stores.specs.Calls.{Call, allowed as allows, refused as denied, answered, leave, outcome}
 use Rattle.draw.specs.declared.Allowed.{Allowed}
-use Rattle.draw.specs.Call.{Request, request, packetOf, drawVerdict, Reason, comes}
+use Rattle.draw.specs.Call.{packetOf, callPlan, drawVerdict, Reason, comes}
 use Rattle.listed.specs.Store.{applied}
 use Rattle.palette.specs.Update.{Update, verdictOn, changeOf, changeBy, onAccept, paletteAfter}
 use Rattle.palette.specs.Update as palette
@@ -29,10 +28,11 @@ use Rattle.sound.specs.Step as sound
 use Rattle.sound.specs.Sound.{answer}
 use Rattle.heads.specs.declared.Opcode.{Opcode}
 use Rattle.next.proofs.Standing.{possible, found-chunk}
-use Rattle.opcodes.specs.Opcodes.{Answer, Step, taken, whole, unfinished, ended, refused, stored, quiet, sizeAnswer, colourOf, quietAnswer, heardStep, drawnAs, drawnStep}
-use Rattle.film.specs.Film.{Lent, withPalette, withPictures, withRoom, swap, Outcome, after, called, drawOn, paletteStep, update, mapTo, heardBy, hear, stepOf}
+use Rattle.opcodes.specs.Opcodes.{Answer, taken, whole, unfinished, ended, refused, stored, quiet, isDeep, sizeAnswer, colourOf, quietAnswer, heardStep, drawnAs, drawnStep}
+use Rattle.film.specs.Film.{Lent, withPalette, withPictures, withRoom, drawnAt, withDrawn, shortest, Outcome, after, requestOf, drawOn, paletteStep, update, mapTo, heardBy, hear, stepOf}
+use Rattle.film.proofs.Pictures.{drawn-back}
 use Rattle.walk.specs.Draws.{bodyOf}
-use Rattle.walk.specs.View.{endOf, AtOpcode, View, refuses, ends, enters, sounds, maps, colours, undrawn, draws, others}
+use Rattle.walk.specs.View.{endOf, AtOpcode, View, refuses, ends, enters, sounds, maps, colours, too-short, undrawn, draws, others}
 use Rattle.walk.specs.Walk.{Forward, Moves, Still, Keeps, GoesTo, Walked, none, more}
 use Rattle.walk.proofs.View.{view-of}
 
@@ -52,9 +52,9 @@ module _ (film : List ℕ) (st : State) (p : ℕ) (rises : st .cursor .position 
   unfolding at cursorAtEnd
   on-end = record { rises = omega arith; ordered = omega arith; inside = omega arith }
 
-  on-sized : (columns rows : ℕ) → Forward (length film) st (sized st p columns rows)
+  on-sized : (columns rows : ℕ) (deep : Bool) → Forward (length film) st (sized st p columns rows deep)
   unfolding sized cursorBehind
-  on-sized columns rows = record { rises = rises; ordered = within; inside = inside }
+  on-sized columns rows deep = record { rises = rises; ordered = within; inside = inside }
 
   on-sent : Forward (length film) st (sent st p)
   unfolding sent cursorBehind
@@ -74,13 +74,12 @@ module _ (film : List ℕ) (st : State) (p : ℕ) (rises : st .cursor .position 
 
   size-moves : (columns rows c : ℕ) → Moves (length film) st (sizeAnswer st p columns rows c)
   unfolding sizeAnswer Moves
-  size-moves columns rows c = by (eqb (st .columns) 0) (legalSize columns rows) (eqb c 0)
+  size-moves columns rows c = by (eqb (st .columns) 0) (legalSize columns rows)
     where
-      by : (t u v : Bool) → Moves (length film) st (cond t (cond u (cond v (taken (sized st p columns rows)) (refused 6 0)) (refused 6 0)) (refused 6 0))
-      by true true true = on-sized columns rows
-      by true true false = tt
-      by true false v = tt
-      by false u v = tt
+      by : (t u : Bool) → Moves (length film) st (cond t (cond u (taken (sized st p columns rows (isDeep c))) (refused 6 0)) (refused 6 0))
+      by true true = on-sized columns rows (isDeep c)
+      by true false = tt
+      by false u = tt
 
   quiet-moves : (kind version : ℕ) (body : List ℕ) → Moves (length film) st (quietAnswer (length film) st kind version body p)
   unfolding quietAnswer Moves
@@ -122,37 +121,23 @@ module _ (film : List ℕ) (st : State) (p : ℕ) (rises : st .cursor .position 
       by true = record { moves = refl; keeps = λ s. absurd s }
       by false = record { moves = on-mapped m; keeps = λ s. absurd s }
 
-  -- 11, on the second picture
+  -- 11
   plan-good : (d : Plan) (t : Touched) (l : Lent) (v : Call Reason)
-      → Good (length film) st l
-      (after (drawnStep st p (outcome d t None (memory (l .second) (l .place)) v))
-      (withPictures l (l .first) (leave d (memory (l .second) (l .place)) v .picture) (leave d (memory (l .second) (l .place)) v .place)))
+      → Good (length film) st l (after (drawnStep st p (outcome d t None (drawnAt st l) v)) (withDrawn st l (leave d (drawnAt st l) v)))
   unfolding drawnAs Moves Still outcome answered leave
-  plan-good d t l (denied r) = quiet-good l (refused (r .number) (r .block)) tt
-  plan-good d t l (allows n) = by (eqb (afterStores d (memory (l .second) (l .place)) n .place) (d .blocks))
+  plan-good d t l (denied r) = record { moves = tt; keeps = λ s. drawn-back st l }
+  plan-good d t l (allows n) = by (eqb (afterStores d (drawnAt st l) n .place) (d .blocks))
     where
       by : (b : Bool)
-          → Good (length film) st l
-          (after (drawnAs st p (answered b) (count d (memory (l .second) (l .place)) n) t)
-          (withPictures l (l .first) (afterStores d (memory (l .second) (l .place)) n .picture) (afterStores d (memory (l .second) (l .place)) n .place)))
+          → Good (length film) st l (after (drawnAs st p (answered b) (count d (drawnAt st l) n) t) (withDrawn st l (afterStores d (drawnAt st l) n)))
       by true = record { moves = on-finished; keeps = λ s. absurd s }
       by false = record { moves = refl; keeps = λ s. absurd s }
 
-  called-good : (q : Request) (l : Lent) → Good (length film) st l (called st p q l)
-  unfolding called
-  called-good q l = plan-good (plan (packetOf q) (q .front)) (touched (packetOf q)) l (comes (drawVerdict q (memory (l .second) (l .place))) (q .allowed .stores))
-
   on-good : (map packet : List ℕ) (n : Allowed) (l : Lent) → Good (length film) st l (drawOn st p map packet n l)
   unfolding drawOn
-  on-good map packet n l = by (eqb (st .front) 0)
-    where
-      q : List ℕ → Request
-      q front = request (st .columns) (st .rows) map packet front n
-
-      by : (t : Bool)
-          → Good (length film) st l (cond t (called st p (q (l .first)) l) (after (called st p (q (l .second)) (swap l) .step) (swap (called st p (q (l .second)) (swap l) .lent))))
-      by true = called-good (q (l .first)) l
-      by false = let g = called-good (q (l .second)) (swap l) in record { moves = g .moves; keeps = λ s. ap (λ (m : Lent). swap m) (g .keeps s) }
+  on-good map packet n l =
+      let q = requestOf st map packet n l in
+      plan-good (callPlan q) (touched (packetOf q)) l (comes (drawVerdict q (drawnAt st l)) (n .stores))
 
   -- sound
   heard-good : (x : sound.Step) (l : Lent) → Good (length film) st l (after (heardStep st p (answer x)) (withRoom l (sound.roomAfter x (l .room))))
@@ -178,11 +163,12 @@ module _ (film : List ℕ) (st : State) (n : Allowed) (l : Lent) where
   good (refuses i k e) = record { moves = tt; keeps = λ s. refl }
   good (ends e v) = record { moves = refl; keeps = λ s. refl }
   good (enters c e v) =
-      let f = found-chunk film st (length (l .palette)) (length (l .first)) (length (l .second)) c e in
+      let f = found-chunk film st (length (l .palette)) (shortest st l) c e in
       record { moves = record { rises = omega (arith, f .1, f .2 .behind); ordered = f .2 .ordered; inside = f .2 .inside }; keeps = λ s. refl }
   good (sounds o a h) = hear-good film st (endOf o) (rises o a) (a .ready .within) (inside o a) (o .kind) (o .version) (bodyOf film o) l
   good (maps o a u e) = map-good film st (endOf o) (rises o a) (a .ready .within) (inside o a) _ (n .stores) l
   good (colours o x a u c) = update-good film st (endOf o) (rises o a) (a .ready .within) (inside o a) x (n .stores) l
+  good (too-short o a u e d k) = record { moves = tt; keeps = λ s. refl }
   good (undrawn o a u e m) = record { moves = tt; keeps = λ s. refl }
   good (draws o start long a u e m c) = on-good film st (endOf o) (rises o a) (a .ready .within) (inside o a) _ _ n l
   good (others o a u x) =

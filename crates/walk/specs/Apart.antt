@@ -11,8 +11,8 @@ use Rattle.draw.specs.declared.Allowed.{Allowed}
 use Rattle.state.specs.declared.State.{State}
 use Rattle.heads.specs.declared.Opcode.{Opcode}
 use Rattle.heads.specs.Heads.{hears}
-use Rattle.next.specs.Next.{nextOf, opcode}
-use Rattle.film.specs.Film.{Lent, withRoom, Outcome, stepOf}
+use Rattle.next.specs.Next.{opcode}
+use Rattle.film.specs.Film.{Lent, withRoom, Outcome, standsAt, stepOf}
 
 -- the room is as it was, and no byte was written
 pub record RoomKept (l : Lent) (o : Outcome) : Type 0 where
@@ -29,7 +29,7 @@ pub record OthersKept (l : Lent) (o : Outcome) : Type 0 where
 -- an opcode of sound that is acted on stands where the state is
 pub record AtSound (film : List ℕ) (st : State) (l : Lent) : Type 0 where
   pub found : Opcode
-  pub stands : nextOf film st (length (l .palette)) (length (l .first)) (length (l .second)) ≡ opcode found
+  pub stands : standsAt film st l ≡ opcode found
   pub acted : hears (chosen (st .sound .stream)) (found .kind) ≡ true
 
 pub record Apart (film : List ℕ) (st : State) (allowed : Allowed) (l : Lent) : Type 0 where

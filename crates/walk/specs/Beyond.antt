@@ -1,5 +1,5 @@
--- Bytes of the lent pictures beyond the size (document 01: "are never touched"), of every step, whatever the film, the state, what is lent and the
--- answer: none is written, and none is read, so that two steps that are lent the same up to the size answer the same and leave the same up to it.
+-- What lies beyond the size in the lent pictures (document 01: "are never touched"), of bytes and of words, of every step, whatever the film, the state, what is
+-- lent and the answer: nothing is written, and nothing is read, so that two steps that are lent the same up to the size answer the same and leave the same up to it.
 -- Assumes nothing.
 use mathlib.Core.Path.{_≡_}
 use mathlib.Core.List.{List}
@@ -9,25 +9,28 @@ use Rattle.draw.specs.declared.Allowed.{Allowed}
 use Rattle.state.specs.declared.State.{State}
 use Rattle.state.specs.State.{area}
 use Rattle.film.specs.Film.{Lent, Outcome, stepOf}
+use Rattle.walk.specs.Pictures.{Pictures}
 
--- the bytes of a picture of the state's size; 0 where it has none
-abbrev pub bytes : State → ℕ
-bytes st = area (st .columns) (st .rows)
+-- the pixels of a picture of the state's size; 0 where it has none
+abbrev pub pixels : State → ℕ
+pixels st = area (st .columns) (st .rows)
 
--- after a step that was lent l the pictures are as they were from byte n on
-pub record KeptFrom (n : ℕ) (l : Lent) (o : Outcome) : Type 0 where
-  pub first : drop n (o .lent .first) ≡ drop n (l .first)
-  pub second : drop n (o .lent .second) ≡ drop n (l .second)
+-- a picture x that was y is as it was from pixel n on
+abbrev pub KeptFrom : ℕ → List ℕ → List ℕ → Type 0
+KeptFrom n x y = drop n x ≡ drop n y
 
--- a step writes no byte beyond the size
+-- a step writes nothing beyond the size
 abbrev pub Unwritten : List ℕ → State → Allowed → Lent → Type 0
-Unwritten film st allowed l = KeptFrom (bytes st) l (stepOf film st allowed l)
+Unwritten film st allowed l = Pictures (KeptFrom (pixels st)) (stepOf film st allowed l .lent) l
 
--- what is lent to two steps: the same but for bytes of the pictures from n on
+-- two pictures are the same up to pixel n
+abbrev pub EqualTo : ℕ → List ℕ → List ℕ → Type 0
+EqualTo n x y = take n x ≡ take n y
+
+-- what is lent to two steps: the same but for the pictures from n on
 pub record SameTo (n : ℕ) (l m : Lent) : Type 0 where
   pub palette : l .palette ≡ m .palette
-  pub first : take n (l .first) ≡ take n (m .first)
-  pub second : take n (l .second) ≡ take n (m .second)
+  pub pictures : Pictures (EqualTo n) l m
   pub place : l .place ≡ m .place
   pub room : l .room ≡ m .room
 
@@ -36,6 +39,6 @@ pub record SameSteps (n : ℕ) (x y : Outcome) : Type 0 where
   pub step : x .step ≡ y .step
   pub lent : SameTo n (x .lent) (y .lent)
 
--- a step reads no byte beyond the size
+-- a step reads nothing beyond the size
 abbrev pub Unread : List ℕ → State → Allowed → Lent → Type 0
-Unread film st allowed l = (m : Lent) → SameTo (bytes st) l m → SameSteps (bytes st) (stepOf film st allowed l) (stepOf film st allowed m)
+Unread film st allowed l = (m : Lent) → SameTo (pixels st) l m → SameSteps (pixels st) (stepOf film st allowed l) (stepOf film st allowed m)

@@ -1,4 +1,5 @@
 pub mod Walk
+pub mod Pictures
 pub mod Draws
 pub mod View
 pub mod Possible

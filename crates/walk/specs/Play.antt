@@ -2,13 +2,13 @@
 -- it left. `proofs/Play`: a film plays in one way at most (`play-one`), and with `most` stores a call every film plays (`play-all`).
 -- Assumes nothing.
 use mathlib.Core.Path.{_≡_}
-use mathlib.Core.Bool.{Bool, true, false}
+use mathlib.Core.Bool.{Bool, true, false, cond}
 use mathlib.Core.List.{List, [], _∷_, _++_}
 use Prim.Native.Nat.{ℕ}
 use lib.ListN.{take}
 use Rattle.draw.specs.declared.Allowed.{Allowed}
 use Rattle.state.specs.declared.State.{State}
-use Rattle.state.specs.State.{shownOf}
+use Rattle.state.specs.State.{shownOf, shownWordsOf}
 use Rattle.opcodes.specs.Opcodes.{Answer, taken, whole, unfinished, ended, refused}
 use Rattle.film.specs.Film.{Lent, Outcome, stepOf}
 
@@ -18,18 +18,25 @@ most = 312000
 
 -- ---- what a host is given
 
--- picture: one that is sent, with the palette that stands then. sample: a byte of sound
+-- picture: one that is sent, with the palette that stands then. words: one of a film with true colour. sample: a byte of sound
 pub data Event : Type 0 where
   picture : List ℕ → List ℕ → Event
+  words : List ℕ → List ℕ → Event
   sample : ℕ → Event
 
 unfoldable pub samples : List ℕ → List Event
 samples [] = []
 samples (x ∷ bytes) = sample x ∷ samples bytes
 
+-- the picture that is shown, of the film's own kind
+unfoldable pub shownBy : State → Lent → Event
+shownBy st l =
+    cond (st .deep) (words (shownWordsOf st (l .words .picture0) (l .words .picture1) (l .words .picture2)) (l .palette))
+    (picture (shownOf st (l .first) (l .second)) (l .palette))
+
 -- a frame was unsent and no longer is: the picture that is then shown
 unfoldable pub sentBy : Bool → Bool → State → Lent → List Event
-sentBy true false st l = picture (shownOf st (l .first) (l .second)) (l .palette) ∷ []
+sentBy true false st l = shownBy st l ∷ []
 sentBy true true st l = []
 sentBy false unsent st l = []
 

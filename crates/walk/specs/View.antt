@@ -1,10 +1,10 @@
--- A step by what it does: every step is one of these nine (`proofs/View.view-of`), each with what stands where the state is, and with what comes of it. A proof
+-- A step by what it does: every step is one of these ten (`proofs/View.view-of`), each with what stands where the state is, and with what comes of it. A proof
 -- about every step has one clause for each.
 -- Assumes nothing.
 use mathlib.Core.Path.{_≡_}
 use mathlib.Core.Bool.{Bool, true, false}
 use mathlib.Core.List.{List}
-use Prim.Native.Nat.{ℕ, _+_, _-_}
+use Prim.Native.Nat.{ℕ, _+_, _-_, _<_}
 use lib.ListN.{length}
 use Rattle.refusal.specs.Number.{accept}
 use Rattle.draw.specs.declared.Allowed.{Allowed}
@@ -20,15 +20,11 @@ use Rattle.state.specs.Moves.{into, mapped}
 use Rattle.state.specs.State.{stateVerdict}
 use Rattle.heads.specs.declared.Opcode.{Opcode}
 use Rattle.heads.specs.Heads.{hears}
-use Rattle.next.specs.Next.{Standing, nextOf, Ready}
+use Rattle.next.specs.Next.{Ready}
 use Rattle.next.specs.Next as found
 use Rattle.opcodes.specs.Opcodes.{taken, ended, refused, quiet, quietAnswer}
-use Rattle.film.specs.Film.{Lent, Outcome, after, drawOn, part, update, mapTo, hear}
+use Rattle.film.specs.Film.{Lent, Outcome, standsAt, after, drawOn, part, update, mapTo, hear}
 use Rattle.walk.specs.Draws.{bodyOf, packetOf}
-
--- what stands where a state is, with what is lent
-abbrev pub standsAt : List ℕ → State → Lent → Standing
-standsAt film st l = nextOf film st (length (l .palette)) (length (l .first)) (length (l .second))
 
 -- where the body of an opcode ends
 abbrev pub endOf : Opcode → ℕ
@@ -76,7 +72,9 @@ pub data View (film : List ℕ) (st : State) (allowed : Allowed) (l : Lent) : Ou
   -- 0B, 0C, 0D
   colours : (o : Opcode) (u : Update) → AtOpcode film st l o → asSound st o ≡ false → Colours (o .kind) (bodyOf film o) u
       → View film st allowed l (update st (endOf o) u (allowed .stores) l)
-  -- 11: refused by 9, or a drawing call with the pending map
+  -- 11: refused by 5, in a film with true colour, or by 9, or a drawing call with the pending map
+  too-short : (o : Opcode) → AtOpcode film st l o → asSound st o ≡ false → o .kind ≡ 17 → st .deep ≡ true → length (bodyOf film o) < 16
+      → View film st allowed l (after (quiet (refused 5 0)) l)
   undrawn : (o : Opcode) → AtOpcode film st l o → asSound st o ≡ false → o .kind ≡ 17 → Unmapped st → View film st allowed l (after (quiet (refused 9 0)) l)
   draws : (o : Opcode) (start long : ℕ) → AtOpcode film st l o → asSound st o ≡ false → o .kind ≡ 17 → st .map ≡ Part start long → (st .columns ≡ 0 → ⊥)
       → View film st allowed l (drawOn st (endOf o) (part film start (start + long)) (packetOf film o) allowed l)

@@ -1,4 +1,4 @@
-// A whole block of any code: all the pixels that it stores.
+// A whole block of any code of an 8-bit film: all the pixels that it stores.
 use block::copied_vector;
 use motion::Vector;
 use pattern::Form;
@@ -13,17 +13,19 @@ use rows::whole_front;
 use rows::whole_pattern;
 use rows::whole_raw;
 ghost use mathlib.Core.Path.{_≡_};
+ghost use mathlib.Core.Bool.{false};
 ghost use Prim.Native.Nat.{_≤_, _<_};
 ghost use lib.ListN.{length};
 ghost use Rattle.pattern.specs.Form.{shape};
 ghost use Rattle.pattern.specs.Pattern.{patternLength, patternSource};
 ghost use Rattle.motion.specs.Motion.{copiedIndex};
-ghost use Rattle.block.specs.declared.Source.the-variants.{Data, Front, Back};
-ghost use Rattle.block.specs.Block.{kindOf};
+ghost use Rattle.block.specs.declared.Picture.the-variants.{Last};
+ghost use Rattle.block.specs.declared.Source.the-variants.{Data, Copied};
+ghost use Rattle.block.specs.Block.{byteKind};
 ghost use Rattle.stores.specs.Stores.{firstPixels};
 ghost use Rattle.paint.specs.Value.{pixelCount, planOf};
-ghost use Rattle.paint.specs.Asked.{Square, Canvas, Drawable};
-ghost use Rattle.rows.specs.Row.{Sources};
+ghost use Rattle.paint.specs.Asked.{Square, Canvas, ByteDrawable};
+ghost use Rattle.rows.specs.Row.{ByteSources, BackSources};
 ghost use Rattle.whole.specs.Asked.{Pointed, Clear};
 
 // A copy of the 8x8 of front that v points at.
@@ -38,7 +40,7 @@ fn front_by(
     y: usize,
     v: Vector,
 )
-    requires { ⌜ Sources code (now s) w x y (λ i. Front (copiedIndex v w x y i)) × Pointed v w h x y × Canvas w h x y (length (now front)) (length (now back)) ⌝ }
+    requires { ⌜ ByteSources code (now s) w x y (λ i. Copied Last (copiedIndex v w x y i)) × Pointed v w h x y × Canvas w h x y (length (now front)) (length (now back)) ⌝ }
     ensures { λ _. ⌜ now (back .exit) ≡ firstPixels (planOf code (now (s .entry)) (now (front .entry)) w x y) 0 (now (back .entry)) 64 ⌝ }
 {
     whole_front(
@@ -66,7 +68,7 @@ fn back_by(
     y: usize,
     v: Vector,
 )
-    requires { ⌜ Sources code (now s) w x y (λ i. Back (copiedIndex v w x y i)) × Pointed v w h x y × Clear v × Canvas w h x y (length (now back)) (length (now back)) ⌝ }
+    requires { ⌜ BackSources code (now s) w x y (λ i. copiedIndex v w x y i) × Pointed v w h x y × Clear v × Canvas w h x y (length (now back)) (length (now back)) ⌝ }
     ensures { λ _. ⌜ now (back .exit) ≡ firstPixels (planOf code (now (s .entry)) (now (front .entry)) w x y) 0 (now (back .entry)) 64 ⌝ }
 {
     whole_back(
@@ -93,10 +95,10 @@ fn copy_by(
     x: usize,
     y: usize,
 )
-    requires { ⌜ Drawable code (now s) w h x y 64 × Canvas w h x y (length (now front)) (length (now back)) × (1 < code) × (code < 6) ⌝ }
+    requires { ⌜ ByteDrawable code (now s) w h x y 64 × Canvas w h x y (length (now front)) (length (now back)) × (1 < code) × (code < 6) ⌝ }
     ensures { λ _. ⌜ now (back .exit) ≡ firstPixels (planOf code (now (s .entry)) (now (front .entry)) w x y) 0 (now (back .entry)) 64 ⌝ }
 {
-    let v = copied_vector(code, s);
+    let v = copied_vector(false, code, s, s);
     if code < 4 {
         return back_by(code, s, front, back, w, h, x, y, v);
     }
@@ -114,7 +116,7 @@ fn whole_form(
     y: usize,
     form: Form,
 )
-    requires { ⌜ Sources code (now s) w x y (λ i. Data (patternSource (shape form) (now s) i)) × (patternLength (shape form) ≤ length (now s)) × Square w x y (length (now back)) ⌝ }
+    requires { ⌜ ByteSources code (now s) w x y (λ i. Data (patternSource (shape false form) (now s) i)) × (patternLength (shape false form) ≤ length (now s)) × Square w x y (length (now back)) ⌝ }
     ensures { λ _. ⌜ now (back .exit) ≡ firstPixels (planOf code (now (s .entry)) (now (front .entry)) w x y) 0 (now (back .entry)) 64 ⌝ }
 {
     match form {
@@ -144,7 +146,7 @@ fn paint_all(
     x: usize,
     y: usize,
 )
-    requires { ⌜ Drawable code (now s) w h x y 64 × Canvas w h x y (length (now front)) (length (now back)) ⌝ }
+    requires { ⌜ ByteDrawable code (now s) w h x y 64 × Canvas w h x y (length (now front)) (length (now back)) ⌝ }
     ensures { λ _. ⌜ now (back .exit) ≡ firstPixels (planOf code (now (s .entry)) (now (front .entry)) w x y) 0 (now (back .entry)) 64 ⌝ }
 {
     if code < 2 {
@@ -154,10 +156,10 @@ fn paint_all(
         return copy_by(code, s, front, back, w, h, x, y);
     }
     match code {
-        7 => whole_form(code, s, front, back, w, x, y, form_of_7(s)),
-        8 => whole_form(code, s, front, back, w, x, y, form_of_8(s)),
-        9 => whole_form(code, s, front, back, w, x, y, form_of_9(s)),
-        10 => whole_form(code, s, front, back, w, x, y, form_of_a(s)),
+        7 => whole_form(code, s, front, back, w, x, y, form_of_7(false, s)),
+        8 => whole_form(code, s, front, back, w, x, y, form_of_8(false, s)),
+        9 => whole_form(code, s, front, back, w, x, y, form_of_9(false, s)),
+        10 => whole_form(code, s, front, back, w, x, y, form_of_a(false, s)),
         11 => whole_raw(code, s, front, back, w, x, y),
         12 => whole_cells(code, s, front, back, w, x, y, 2),
         13 => whole_cells(code, s, front, back, w, x, y, 4),
@@ -178,8 +180,8 @@ pub fn paint_whole(
     x: usize,
     y: usize,
 )
-    requires { ⌜ Drawable code (now s) w h x y (pixelCount (kindOf code (now s))) × Canvas w h x y (length (now front)) (length (now back)) ⌝ }
-    ensures { λ _. ⌜ now (back .exit) ≡ firstPixels (planOf code (now (s .entry)) (now (front .entry)) w x y) 0 (now (back .entry)) (pixelCount (kindOf code (now (s .entry)))) ⌝ }
+    requires { ⌜ ByteDrawable code (now s) w h x y (pixelCount (byteKind code (now s))) × Canvas w h x y (length (now front)) (length (now back)) ⌝ }
+    ensures { λ _. ⌜ now (back .exit) ≡ firstPixels (planOf code (now (s .entry)) (now (front .entry)) w x y) 0 (now (back .entry)) (pixelCount (byteKind code (now (s .entry)))) ⌝ }
 {
     if code == 1 {
         return;

@@ -6,15 +6,15 @@ use Prim.Native.Nat.{ℕ}
 use native.Mathlib.Omega.{arith}
 use Rattle.refusal.specs.Number.{accept, refuse}
 use Rattle.motion.specs.Motion.{aheadVector, pointsInside, rasterIndex, copiedIndex}
-use Rattle.block.specs.Block.{codeAt, kinds, kindOf, dataLength, isRefused, copyInside, cellSource, source, fetched}
-use Rattle.packet.specs.Packet.{startOf}
+use Rattle.block.specs.Block.{codeAt, kinds, kindOf, dataLength, offsetLength, isRefused, copyInside, cellSource, source, fetched}
+use Rattle.packet.specs.Packet.{advanced, startOf}
 use Rattle.packet.specs.Rows.{firstFrom, pastTouched, rowsFrom, touched}
 use Rattle.packet.specs.Verdict.{andThen, blockVerdict, endVerdict, verdictFrom, blocksVerdict, mapFits, legal, legalSize}
 use Rattle.stores.specs.Stores.{Memory, memory, pixels, stores, following, apply, run, firstPixels, after, count, stage, final}
 use Rattle.stores.specs.Calls.{answered, leave, outcome, leaveCut, returns, cut, callOf, reply, happens, says, CutWithin, finally, outcomes, Each}
 use Rattle.paint.specs.Value.{pixelCount, pixelValue}
-use Rattle.draw.specs.Drawing.{sizeAt, targetAt, valueAt, plan}
-use Rattle.draw.specs.Call.{packetOf, callVerdict, drawVerdict, comes, calling}
+use Rattle.draw.specs.Drawing.{sizeAt, targetAt, valueAt}
+use Rattle.draw.specs.Call.{callPlan, callVerdictIn, drawVerdict, comes, calling}
 use Rattle.book.specs.Demand.{Same, OnlyRefusedDiffer, CutsWithin, Given}
 use Rattle.book.proofs.Demand.{demand-3}
 use Rattle.book.proofs.Picture.{demand-2}
@@ -34,14 +34,14 @@ record Computed : Type 0 where
   accepted : drawVerdict (example all) found ≡ accept
   refused : drawVerdict stray second ≡ refuse 12 1
   would-make : reply calling third (example all) .count ≡ 65
-  picture : final (plan (packetOf (example all)) (example all .front)) fives ≡ twoHalves 8
+  picture : final (callPlan (example all)) fives ≡ twoHalves 8
   says : outcomes calling found calls ≡ answers
   stopped : finally calling found (returns (example 75) ∷ []) ≡ memory afterTen 1
   cut-off : finally calling found (returns (example 75) ∷ returns stray ∷ cut (example all) 30 ∷ []) ≡ memory afterThirty 1
   leaves : finally calling found calls ≡ memory (twoHalves 8) 2
 
 computed : Computed
-unfolding aheadVector pointsInside rasterIndex copiedIndex codeAt kinds kindOf dataLength isRefused copyInside cellSource source fetched startOf firstFrom pastTouched rowsFrom touched andThen blockVerdict endVerdict verdictFrom blocksVerdict mapFits legal legalSize pixels stores following apply run firstPixels after count stage answered leave outcome leaveCut happens says finally outcomes pixelCount pixelValue sizeAt targetAt valueAt callVerdict comes example twoHalves fives stray calls answers rowOf afterTen afterThirty
+unfolding aheadVector pointsInside rasterIndex copiedIndex codeAt kinds kindOf dataLength offsetLength isRefused copyInside cellSource source fetched advanced startOf firstFrom pastTouched rowsFrom touched andThen blockVerdict endVerdict verdictFrom blocksVerdict mapFits legal legalSize pixels stores following apply run firstPixels after count stage answered leave outcome leaveCut happens says finally outcomes pixelCount pixelValue sizeAt targetAt valueAt callVerdictIn comes example twoHalves fives stray calls answers rowOf afterTen afterThirty
 computed =
     record {
       accepted = refl;
@@ -58,7 +58,7 @@ computed =
 
 same : (n : ℕ) → Same (example n) (example all)
 unfolding example
-same n = record { columns = refl; rows = refl; map = refl; bytes = refl; front = refl }
+same n = record { deep = refl; columns = refl; rows = refl; map = refl; bytes = refl; front = refl; oldest = refl }
 
 never : drawVerdict stray second ≡ accept → Same stray (example all)
 never e = let q = sym (computed .refused) ∙ e in let z : _≡_ {A = ℕ} 0 1 = cc in absurd (let y : ⊥ = omega arith in y)

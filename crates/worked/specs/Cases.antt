@@ -6,8 +6,8 @@ use Prim.Native.Nat.{ℕ, zero, suc, _+_, _-_, _*_}
 use lib.ListN.{take, getD, replicate}
 use Rattle.motion.specs.declared.Vector.{Vector}
 use Rattle.motion.specs.Motion.{aheadVector, nearVector}
-use Rattle.block.specs.Block.{codeAt, kindOf}
-use Rattle.paint.specs.Value.{pixelValue}
+use Rattle.block.specs.Block.{codeAt}
+use Rattle.paint.specs.Value.{byteValue}
 use Rattle.packet.specs.Verdict.{default}
 use Rattle.stores.specs.Stores.{Memory, memory}
 use Rattle.stores.specs.Calls.{Answer, whole, unfinished, refusal}
@@ -32,7 +32,7 @@ values f n = valuesFrom f n 0
 
 -- n pixels from pixel i on of a block of this code with these data bytes, alone in a picture 8 by 8
 unfoldable pub pixels : ℕ → List ℕ → ℕ → ℕ → List ℕ
-pixels code s i n = valuesFrom (λ j. pixelValue (kindOf code s) s 8 0 0 [] j []) n i
+pixels code s i n = valuesFrom (λ j. byteValue code s 8 0 0 [] j []) n i
 
 -- a vector's two offsets, with a number added to each so that none is negative
 unfoldable pub offset : ℕ → Vector → List ℕ → List ℕ

@@ -11,8 +11,7 @@ use Rattle.packet.specs.Rows.{touched}
 use Rattle.packet.specs.Verdict.{default}
 use Rattle.stores.specs.Stores.{Memory, memory, final}
 use Rattle.stores.specs.Calls.{whole, unfinished, refusal, Event, returns, cut, finally, outcomes, bookOutcomes}
-use Rattle.draw.specs.Drawing.{plan}
-use Rattle.draw.specs.Call.{Request, within, request, packetOf, reason, calling, Report, reporting}
+use Rattle.draw.specs.Call.{Request, within, request, packetOf, callPlan, reason, calling, Report, reporting}
 use Rattle.book.specs.Demand.{OnlyRefusedDiffer, CutsWithin, Given, Demand3}
 use Rattle.worked.specs.Cases.{example, twoHalves}
 
@@ -63,9 +62,9 @@ pub record Applied : Type 0 where
   pub demand : Demand3 (example all) fives calls
   -- written out: the picture of demand 2; the answers, counts and rows of the calls, and those of the book; place and picture after one call, after
   -- three and after all
-  pub picture : final (plan (packetOf (example all)) (example all .front)) fives ≡ twoHalves 8
+  pub picture : final (callPlan (example all)) fives ≡ twoHalves 8
   pub says : outcomes calling found calls ≡ answers
-  pub book-says : bookOutcomes calling (plan (packetOf (example all)) (example all .front)) (touched (packetOf (example all))) fives found calls ≡ answers
+  pub book-says : bookOutcomes calling (callPlan (example all)) (touched (packetOf (example all))) fives found calls ≡ answers
   pub stopped : finally calling found (returns (example 75) ∷ []) ≡ memory afterTen 1
   pub cut-off : finally calling found (returns (example 75) ∷ returns stray ∷ cut (example all) 30 ∷ []) ≡ memory afterThirty 1
   pub leaves : finally calling found calls ≡ memory (twoHalves 8) 2

@@ -1,5 +1,5 @@
-/* libavcodec's decoders of Interplay video and sound and of Microsoft Video 1, as the bench calls them: 8-bit pictures of
-   one size, compressed sound of one or two channels; one thread. */
+/* libavcodec's decoders of Interplay video and sound and of Microsoft Video 1, as the bench calls them: pictures of one
+   size, 8-bit or with true colour, compressed sound of one or two channels; one thread. */
 
 #include <libavcodec/avcodec.h>
 #include <limits.h>
@@ -60,9 +60,9 @@ static struct libav *opened(struct libav *decoder)
     return NULL;
 }
 
-/* A decoder of 8-bit pictures; null where libavcodec has no such decoder or cannot open it. libavcodec is told the size in
-   pixels. */
-static struct libav *open_pictures(enum AVCodecID id, int columns, int rows)
+/* A decoder of pictures of 8 or 16 bits a pixel; null where libavcodec has no such decoder or cannot open it. libavcodec is
+   told the size in pixels. */
+static struct libav *open_pictures(enum AVCodecID id, int columns, int rows, int bits)
 {
     struct libav *decoder = new_decoder(id);
     if (!decoder)
@@ -71,18 +71,23 @@ static struct libav *open_pictures(enum AVCodecID id, int columns, int rows)
     decoder->rows = rows;
     decoder->context->width = BLOCK_SIDE * columns;
     decoder->context->height = BLOCK_SIDE * rows;
-    decoder->context->bits_per_coded_sample = 8;
+    decoder->context->bits_per_coded_sample = bits;
     return opened(decoder);
 }
 
 struct libav *libav_open(int columns, int rows)
 {
-    return open_pictures(AV_CODEC_ID_INTERPLAY_VIDEO, columns, rows);
+    return open_pictures(AV_CODEC_ID_INTERPLAY_VIDEO, columns, rows, 8);
+}
+
+struct libav *libav_open_words(int columns, int rows)
+{
+    return open_pictures(AV_CODEC_ID_INTERPLAY_VIDEO, columns, rows, 16);
 }
 
 struct libav *libav_open_video1(int columns, int rows)
 {
-    return open_pictures(AV_CODEC_ID_MSVIDEO1, columns, rows);
+    return open_pictures(AV_CODEC_ID_MSVIDEO1, columns, rows, 8);
 }
 
 /* Null where libavcodec has no such decoder or cannot open it. */
@@ -125,16 +130,29 @@ int libav_decode(struct libav *decoder, const AVPacket *packet)
     return sent < 0 ? sent : avcodec_receive_frame(decoder->context, decoder->frame);
 }
 
-/* Writes the rows of the frame decoded last, one behind the other. 0 where it is not a frame of the size and of bytes. */
-int libav_picture(const struct libav *decoder, uint8_t *picture)
+/* Writes the rows of the frame decoded last, one behind the other. 0 where it is not a frame of the size and format. */
+static int write_rows(const struct libav *decoder, uint8_t *picture, enum AVPixelFormat format, int bytes)
 {
     const AVFrame *frame = decoder->frame;
     int width = BLOCK_SIDE * decoder->columns, height = BLOCK_SIDE * decoder->rows;
-    if (!frame->data[0] || frame->format != AV_PIX_FMT_PAL8 || frame->width != width || frame->height != height)
+    size_t row = (size_t)width * (size_t)bytes;
+    if (!frame->data[0] || frame->format != (int)format || frame->width != width || frame->height != height)
         return 0;
     for (int y = 0; y < height; y++)
-        memcpy(picture + (size_t)y * width, frame->data[0] + (ptrdiff_t)y * frame->linesize[0], width);
+        memcpy(picture + (size_t)y * row, frame->data[0] + (ptrdiff_t)y * frame->linesize[0], row);
     return 1;
+}
+
+/* A byte a pixel. */
+int libav_picture(const struct libav *decoder, uint8_t *picture)
+{
+    return write_rows(decoder, picture, AV_PIX_FMT_PAL8, 1);
+}
+
+/* A word a pixel, low byte first. */
+int libav_words(const struct libav *decoder, uint8_t *picture)
+{
+    return write_rows(decoder, picture, AV_PIX_FMT_RGB555LE, 2);
 }
 
 /* Gives the frame decoded last back. */

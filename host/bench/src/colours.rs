@@ -88,7 +88,16 @@ impl Colours {
         let (film, mut place) = (&self.film, 0);
         let form = mve::Form::Default;
         let mut step = || {
-            mve::step(film, state, palette, &mut [], &mut [], &mut place, &mut [], ALL_STORES, form)
+            mve::step(
+                film,
+                state,
+                palette,
+                &mut mve::Pictures::default(),
+                &mut place,
+                &mut [],
+                ALL_STORES,
+                form,
+            )
         };
         timed(|| black_box(step())).1
     }
@@ -110,6 +119,7 @@ impl Colours {
 
 fn second_step(film: &[u8], state: second::State, palette: &mut [u8]) -> second::Stepped {
     let (picture_a, picture_b): (&mut [u8], &mut [u8]) = (&mut [], &mut []);
-    let lent = second::Lent { palette, picture_a, picture_b, place: &mut 0, room: &mut [] };
+    let (place, room, words) = (&mut 0, &mut [], [(); 3].map(|()| &mut [][..]));
+    let lent = second::Lent { palette, picture_a, picture_b, place, room, words };
     second::step(film, state, lent, ALL_STORES)
 }

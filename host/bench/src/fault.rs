@@ -43,8 +43,8 @@ impl From<Fault> for String {
     }
 }
 
-/// Compares two pictures, each with the program that drew it. The lowest block that differs is
-/// told.
+/// Compares two pictures, each with the program that drew it, of one byte a pixel or of as many as they have. The
+/// lowest block that differs is told.
 pub fn same_picture(
     frame: &str,
     size: Size,
@@ -54,13 +54,13 @@ pub fn same_picture(
     if a == b {
         return Ok(());
     }
+    let bytes = (a.len() / size.pixels()).max(1);
     let place = |index: usize| {
-        let (x, y) = (index % size.width(), index / size.width());
-        (y / 8 * size.columns + x / 8, y, x)
+        let (x, y) = (index / bytes % size.width(), index / bytes / size.width());
+        (y / 8 * size.columns + x / 8, y, x, index)
     };
-    let differ = (0..size.pixels()).filter(|&index| a[index] != b[index]);
-    let (block, y, x) = differ.map(place).min().expect("pictures of one length");
-    let index = y * size.width() + x;
+    let differ = (0..a.len()).filter(|&index| a[index] != b[index]);
+    let (block, y, x, index) = differ.map(place).min().expect("pictures of one length");
     let values = [(one, a[index]), (other, b[index])];
     let what = What::Different { block, pixel: (x, y), values };
     Err(Fault { frame: frame.to_owned(), what })
@@ -83,6 +83,15 @@ mod tests {
         assert_eq!(
             same(&other).unwrap_err().to_string(),
             "frame 4, block 1: different pictures: pixel (9, 7) is 00 by one, 02 by other"
+        );
+        // Two bytes a pixel: the second one of pixel (9, 7).
+        let (one, mut other) = (vec![0; 2 * size.pixels()], vec![0; 2 * size.pixels()]);
+        other[2 * (24 * 7 + 9) + 1] = 3;
+        assert_eq!(
+            same_picture("frame 5", size, ("one", &one), ("other", &other))
+                .unwrap_err()
+                .to_string(),
+            "frame 5, block 1: different pictures: pixel (9, 7) is 00 by one, 03 by other"
         );
     }
 }

@@ -22,6 +22,7 @@ struct RawPacket {
 unsafe extern "C" {
     fn libav_version() -> c_uint;
     fn libav_open(columns: c_int, rows: c_int) -> *mut RawDecoder;
+    fn libav_open_words(columns: c_int, rows: c_int) -> *mut RawDecoder;
     fn libav_open_video1(columns: c_int, rows: c_int) -> *mut RawDecoder;
     fn libav_open_sound(channels: c_int) -> *mut RawDecoder;
     fn libav_close(decoder: *mut RawDecoder);
@@ -29,6 +30,7 @@ unsafe extern "C" {
     fn libav_packet_free(packet: *mut RawPacket);
     fn libav_decode(decoder: *mut RawDecoder, packet: *const RawPacket) -> c_int;
     fn libav_picture(decoder: *const RawDecoder, picture: *mut u8) -> c_int;
+    fn libav_words(decoder: *const RawDecoder, picture: *mut u8) -> c_int;
     fn libav_release(decoder: *mut RawDecoder);
     fn libav_samples(decoder: *const RawDecoder, samples: *mut i16, room: usize) -> c_int;
 }
@@ -93,6 +95,11 @@ impl Decoder {
         Decoder::open_by(libav_open, size)
     }
 
+    /// The same, of pictures with true colour.
+    pub fn open_words(size: Size) -> Option<Decoder> {
+        Decoder::open_by(libav_open_words, size)
+    }
+
     /// The same, of Microsoft Video 1.
     pub fn open_video1(size: Size) -> Option<Decoder> {
         Decoder::open_by(libav_open_video1, size)
@@ -103,7 +110,7 @@ impl Decoder {
         size: Size,
     ) -> Option<Decoder> {
         let (columns, rows) = (size.columns.try_into().ok()?, size.rows.try_into().ok()?);
-        // SAFETY: both opening functions take two numbers.
+        // SAFETY: each opening function takes two numbers.
         let raw = NonNull::new(unsafe { call(columns, rows) })?;
         Some(Decoder { open: Open(raw), size })
     }
@@ -119,6 +126,15 @@ impl Decoder {
         // SAFETY: the decoder is open; it writes a byte for each pixel of the size that it was
         // opened with, which is the length of the slice.
         unsafe { libav_picture(self.open.0.as_ptr(), picture.as_mut_ptr()) == 1 }
+    }
+
+    /// Writes the words of the picture with true colour decoded last, row by row, low byte first; false where there
+    /// is none of the size.
+    pub fn words(&self, picture: &mut [u8]) -> bool {
+        assert_eq!(picture.len(), 2 * self.size.pixels(), "two bytes a pixel");
+        // SAFETY: the decoder is open; it writes two bytes for each pixel of the size that it was opened with,
+        // which is the length of the slice.
+        unsafe { libav_words(self.open.0.as_ptr(), picture.as_mut_ptr()) == 1 }
     }
 
     /// Gives the picture decoded last back to the decoder, as a player does that has shown it: a decoder

@@ -172,7 +172,16 @@ impl Proved {
 
     fn step(&mut self, state: mve::State) -> Result<mve::Step, mve::Refusal> {
         let Proved { film, palette, room, .. } = self;
-        mve::step(film, state, palette, &mut [], &mut [], &mut 0, room, 0, mve::Form::Default)
+        mve::step(
+            film,
+            state,
+            palette,
+            &mut mve::Pictures::default(),
+            &mut 0,
+            room,
+            0,
+            mve::Form::Default,
+        )
     }
 }
 
@@ -220,7 +229,8 @@ impl Second {
     fn step(&mut self, state: second::State) -> second::Stepped {
         let Second { film, palette, room, .. } = self;
         let (picture_a, picture_b): (&mut [u8], &mut [u8]) = (&mut [], &mut []);
-        let lent = second::Lent { palette, picture_a, picture_b, place: &mut 0, room };
+        let (place, words) = (&mut 0, [(); 3].map(|()| &mut [][..]));
+        let lent = second::Lent { palette, picture_a, picture_b, place, room, words };
         second::step(film, state, lent, 0)
     }
 }

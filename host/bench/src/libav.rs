@@ -4,7 +4,7 @@ use crate::program::Program;
 use maker::{Packet, Size};
 
 #[cfg(libavcodec)]
-pub use there::{program, trailers, version};
+pub use there::{program, trailers, version, words};
 
 /// No program: the bench was built without libavcodec.
 #[cfg(not(libavcodec))]
@@ -15,6 +15,12 @@ pub fn program(_size: Size, _frames: &[Packet]) -> Option<Box<dyn Program>> {
 /// No program, likewise.
 #[cfg(not(libavcodec))]
 pub fn trailers(_size: Size, _frames: &[Vec<u8>]) -> Option<Box<dyn Program>> {
+    None
+}
+
+/// No program, likewise.
+#[cfg(not(libavcodec))]
+pub fn words(_size: Size, _frames: &[Packet]) -> Option<Box<dyn Program>> {
     None
 }
 
@@ -42,6 +48,35 @@ mod there {
     /// The decoder; `None` where libavcodec was built without it.
     pub fn program(size: Size, frames: &[Packet]) -> Option<Box<dyn Program>> {
         Some(Libav::boxed(ffi::Decoder::open(size)?, size, frames.iter().map(bytes)))
+    }
+
+    /// The decoder of pictures with true colour; `None` where libavcodec was built without it.
+    pub fn words(size: Size, frames: &[Packet]) -> Option<Box<dyn Program>> {
+        let packet = |frame| ffi::Packet::new(&bytes(frame)).expect("memory");
+        let (decoder, picture) = (ffi::Decoder::open_words(size)?, vec![0; 2 * size.pixels()]);
+        let packets = frames.iter().map(packet).collect();
+        Some(Box::new(Words(Libav { decoder, packets, picture })))
+    }
+
+    /// libavcodec with pictures of words, of which it keeps bit 15 as the film has it.
+    struct Words(Libav);
+
+    impl Program for Words {
+        fn name(&self) -> &'static str {
+            LIBAV
+        }
+
+        fn run(&mut self, number: usize) -> Result<(), String> {
+            self.0.run(number)
+        }
+
+        fn picture(&mut self) -> Option<&[u8]> {
+            let Libav { decoder, picture, .. } = &mut self.0;
+            assert!(decoder.words(picture), "libavcodec gives a picture of 15 bits");
+            decoder.release();
+            picture.iter_mut().skip(1).step_by(2).for_each(|high| *high &= 0x7F);
+            Some(picture)
+        }
     }
 
     /// The decoder of Microsoft Video 1; `None` where libavcodec was built without it.

@@ -2,7 +2,8 @@
 //! the picture, all on the same frames, whose pictures are compared; and of the film step on packets
 //! of sound beside the same, with every sample compared; of the film step on palettes; of saving what is
 //! left of scratched films, and of dropping what the player passes over, beside a copy of them; of encoding
-//! pictures beside their drawing; and of frames of Microsoft Video 1 beside libavcodec's decoder of these.
+//! pictures beside their drawing; of frames with true colour beside the same as those of 8 bits; and of frames of
+//! Microsoft Video 1 beside libavcodec's decoder of these.
 
 mod allowance;
 mod blocks;
@@ -22,6 +23,7 @@ mod sound;
 mod strips;
 mod table;
 mod trailers;
+mod words;
 
 use allowance::Cuts;
 use blocks::{Line, Series};
@@ -29,18 +31,22 @@ use colours::Colours;
 use encodes::Encodes;
 use hearing::Hearing;
 use kind::{frames, Kind, KINDS, MIX, PRIMERS, SAME};
-use measure::Bench;
+use measure::{Bench, Measured};
 use program::{programs, Program};
 use salvages::Salvages;
 use std::env;
 use std::process::ExitCode;
 use strips::Strips;
+use table::Table;
 
 const USAGE: &str = "usage: bench [--quick | --markdown] [SEED [ROUNDS]]
        bench --kinds
        bench --one KIND PROGRAM TIMES
+       bench --words [SEED [ROUNDS]]
        bench --trailers [SEED [ROUNDS]]";
 
+/// In front of the name of a kind of frames with true colour.
+const WORDS: &str = "words:";
 const SEED: u64 = 1;
 const ROUNDS: usize = 100;
 /// Rounds of `--quick`, which compares and does not care for times.
@@ -52,12 +58,31 @@ enum Job {
     Tables { markdown: bool, seed: u64, rounds: usize },
     /// The comparisons alone.
     Quick { seed: u64, rounds: usize },
+    /// The table of frames with true colour alone.
+    Words { seed: u64, rounds: usize },
     /// The table of Microsoft Video 1 alone.
     Trailers { seed: u64, rounds: usize },
     /// The names and pixels of the kinds.
     Kinds,
     /// One program on one kind, so many frames, for a profiler.
-    One { kind: Kind, program: String, times: usize },
+    One { kind: Known, program: String, times: usize },
+}
+
+/// A kind by its name; those of frames with true colour are `words:7` and so on.
+enum Known {
+    Bytes(Kind),
+    Words(words::Kind),
+}
+
+impl Known {
+    fn of(name: &str) -> Option<Known> {
+        match name.strip_prefix(WORDS) {
+            Some(name) => {
+                words::kinds().into_iter().find(|kind| kind.name == name).map(Known::Words)
+            }
+            None => KINDS.into_iter().find(|kind| kind.name == name).map(Known::Bytes),
+        }
+    }
 }
 
 fn main() -> ExitCode {
@@ -70,9 +95,15 @@ fn main() -> ExitCode {
         Job::Tables { markdown, seed, rounds } => tables(markdown, seed, rounds),
         Job::Quick { seed, rounds } => quick(seed, rounds),
         Job::One { kind, program, times } => one(kind, &program, times),
-        Job::Trailers { seed, rounds } => trailers_alone(seed, rounds),
+        Job::Words { seed, rounds } => alone(words::all(seed), seed, rounds, report::words),
+        Job::Trailers { seed, rounds } => {
+            alone(trailers::all(seed), seed, rounds, report::trailers)
+        }
         Job::Kinds => {
             KINDS.iter().for_each(|kind| println!("{} {}", kind.name, kind.size.pixels()));
+            for kind in words::kinds() {
+                println!("{WORDS}{} {}", kind.name, kind.size.pixels());
+            }
             Ok(())
         }
     };
@@ -92,7 +123,7 @@ fn parsed(arguments: &[String]) -> Option<Job> {
         arguments.remove(0);
     }
     if let (Some("--one"), [kind, program, times]) = (option, &arguments[..]) {
-        let kind = *KINDS.iter().find(|known| known.name == *kind)?;
+        let kind = Known::of(kind)?;
         return Some(Job::One { kind, program: (*program).to_owned(), times: times.parse().ok()? });
     }
     let (seed, rounds) = match arguments[..] {
@@ -107,6 +138,7 @@ fn parsed(arguments: &[String]) -> Option<Job> {
             Some(Job::Tables { markdown: option.is_some(), seed, rounds })
         }
         Some("--quick") => Some(Job::Quick { seed, rounds: rounds.unwrap_or(QUICK_ROUNDS) }),
+        Some("--words") => Some(Job::Words { seed, rounds: rounds.unwrap_or(ROUNDS) }),
         Some("--trailers") => Some(Job::Trailers { seed, rounds: rounds.unwrap_or(ROUNDS) }),
         Some("--kinds") if arguments.is_empty() => Some(Job::Kinds),
         Some(_) => None,
@@ -124,6 +156,7 @@ struct Run {
     strips: Vec<Strips>,
     encodes: Vec<Encodes>,
     encode_sizes: Vec<Encodes>,
+    words: Vec<Bench>,
     trailers: Vec<Bench>,
 }
 
@@ -139,7 +172,7 @@ impl Run {
         let (colours, salvages) = (Colours::all(seed)?, Salvages::all(seed, is_timed)?);
         let strips = Strips::all(seed, is_timed)?;
         let (encodes, encode_sizes) = (Encodes::all(seed)?, Encodes::sizes(seed)?);
-        let trailers = trailers::all(seed)?;
+        let (words, trailers) = (words::all(seed)?, trailers::all(seed)?);
         let mut run = Run {
             benches,
             cuts,
@@ -150,6 +183,7 @@ impl Run {
             strips,
             encodes,
             encode_sizes,
+            words,
             trailers,
         };
         for round in 0..rounds {
@@ -162,6 +196,7 @@ impl Run {
             run.strips.iter_mut().try_for_each(|strips| strips.round(round))?;
             run.encodes.iter_mut().try_for_each(Encodes::round)?;
             run.encode_sizes.iter_mut().try_for_each(Encodes::round)?;
+            run.words.iter_mut().try_for_each(|words| words.round(round))?;
             run.trailers.iter_mut().try_for_each(|trailers| trailers.round(round))?;
         }
         Ok(run)
@@ -179,6 +214,7 @@ fn quick(seed: u64, rounds: usize) -> Result<(), String> {
         strips,
         encodes,
         encode_sizes,
+        words,
         trailers,
         ..
     } = Run::new(seed, rounds, false)?;
@@ -196,6 +232,10 @@ fn quick(seed: u64, rounds: usize) -> Result<(), String> {
         "bench: pictures that are {}, and {} sizes of them, are encoded as by the second program",
         kinds.join(", "),
         encode_sizes.len()
+    );
+    let kinds = words.len();
+    println!(
+        "bench: the pictures of {kinds} kinds of frames with true colour are the second decoder's"
     );
     let kinds = trailers.len();
     println!("bench: the pictures of {kinds} kinds of Video 1 frames are the second decoder's");
@@ -227,6 +267,7 @@ fn tables(markdown: bool, seed: u64, rounds: usize) -> Result<(), String> {
         strips,
         encodes,
         encode_sizes,
+        words,
         trailers,
     } = Run::new(seed, rounds, true)?;
     let measured: Vec<_> = benches.iter().map(Bench::measured).collect();
@@ -234,8 +275,9 @@ fn tables(markdown: bool, seed: u64, rounds: usize) -> Result<(), String> {
     let points: Vec<_> = series.iter().map(Series::point).collect();
     let line = Line::through(&points);
     let blocks = report::blocks(&points, line).text(markdown);
-    let trailers: Vec<_> = trailers.iter().map(Bench::measured).collect();
-    let targets = report::targets(&measured, &hearings, &encodes, &trailers).text(markdown);
+    let [words, trailers] =
+        [words, trailers].map(|benches| benches.iter().map(Bench::measured).collect::<Vec<_>>());
+    let targets = report::targets(&measured, &hearings, &encodes, &words, &trailers).text(markdown);
     let sizes: Vec<_> = encode_sizes.iter().map(Encodes::point).collect();
     let encode_line = Line::through(&sizes);
     let encode_sizes = report::blocks(&sizes, encode_line).text(markdown);
@@ -249,6 +291,7 @@ fn tables(markdown: bool, seed: u64, rounds: usize) -> Result<(), String> {
         ("Saving scratched films", report::salvages(&salvages).text(markdown)),
         ("Dropping what the player passes over", report::strips(&strips).text(markdown)),
         ("Encoding", format!("{encodes}\n\nTwo colours:\n\n{encode_sizes}\n\n{encode_line}")),
+        ("Nanoseconds a pixel with true colour", report::words(&words).text(markdown)),
         ("Nanoseconds a pixel of Video 1", report::trailers(&trailers).text(markdown)),
         ("Targets", format!("The project's targets:\n\n{targets}")),
         ("By the stores that a call is allowed", report::allowances(&pieces).text(markdown)),
@@ -259,27 +302,40 @@ fn tables(markdown: bool, seed: u64, rounds: usize) -> Result<(), String> {
     Ok(())
 }
 
-/// Measures frames of Microsoft Video 1 and prints their table.
-fn trailers_alone(seed: u64, rounds: usize) -> Result<(), String> {
-    let mut trailers = trailers::all(seed)?;
+/// Measures frames of one sort alone and prints their table.
+fn alone(
+    benches: Result<Vec<Bench>, String>,
+    seed: u64,
+    rounds: usize,
+    table: fn(&[Measured]) -> Table,
+) -> Result<(), String> {
+    let mut benches = benches?;
     for round in 0..rounds {
-        trailers.iter_mut().try_for_each(|trailers| trailers.round(round))?;
+        benches.iter_mut().try_for_each(|bench| bench.round(round))?;
     }
-    let measured: Vec<_> = trailers.iter().map(Bench::measured).collect();
-    println!("{}\n\n{}", report::run(seed, rounds), report::trailers(&measured).text(false));
+    let measured: Vec<_> = benches.iter().map(Bench::measured).collect();
+    println!("{}\n\n{}", report::run(seed, rounds), table(&measured).text(false));
     Ok(())
 }
 
 /// Runs one program on so many frames of a kind, when it has taken each of them once.
-fn one(kind: Kind, program: &str, times: usize) -> Result<(), String> {
-    let frames = frames(kind, SEED);
-    let mut programs = programs(kind.size, &frames);
+fn one(kind: Known, program: &str, times: usize) -> Result<(), String> {
+    let (frames, mut programs) = match kind {
+        Known::Bytes(kind) => {
+            let frames = frames(kind, SEED);
+            (frames.len(), programs(kind.size, &frames))
+        }
+        Known::Words(kind) => {
+            let frames = words::frames(&kind, SEED);
+            (frames.len(), words::programs(kind.size, &frames))
+        }
+    };
     let program = programs.iter_mut().find(|known| known.name() == program);
     let program = program.ok_or("there is no such program")?;
-    for number in 0..frames.len() {
+    for number in 0..frames {
         program.run(number)?;
     }
-    let timed = PRIMERS..frames.len();
+    let timed = PRIMERS..frames;
     timed.cycle().take(times).try_for_each(|number| counted(&mut **program, number))
 }
 

@@ -12,6 +12,7 @@ use crate::program::{CHECK, DRAW, LIBAV, MEMCPY, STEP, VIDEO1};
 use crate::salvages::Salvages;
 use crate::strips::Strips;
 use crate::table::{number, Table};
+use crate::words;
 use maker::Size;
 use std::fs;
 use std::time::Duration;
@@ -26,6 +27,11 @@ fn size_text(size: Size) -> String {
 /// Nanoseconds a pixel of every program and kind, and what they are to each other.
 pub fn kinds(measured: &[Measured]) -> Table {
     pixels(measured, &[(DRAW, LIBAV), (DRAW, MEMCPY), (CHECK, MEMCPY)])
+}
+
+/// The same of frames with true colour.
+pub fn words(measured: &[Measured]) -> Table {
+    kinds(measured)
 }
 
 /// The same of frames of Microsoft Video 1.
@@ -153,6 +159,7 @@ pub fn targets(
     measured: &[Measured],
     hearings: &[Hearing],
     encodes: &[Encodes],
+    words: &[Measured],
     trailers: &[Measured],
 ) -> Table {
     let mix = |found: &&Measured| found.name == MIX.name;
@@ -188,6 +195,10 @@ pub fn targets(
     let slowest = encoded.max_by(|a, b| a.0.total_cmp(&b.0));
     let slowest = slowest.map(|(time, kind)| (time, kind.name()));
     add("encode of every kind at most 3 ns a pixel", slowest, |time| time <= 3.0);
+    let deep_mix = worst(words.iter().filter(|found| found.name == words::MIX), DRAW, LIBAV);
+    add("draw/libavcodec of the mix with true colour at most 1", deep_mix, |ratio| ratio <= 1.0);
+    let deep = worst(words.iter(), DRAW, LIBAV);
+    add("draw/libavcodec of every kind with true colour at most 1", deep, |ratio| ratio <= 1.0);
     let trailers = worst(trailers.iter(), VIDEO1, LIBAV);
     add("video1/libavcodec of every kind at most 1", trailers, |ratio| ratio <= 1.0);
     table

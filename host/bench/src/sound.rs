@@ -48,8 +48,8 @@ fn proved(film: &[u8]) -> Result<Vec<u8>, String> {
     let (mut palette, mut place, mut room) = ([0; 768], 0, vec![0; mve::ROOM_BYTES]);
     let mut samples = Vec::new();
     loop {
-        let (a, b, form) = (&mut [], &mut [], mve::Form::Default);
-        let step = mve::step(film, state, &mut palette, a, b, &mut place, &mut room, 0, form);
+        let (pictures, form) = (&mut mve::Pictures::default(), mve::Form::Default);
+        let step = mve::step(film, state, &mut palette, pictures, &mut place, &mut room, 0, form);
         match step {
             Ok(mve::Step::Taken { state: next, bytes, .. }) => {
                 samples.extend(&room[..bytes]);

@@ -73,6 +73,7 @@ pub fn expected(film: &[u8]) -> Expected {
             picture_b: &mut b,
             place: &mut place,
             room: &mut [],
+            words: [(); 3].map(|()| &mut [][..]), // the stage lends none
         };
         match film::step(film, state, lent, STORES_A_STEP) {
             Stepped::Taken(after, ..) => {

@@ -9,7 +9,7 @@ use boot::watchdog::{play, End};
 use common::{folder, screen_of, STAGE};
 use maker::film::Opcode;
 use maker::film_damage::{damaged, Damage};
-use maker::Seeded;
+use maker::{true_colour, Seeded};
 
 /// The beginning of the line that tells a refusal.
 fn line(expected: &Expected) -> String {
@@ -72,6 +72,16 @@ fn nothing_to_play() {
     film.chunks[0].opcodes.clear();
     assert_eq!(expected(&film.bytes()).refusal.map(|refusal| refusal.number), Some(21));
     let _ = is_told("no_film", &[]) && is_told("no_size", &film.bytes());
+}
+
+/// A film with true colour: the stage lends no pictures of words, so the film is refused by 8, right behind its
+/// size.
+#[test]
+fn no_true_colour() {
+    let film = true_colour::with_frames(&mut Seeded::new(5), 2).bytes();
+    let expected = expected(&film);
+    assert_eq!((expected.pictures.len(), expected.refusal.map(|r| r.number)), (0, Some(8)));
+    is_told("no_true_colour", &film);
 }
 
 /// A film that is larger than its room is not played. The largest that is not is.

@@ -122,12 +122,14 @@ impl<D: Decoder> Decoder for Separate<D> {
             picture_b: Vec::new(),
             place: *place,
             room: Vec::new(),
+            words: Default::default(),
             allowed: 0,
         };
         while walk.state.columns == 0 {
             let given = walk.state;
             walk.picture_a.resize(given.position % 5, 1);
             walk.picture_b.resize(given.position % 3, 2);
+            walk.words[given.position % 3].resize(given.position % 4, 0xFFFF);
             walk.room.resize(ROOM + given.position % 7, 3);
             walk.allowed = STORES + given.position % 11;
             let refusal = match self.0.step(CallForm::Default, film, &mut walk) {
@@ -148,5 +150,25 @@ impl<D: Decoder> Decoder for Separate<D> {
 
     fn shown<'a>(&self, state: &State, a: &'a [u8], b: &'a [u8]) -> &'a [u8] {
         self.0.shown(state, a, b)
+    }
+
+    fn check_words(&self, form: CallForm, packet: &Packet) -> Checked {
+        self.0.check_words(form, packet)
+    }
+
+    fn draw_words(
+        &self,
+        form: CallForm,
+        packet: &Packet,
+        older: [&mut [u16]; 2],
+        new: &mut [u16],
+        place: &mut usize,
+        allowed: usize,
+    ) -> Answer {
+        self.0.draw_words(form, packet, older, new, place, allowed)
+    }
+
+    fn shown_words<'a>(&self, state: &State, pictures: [&'a [u16]; 3]) -> &'a [u16] {
+        self.0.shown_words(state, pictures)
     }
 }

@@ -1,5 +1,5 @@
-//! The cases: packets, lists of calls, films, films with sound and films that are cut, each made from a
-//! seed and a number of its own, so that any one can be made again by itself.
+//! The cases: packets, lists of calls, films, films with sound and films that are cut, with 8-bit pictures or
+//! true colour, each made from a seed and a number of its own, so that any one can be made again by itself.
 
 use crate::cuts::CutFilm;
 use maker::calls::{self, Call, CallList};
@@ -7,7 +7,11 @@ use maker::film::Film;
 use maker::packet::{self, Draft};
 use maker::packet_damage::{damaged, Damage};
 use maker::states::{self, Start};
-use maker::{film_damage, sound_damage, Form, Packet, Profile, Seeded, Size};
+use maker::true_colour;
+use maker::word_calls::{self, WordCall, WordCallList};
+use maker::words::{self, WordDraft, WordProfile, LONG};
+use maker::{film_damage, sound_damage, word_damage};
+use maker::{Form, Packet, Profile, Seeded, Size};
 use reference::film::{State, Stepped};
 use reference::sound::NO_STREAM;
 use reference::CallForm;
@@ -43,6 +47,73 @@ pub fn list(seed: u64, number: u64) -> CallList {
     }
 }
 
+/// The packet with true colour of a case: valid, damaged or hostile.
+pub fn word_packet(seed: u64, number: u64) -> Packet {
+    let rng = &mut chance(seed, number);
+    match rng.below(8) {
+        0..=2 => word_draft(rng).packet(),
+        3..=6 => damaged_words(rng).0,
+        _ => words::hostile(rng),
+    }
+}
+
+/// The list of calls of words of a case, as [`list`] has them.
+pub fn word_list(seed: u64, number: u64) -> WordCallList {
+    let rng = &mut chance(seed, number);
+    match rng.below(8) {
+        0..=4 => {
+            let (size, profile) = (frame_size(rng), WordProfile::any(rng));
+            word_calls::list(rng, size, profile)
+        }
+        5 | 6 => {
+            let (packet, size) = damaged_words(rng);
+            list_of_words(rng, packet, size)
+        }
+        _ => {
+            let packet = words::hostile(rng);
+            let size = Size::new(packet.columns, packet.rows);
+            list_of_words(rng, packet, size)
+        }
+    }
+}
+
+/// A valid packet with true colour, padded or not.
+fn word_draft(rng: &mut Seeded) -> WordDraft {
+    let (size, profile) = (frame_size(rng), WordProfile::any(rng));
+    WordDraft::make(rng, size, profile, LONG).or_padded(rng)
+}
+
+/// A damaged one, and the frame size that it had before. Some are cut anywhere.
+fn damaged_words(rng: &mut Seeded) -> (Packet, Size) {
+    let draft = word_draft(rng);
+    let packet = if rng.one_in(6) {
+        let (first, second) = (draft.first(), draft.second());
+        let (one, other) = (rng.below(first.len() + 1), rng.below(second.len() + 1));
+        match rng.below(3) {
+            0 => draft.packet_of(&first[..one], &second),
+            1 => draft.packet_of(&first, &second[..other]),
+            _ => draft.packet_of(&first[..one], &second[..other]),
+        }
+    } else {
+        let damage = rng.pick(&word_damage::Damage::ALL);
+        word_damage::damaged(rng, &draft, damage)
+    };
+    (packet, draft.size)
+}
+
+/// Calls of either form that all bring one packet, which may be refused, for pictures of about this size.
+fn list_of_words(rng: &mut Seeded, packet: Packet, size: Size) -> WordCallList {
+    let [new, last, oldest] = [(); 3].map(|()| word_picture(rng, size.pixels()));
+    let calls = (0..rng.between(1, 8)).map(|_| {
+        let allowed = calls::allowance(rng, size.blocks());
+        let cut = rng.one_in(5).then(|| rng.below(allowed.min(size.pixels()) + 1));
+        let (form, packet) = (rng.pick(&CallForm::ALL), packet.clone());
+        let (last, oldest) = (last.clone(), oldest.clone());
+        WordCall { form, packet, last, oldest, allowed, cut, refused: false }
+    });
+    WordCallList { calls: calls.collect(), new }
+}
+
 /// How many steps over a film are compared at most.
 const STEPS: usize = 300;
 
@@ -59,6 +130,8 @@ pub struct Walk {
     pub palette: Vec<u8>,
     /// The two lent pictures.
     pub pictures: [Vec<u8>; 2],
+    /// The three lent pictures of words.
+    pub words: [Vec<u16>; 3],
     /// The lent place.
     pub place: usize,
     /// The stores allowed, step by step; as many steps are taken at most.
@@ -72,9 +145,12 @@ pub struct Walk {
 
 /// The film of a case. Most are walked from the opening: valid, damaged in an opcode or in a byte,
 /// or hostile. The others are walked on from a state in the middle, good or hostile, and some of
-/// them have bytes changed that the next step reads.
+/// them have bytes changed that the next step reads. One in four has true colour.
 pub fn film(seed: u64, number: u64) -> Walk {
     let rng = &mut chance(seed, number);
+    if number % 4 == 3 {
+        return deep_film(rng);
+    }
     match rng.below(16) {
         0..=2 => {
             let film = maker::film::valid(rng).bytes();
@@ -101,12 +177,53 @@ pub fn film(seed: u64, number: u64) -> Walk {
     }
 }
 
+/// The film with true colour of a case.
+fn deep_film(rng: &mut Seeded) -> Walk {
+    match rng.below(16) {
+        0..=3 => {
+            let film = true_colour::valid(rng).bytes();
+            from_opening(rng, film)
+        }
+        4..=8 => {
+            let damage = true_colour::Damage::any(rng);
+            let film = true_colour::damaged(rng, damage);
+            from_opening(rng, film)
+        }
+        9 => {
+            let film = true_colour::scratched(rng);
+            from_opening(rng, film)
+        }
+        10 => {
+            let film = true_colour::hostile(rng);
+            from_opening(rng, film)
+        }
+        _ => {
+            let frames = rng.between(1, 3);
+            let film = true_colour::with_frames(rng, frames);
+            from_middle(rng, &film)
+        }
+    }
+}
+
 /// The film with sound of a case, as [`film`] has them, for any stream; now and then for none, which
-/// then passes over what is made for one.
+/// then passes over what is made for one. One in eight has true colour.
 pub fn sound(seed: u64, number: u64) -> Walk {
     let rng = &mut chance(seed, number);
     let stream = rng.below(16);
     let walk = match rng.below(16) {
+        _ if number % 16 == 15 => {
+            let film = true_colour::scratched_sound(rng, stream);
+            from_opening(rng, film)
+        }
+        _ if number % 16 == 7 => {
+            let frames = rng.between(1, 3);
+            let film = true_colour::with_sound(rng, stream, frames);
+            if rng.one_in(2) {
+                from_opening(rng, film.bytes())
+            } else {
+                from_middle(rng, &film)
+            }
+        }
         0..=3 => {
             let film = maker::sound::valid(rng, stream).bytes();
             from_opening(rng, film)
@@ -154,6 +271,7 @@ pub fn opening(seed: u64, number: u64) -> Opening {
     let rng = &mut chance(seed, number);
     let stream = if rng.one_in(2) { rng.below(16) } else { rng.pick(&[NO_STREAM, usize::MAX]) };
     let film = match rng.below(2) {
+        0 if number % 4 == 3 => true_colour::beginning(rng, stream).bytes(),
         0 => maker::beginning::film(rng, stream).bytes(),
         _ => maker::beginning::damaged(rng, stream),
     };
@@ -163,11 +281,15 @@ pub fn opening(seed: u64, number: u64) -> Opening {
 }
 
 /// The film of a case that is played through cuts, in either form: with pictures, with sound, or rich in
-/// palettes and maps; from its opening or, one in four, from a state in its middle.
+/// palettes and maps; from its opening or, one in four, from a state in its middle. One in four has true
+/// colour.
 pub fn cut_film(seed: u64, number: u64) -> CutFilm {
     let rng = &mut chance(seed, number);
     let (stream, frames) = (rng.below(16), rng.below(4));
     let made = match rng.below(3) {
+        0 if number % 4 == 3 => true_colour::with_frames(rng, frames),
+        1 if number % 4 == 3 => true_colour::with_sound(rng, stream, frames),
+        _ if number % 4 == 3 => true_colour::with_colours(rng, frames),
         0 => maker::film::with_frames(rng, frames),
         1 => maker::sound::with_frames(rng, stream, frames),
         _ => maker::colours::film(rng, frames),
@@ -181,7 +303,8 @@ pub fn cut_film(seed: u64, number: u64) -> CutFilm {
 }
 
 fn from_opening(rng: &mut Seeded, film: Vec<u8>) -> Walk {
-    let size = size(&film);
+    let (size, true_colour) = size(&film);
+    let words = lent_words(&mut rng.clone(), size, true_colour);
     let pictures = [(); 2].map(|()| {
         let zero = rng.one_in(4);
         let picture = picture(rng, size.pixels());
@@ -196,7 +319,18 @@ fn from_opening(rng: &mut Seeded, film: Vec<u8>) -> Walk {
     let place = if rng.one_in(8) { rng.pick(&[1, 5000, usize::MAX]) } else { 0 };
     let (allowances, forms) = (allowances(rng, size.blocks()), forms(rng));
     let (state, stream, spare) = (None, NO_STREAM, Vec::new());
-    Walk { film, stream, state, palette, pictures, place, allowances, forms, spare }
+    Walk { film, stream, state, palette, pictures, words, place, allowances, forms, spare }
+}
+
+/// Three pictures of words: of a film with true colour for its size, seldom too short; else of any length.
+fn lent_words(rng: &mut Seeded, size: Size, true_colour: bool) -> [Vec<u16>; 3] {
+    [(); 3].map(|()| match true_colour {
+        true => word_picture(rng, size.pixels()),
+        false => {
+            let length = rng.below(70);
+            rng.words(length)
+        }
+    })
 }
 
 fn from_middle(rng: &mut Seeded, film: &Film) -> Walk {
@@ -206,24 +340,26 @@ fn from_middle(rng: &mut Seeded, film: &Film) -> Walk {
     };
     let bytes =
         if rng.one_in(4) { states::scratched_ahead(rng, film, &start) } else { film.bytes() };
-    let Start { state, palette, picture_a, picture_b, place, .. } = start;
+    let Start { state, palette, picture_a, picture_b, place, words, .. } = start;
     let (allowances, forms) = (allowances(rng, film.size.blocks()), forms(rng));
     let (state, pictures) = (Some(state), [picture_a, picture_b]);
     let (film, stream, spare) = (bytes, film.stream, Vec::new());
-    Walk { film, stream, state, palette, pictures, place, allowances, forms, spare }
+    Walk { film, stream, state, palette, pictures, words, place, allowances, forms, spare }
 }
 
-/// The size of a film's frames; 0 by 0 where no step gives it one. Pictures without a byte do until
-/// then.
-fn size(film: &[u8]) -> Size {
-    let Ok(state) = reference::film::open(film, NO_STREAM) else { return Size::new(0, 0) };
+/// The size of a film's frames, 0 by 0 where no step gives it one, and whether it has true colour. Pictures
+/// without a pixel do until then.
+fn size(film: &[u8]) -> (Size, bool) {
+    let Ok(state) = reference::film::open(film, NO_STREAM) else {
+        return (Size::new(0, 0), false);
+    };
     let (palette, picture_a, picture_b) = (vec![0; 768], Vec::new(), Vec::new());
-    let (place, room, allowed) = (0, Vec::new(), 312_000);
-    let mut walk = Start { state, palette, picture_a, picture_b, place, room, allowed };
+    let (place, room, words, allowed) = (0, Vec::new(), Default::default(), 312_000);
+    let mut walk = Start { state, palette, picture_a, picture_b, place, room, words, allowed };
     while let Stepped::Taken(state, ..) = walk.step(film) {
         walk.state = state;
     }
-    Size::new(walk.state.columns, walk.state.rows)
+    (Size::new(walk.state.columns, walk.state.rows), walk.state.true_colour)
 }
 
 /// Any allowances, all stores at each step, or few at most of them: with few at each a long palette
@@ -312,10 +448,20 @@ fn list_of_packet(rng: &mut Seeded, packet: Packet, size: Size) -> CallList {
 
 /// A picture of any bytes: of the frame's pixels, longer, or, seldom, too short.
 fn picture(rng: &mut Seeded, pixels: usize) -> Vec<u8> {
-    let length = match rng.below(32) {
+    let length = lent_length(rng, pixels);
+    rng.bytes(length)
+}
+
+/// The same of words, with the high bit or without.
+fn word_picture(rng: &mut Seeded, pixels: usize) -> Vec<u16> {
+    let length = lent_length(rng, pixels);
+    rng.words(length)
+}
+
+fn lent_length(rng: &mut Seeded, pixels: usize) -> usize {
+    match rng.below(32) {
         0 => pixels.saturating_sub(1),
         1..=8 => pixels + rng.between(1, 1000),
         _ => pixels,
-    };
-    rng.bytes(length)
+    }
 }

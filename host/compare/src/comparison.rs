@@ -71,6 +71,9 @@ impl<A: Decoder, B: Decoder> Comparison<A, B> {
             let compared = match kind {
                 Kind::Packets => self.check(&cases::packet(seed, number)),
                 Kind::Lists => self.draw(&cases::list(seed, number)),
+                Kind::Words => self
+                    .check_words(&cases::word_packet(seed, number))
+                    .and_then(|()| self.draw_words(&cases::word_list(seed, number))),
                 Kind::Films => self.walk(&cases::film(seed, number)),
                 Kind::Sounds => self.walk(&cases::sound(seed, number)),
                 Kind::Openings => self.begin(&cases::opening(seed, number)),
@@ -94,6 +97,8 @@ pub enum Kind {
     Packets,
     /// Packets to draw by a list of calls.
     Lists,
+    /// Packets with true colour: one to check, and one to draw by a list of calls.
+    Words,
     /// Films to step over.
     Films,
     /// Films with sound to step over.
@@ -106,8 +111,15 @@ pub enum Kind {
 
 impl Kind {
     /// Every kind.
-    pub const ALL: [Kind; 6] =
-        [Kind::Packets, Kind::Lists, Kind::Films, Kind::Sounds, Kind::Openings, Kind::Cuts];
+    pub const ALL: [Kind; 7] = [
+        Kind::Packets,
+        Kind::Lists,
+        Kind::Words,
+        Kind::Films,
+        Kind::Sounds,
+        Kind::Openings,
+        Kind::Cuts,
+    ];
 }
 
 impl fmt::Display for Kind {
@@ -115,6 +127,7 @@ impl fmt::Display for Kind {
         f.write_str(match self {
             Kind::Packets => "packets",
             Kind::Lists => "lists",
+            Kind::Words => "words",
             Kind::Films => "films",
             Kind::Sounds => "sounds",
             Kind::Openings => "openings",
@@ -181,7 +194,7 @@ impl<'a, D: Decoder> Drawing<'a, D> {
 }
 
 /// The book's account of a call. "The shown picture stays" (01).
-fn enter<'a>(book: &'a mut Book, number: usize, call: &'a Call) -> Seen<'a> {
+fn enter<'a>(book: &'a mut Book<u8>, number: usize, call: &'a Call) -> Seen<'a> {
     let Packet { columns, rows, map, data } = &call.packet;
     let answer = book.enter(&book::Call {
         form: call.form,

@@ -34,8 +34,8 @@ impl CutFilm {
 }
 
 fn memory(start: &Start) -> Memory {
-    let Start { palette, picture_a, picture_b, place, .. } = start.clone();
-    Memory { palette, pictures: [picture_a, picture_b], place }
+    let Start { palette, picture_a, picture_b, place, words, .. } = start.clone();
+    Memory { palette, pictures: [picture_a, picture_b], words, place }
 }
 
 /// Steps that a film is played at most; no film made here has so many.
@@ -149,7 +149,7 @@ impl<A: Decoder, B: Decoder> Comparison<A, B> {
         account.same(Part::Answer, &one, self.second.name(), &other)?;
         account.leaves(&first, self.second.name(), &second)?;
         account.bytes(Part::Room, &first.room, self.second.name(), &second.room)?;
-        self.tally.stepped(case.form, &case.film, found, &first, one, false);
+        self.tally.stepped(case.form, &case.film, found, &first, one, (false, false));
         Ok((one, first))
     }
 
@@ -165,11 +165,11 @@ impl<A: Decoder, B: Decoder> Comparison<A, B> {
         made: usize,
     ) -> Result<Start, Difference> {
         let (_, left) = self.stepped(number, case, &Start { allowed: made, ..found.clone() })?;
-        let Memory { palette, pictures: [picture_a, picture_b], place } =
+        let Memory { palette, pictures: [picture_a, picture_b], words, place } =
             memory(found).cut(stores, made);
         let room = found.room.iter().map(|byte| !byte ^ made as u8).collect();
-        let listed =
-            Start { palette, picture_a, picture_b, place, room, allowed: 0, state: found.state };
+        let (state, allowed) = (found.state, 0);
+        let listed = Start { state, palette, picture_a, picture_b, place, room, words, allowed };
         let account = Account { by: self.first.name(), number, form: case.form };
         let left = Start { state: found.state, ..left };
         account.leaves(&left, "first stores of the list", &listed)?;
@@ -261,7 +261,13 @@ impl Account {
         self.same(Part::Place, &left.place, by, &other.place)?;
         self.bytes(Part::Palette, &left.palette, by, &other.palette)?;
         self.bytes(Part::PictureA, &left.picture_a, by, &other.picture_a)?;
-        self.bytes(Part::PictureB, &left.picture_b, by, &other.picture_b)
+        self.bytes(Part::PictureB, &left.picture_b, by, &other.picture_b)?;
+        for (number, (words, others)) in left.words.iter().zip(&other.words).enumerate() {
+            if let Some(at) = first_difference(words, others) {
+                self.same(Part::Words(number, at), &words[at], by, &others[at])?;
+            }
+        }
+        Ok(())
     }
 
     /// What a film sends, and how it ends.
@@ -271,6 +277,7 @@ impl Account {
         self.same(Part::Sent, &played.sent.len(), by, &book.sent.len())?;
         for (one, other) in played.sent.iter().zip(&book.sent) {
             self.same(Part::Sent, &one.picture, by, &other.picture)?;
+            self.same(Part::Sent, &one.words, by, &other.words)?;
             self.bytes(Part::Palette, &one.palette, by, &other.palette)?;
         }
         self.same(Part::Samples, &played.samples, by, &book.samples)

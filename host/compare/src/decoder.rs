@@ -5,7 +5,7 @@ use maker::Packet;
 use reference::begin::{self, Unbegun};
 use reference::film::{self, Span, State, Stepped};
 use reference::sound::Sound;
-use reference::{refusal, CallForm, Drawn, Refusal, Rows};
+use reference::{check_words_as, draw_words_as, refusal, CallForm, Drawn, Refusal, Rows};
 
 /// What a check answers: the rows that the packet touches, if any.
 pub type Checked = Result<Option<Rows>, Refusal>;
@@ -70,6 +70,31 @@ pub trait Decoder {
 
     /// The shown picture.
     fn shown<'a>(&self, state: &State, a: &'a [u8], b: &'a [u8]) -> &'a [u8];
+
+    /// Checks a packet with true colour, in this form. Here and below the second decoder's calls stand for
+    /// those of a decoder that has none of its own, as one with a fault elsewhere.
+    fn check_words(&self, form: CallForm, packet: &Packet) -> Checked {
+        Second.check_words(form, packet)
+    }
+
+    /// Draws a packet with true colour on `new`, likewise. No decoder may change the last and the oldest
+    /// picture.
+    fn draw_words(
+        &self,
+        form: CallForm,
+        packet: &Packet,
+        older: [&mut [u16]; 2],
+        new: &mut [u16],
+        place: &mut usize,
+        allowed: usize,
+    ) -> Answer {
+        Second.draw_words(form, packet, older, new, place, allowed)
+    }
+
+    /// The shown picture of a film with true colour.
+    fn shown_words<'a>(&self, state: &State, pictures: [&'a [u16]; 3]) -> &'a [u16] {
+        Second.shown_words(state, pictures)
+    }
 }
 
 /// The proved library.
@@ -118,10 +143,12 @@ impl Decoder for Proved {
     }
 
     fn step(&self, form: CallForm, film: &[u8], walk: &mut Start) -> Walked {
-        let Start { state, palette, picture_a, picture_b, place, room, allowed } = walk;
+        let Start { state, palette, picture_a: a, picture_b: b, place, room, words, allowed } =
+            walk;
         let (found, allowed, form) = (own_state(state), *allowed, own_form(form));
-        let (a, b) = (picture_a, picture_b);
-        let stepped = mve::step(film, found, palette, a, b, place, room, allowed, form)
+        let [c, d, e] = words;
+        let pictures = &mut mve::Pictures { a, b, c, d, e };
+        let stepped = mve::step(film, found, palette, pictures, place, room, allowed, form)
             .map_err(common_refusal)?;
         *state = common_state(stepped.state());
         Ok(match stepped {
@@ -136,6 +163,38 @@ impl Decoder for Proved {
 
     fn shown<'a>(&self, state: &State, a: &'a [u8], b: &'a [u8]) -> &'a [u8] {
         mve::shown(&own_state(state), a, b)
+    }
+
+    fn check_words(&self, form: CallForm, packet: &Packet) -> Checked {
+        let Packet { columns, rows, map, data } = packet;
+        let check = match form {
+            CallForm::Default => mve::check_words,
+            CallForm::Strict => mve::check_words_strict,
+        };
+        check(*columns, *rows, map, data).map(common_rows).map_err(common_refusal)
+    }
+
+    fn draw_words(
+        &self,
+        form: CallForm,
+        packet: &Packet,
+        [last, oldest]: [&mut [u16]; 2],
+        new: &mut [u16],
+        place: &mut usize,
+        allowed: usize,
+    ) -> Answer {
+        let Packet { columns, rows, map, data } = packet;
+        let draw = match form {
+            CallForm::Default => mve::draw_words,
+            CallForm::Strict => mve::draw_words_strict,
+        };
+        draw(*columns, *rows, map, data, last, oldest, new, place, allowed)
+            .map(common_drawn)
+            .map_err(common_refusal)
+    }
+
+    fn shown_words<'a>(&self, state: &State, [c, d, e]: [&'a [u16]; 3]) -> &'a [u16] {
+        mve::shown_words(&own_state(state), c, d, e)
     }
 }
 
@@ -168,19 +227,21 @@ fn common_rows(rows: Option<mve::Rows>) -> Option<Rows> {
 }
 
 fn common_state(state: mve::State) -> State {
-    let mve::State { position, chunk_end, columns, rows, front, map, unsent, sound } = state;
+    let mve::State { position, chunk_end, columns, rows, true_colour, front, map, unsent, sound } =
+        state;
     let map = map.map(|(start, length)| Span { start, length });
     let mve::Sound { stream, has_format, stereo, wide, compressed, begun, left, right } = sound;
     let sound = Sound { stream, has_format, stereo, wide, compressed, begun, left, right };
-    State { position, chunk_end, columns, rows, front, map, unsent, sound }
+    State { position, chunk_end, columns, rows, true_colour, front, map, unsent, sound }
 }
 
 fn own_state(state: &State) -> mve::State {
-    let State { position, chunk_end, columns, rows, front, map, unsent, sound } = *state;
+    let State { position, chunk_end, columns, rows, true_colour, front, map, unsent, sound } =
+        *state;
     let map = map.map(|Span { start, length }| (start, length));
     let Sound { stream, has_format, stereo, wide, compressed, begun, left, right } = sound;
     let sound = mve::Sound { stream, has_format, stereo, wide, compressed, begun, left, right };
-    mve::State { position, chunk_end, columns, rows, front, map, unsent, sound }
+    mve::State { position, chunk_end, columns, rows, true_colour, front, map, unsent, sound }
 }
 
 /// The second decoder.
@@ -232,5 +293,27 @@ impl Decoder for Second {
 
     fn shown<'a>(&self, state: &State, a: &'a [u8], b: &'a [u8]) -> &'a [u8] {
         film::shown(state, a, b)
+    }
+
+    fn check_words(&self, form: CallForm, packet: &Packet) -> Checked {
+        let Packet { columns, rows, map, data } = packet;
+        check_words_as(form, *columns, *rows, map, data).map(Some)
+    }
+
+    fn draw_words(
+        &self,
+        form: CallForm,
+        packet: &Packet,
+        [last, oldest]: [&mut [u16]; 2],
+        new: &mut [u16],
+        place: &mut usize,
+        allowed: usize,
+    ) -> Answer {
+        let Packet { columns, rows, map, data } = packet;
+        draw_words_as(form, *columns, *rows, map, data, last, oldest, new, place, allowed)
+    }
+
+    fn shown_words<'a>(&self, state: &State, pictures: [&'a [u16]; 3]) -> &'a [u16] {
+        film::shown_words(state, pictures)
     }
 }

@@ -15,8 +15,14 @@ pub enum Part {
     /// A byte of the picture drawn on.
     Back(usize),
     /// A byte of the picture drawn on that the call must leave: outside the rows that it tells, or any
-    /// byte if the call is refused.
+    /// byte if the call is refused. Or a word of it.
     Kept(usize),
+    /// A word of the last picture.
+    Last(usize),
+    /// A word of the oldest picture.
+    Oldest(usize),
+    /// A word of the new picture, which is drawn on.
+    New(usize),
     /// The state of a film after a step.
     State,
     /// A byte of the palette.
@@ -30,10 +36,16 @@ pub enum Part {
     KeptA(usize),
     /// The same of the second lent picture.
     KeptB(usize),
+    /// A word of one of the three lent pictures of words.
+    Words(usize, usize),
+    /// A word of one of them that the step must leave.
+    KeptWords(usize, usize),
     /// A byte of the room.
     Room(usize),
     /// The part of a lent picture that is shown.
     Shown,
+    /// The part of a lent picture of words that is shown.
+    ShownWords,
     /// The pictures that a film sends.
     Sent,
     /// The samples of a whole film.
@@ -49,7 +61,10 @@ impl fmt::Display for Part {
             Part::Place => write!(f, "place"),
             Part::Front(index) => write!(f, "byte {index} of front"),
             Part::Back(index) => write!(f, "byte {index} of back"),
-            Part::Kept(index) => write!(f, "byte {index} of back, which the call must leave"),
+            Part::Kept(index) => write!(f, "pixel {index} of back, which the call must leave"),
+            Part::Last(index) => write!(f, "word {index} of the last picture"),
+            Part::Oldest(index) => write!(f, "word {index} of the oldest picture"),
+            Part::New(index) => write!(f, "word {index} of the new picture"),
             Part::State => write!(f, "state"),
             Part::Palette(index) => write!(f, "byte {index} of the palette"),
             Part::PictureA(index) => write!(f, "byte {index} of the first picture"),
@@ -60,8 +75,15 @@ impl fmt::Display for Part {
             Part::KeptB(index) => {
                 write!(f, "byte {index} of the second picture, which the step must leave")
             }
+            Part::Words(picture, index) => {
+                write!(f, "word {index} of picture {picture} of words")
+            }
+            Part::KeptWords(picture, index) => {
+                write!(f, "word {index} of picture {picture} of words, which the step must leave")
+            }
             Part::Room(index) => write!(f, "byte {index} of the room"),
             Part::Shown => write!(f, "shown picture"),
+            Part::ShownWords => write!(f, "shown picture of words"),
             Part::Sent => write!(f, "pictures that are sent"),
             Part::Samples => write!(f, "samples of the film"),
             Part::End => write!(f, "end of the film"),
@@ -97,8 +119,8 @@ impl fmt::Display for Difference {
 impl std::error::Error for Difference {}
 
 /// The first index at which two pictures or palettes differ; they have one length.
-pub(crate) fn first_difference(one: &[u8], other: &[u8]) -> Option<usize> {
-    assert_eq!(one.len(), other.len(), "bytes lent to one call");
+pub(crate) fn first_difference<P: PartialEq>(one: &[P], other: &[P]) -> Option<usize> {
+    assert_eq!(one.len(), other.len(), "pixels lent to one call");
     if one == other {
         return None;
     }
@@ -107,14 +129,14 @@ pub(crate) fn first_difference(one: &[u8], other: &[u8]) -> Option<usize> {
 
 /// The first index outside the rows at which two pictures of so many columns differ; anywhere where
 /// there is no row.
-pub(crate) fn difference_outside(
+pub(crate) fn difference_outside<P: PartialEq>(
     rows: Option<Rows>,
     columns: usize,
-    one: &[u8],
-    other: &[u8],
+    one: &[P],
+    other: &[P],
 ) -> Option<usize> {
-    let bytes = |row: usize| (64 * columns * row).min(one.len());
-    let (start, end) = rows.map_or((0, 0), |rows| (bytes(rows.first), bytes(rows.last + 1)));
+    let pixels = |row: usize| (64 * columns * row).min(one.len());
+    let (start, end) = rows.map_or((0, 0), |rows| (pixels(rows.first), pixels(rows.last + 1)));
     let behind = || first_difference(&one[end..], &other[end..]).map(|at| end + at);
     first_difference(&one[..start], &other[..start]).or_else(behind)
 }

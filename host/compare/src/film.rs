@@ -31,8 +31,9 @@ impl<A: Decoder, B: Decoder> Comparison<A, B> {
             let seen = Seen::step(&self.first, call, film, &mut first);
             seen.keeps(&found)?;
             seen.agrees(&Seen::step(&self.second, call, film, &mut second))?;
-            let Seen { answer, left, shown, .. } = seen;
-            self.tally.stepped(form, film, &found, left, answer, !shown.is_empty());
+            let Seen { answer, left, shown, words, .. } = seen;
+            let shown = (!shown.is_empty(), !words.is_empty());
+            self.tally.stepped(form, film, &found, left, answer, shown);
             again = Again::after(form, answer);
             if matches!(answer, Ok(Step::Ended) | Err(_)) && again.is_none() {
                 break;
@@ -96,8 +97,8 @@ fn room(walk: &Walk, number: usize, start: &Start, again: bool) -> Vec<u8> {
 /// What the first step is given.
 fn lent(walk: &Walk, state: State) -> Start {
     let [picture_a, picture_b] = walk.pictures.clone();
-    let (palette, place) = (walk.palette.clone(), walk.place);
-    Start { state, palette, picture_a, picture_b, place, room: Vec::new(), allowed: 0 }
+    let (palette, place, words) = (walk.palette.clone(), walk.place, walk.words.clone());
+    Start { state, palette, picture_a, picture_b, place, room: Vec::new(), words, allowed: 0 }
 }
 
 /// All that can be seen after a step.
@@ -108,6 +109,8 @@ struct Seen<'a> {
     answer: Walked,
     left: &'a Start,
     shown: &'a [u8],
+    /// The picture shown of a film with true colour.
+    words: &'a [u16],
 }
 
 impl<'a> Seen<'a> {
@@ -119,7 +122,8 @@ impl<'a> Seen<'a> {
     ) -> Self {
         let answer = decoder.step(call.1, film, walk);
         let shown = decoder.shown(&walk.state, &walk.picture_a, &walk.picture_b);
-        Seen { by: decoder.name(), call, answer, left: walk, shown }
+        let words = decoder.shown_words(&walk.state, walk.words.each_ref().map(Vec::as_slice));
+        Seen { by: decoder.name(), call, answer, left: walk, shown, words }
     }
 
     /// Two accounts of one step are the same.
@@ -130,6 +134,9 @@ impl<'a> Seen<'a> {
         self.leaves(other.by, other.left)?;
         if self.shown != other.shown {
             return self.differs(Part::Shown, self.shown, other.by, other.shown);
+        }
+        if self.words != other.words {
+            return self.differs(Part::ShownWords, self.words, other.by, other.words);
         }
         Ok(())
     }
@@ -153,9 +160,16 @@ impl<'a> Seen<'a> {
         }
     }
 
-    /// Both pictures are left as found, but for these rows of back.
+    /// All pictures are left as found, but for these rows of the one that is drawn on.
     fn keeps_pictures(&self, found: &Start, rows: Option<Rows>) -> Result<(), Difference> {
-        let State { front, columns, .. } = found.state;
+        let State { front, columns, true_colour, .. } = found.state;
+        for (number, (left, kept)) in self.left.words.iter().zip(&found.words).enumerate() {
+            let rows = rows.filter(|_| true_colour && number == (front + 1) % 3);
+            if let Some(at) = difference_outside(rows, columns, left, kept) {
+                return self.differs(Part::KeptWords(number, at), left[at], "as found", kept[at]);
+            }
+        }
+        let rows = rows.filter(|_| !true_colour);
         let (of_a, of_b) = if front == 0 { (None, rows) } else { (rows, None) };
         let (a, b) = (&self.left.picture_a, &self.left.picture_b);
         if let Some(at) = difference_outside(of_a, columns, a, &found.picture_a) {
@@ -179,6 +193,11 @@ impl<'a> Seen<'a> {
         self.same_bytes(Part::Palette, &left.palette, by, &other.palette)?;
         self.same_bytes(Part::PictureA, &left.picture_a, by, &other.picture_a)?;
         self.same_bytes(Part::PictureB, &left.picture_b, by, &other.picture_b)?;
+        for (number, (words, others)) in left.words.iter().zip(&other.words).enumerate() {
+            if let Some(at) = first_difference(words, others) {
+                return self.differs(Part::Words(number, at), words[at], by, others[at]);
+            }
+        }
         self.same_bytes(Part::Room, &left.room, by, &other.room)
     }
 

@@ -1,10 +1,12 @@
 //! The two forms of a call (02, W6): what a packet leaves over, and how the forms agree.
 
 use crate::decoder::{Answer, Begun, Checked, Decoder, Opened, Step, Walked};
+use crate::words;
 use maker::states::Start;
 use maker::Packet;
 use reference::film::{opcode, opcode_head, State};
 use reference::refusal::{self, Refusal};
+use reference::word_packet::Left;
 use reference::CallForm;
 
 /// The bytes that a packet leaves over; none where it has a fault that comes before 15.
@@ -73,6 +75,7 @@ impl<D: Decoder> Decoder for FromDefault<D> {
         let found = walk.clone();
         let answer = self.0.step(CallForm::Default, film, walk);
         let draws = matches!(answer, Ok(Step::Whole(..) | Step::Unfinished(..)));
+        let is_odd = if found.state.true_colour { are_odd_words } else { is_odd };
         if draws && is_odd(form, packet_at(film, &found.state).as_ref()) {
             *walk = found;
             return Err(Refusal::new(refusal::DATA_LEFT));
@@ -83,9 +86,46 @@ impl<D: Decoder> Decoder for FromDefault<D> {
     fn shown<'a>(&self, state: &State, a: &'a [u8], b: &'a [u8]) -> &'a [u8] {
         self.0.shown(state, a, b)
     }
+
+    fn check_words(&self, form: CallForm, packet: &Packet) -> Checked {
+        let answer = self.0.check_words(CallForm::Default, packet);
+        if answer.is_ok() && are_odd_words(form, Some(packet)) {
+            return Err(Refusal::new(refusal::DATA_LEFT));
+        }
+        answer
+    }
+
+    fn draw_words(
+        &self,
+        form: CallForm,
+        packet: &Packet,
+        older: [&mut [u16]; 2],
+        new: &mut [u16],
+        place: &mut usize,
+        allowed: usize,
+    ) -> Answer {
+        let found = (new.to_vec(), *place);
+        let answer = self.0.draw_words(CallForm::Default, packet, older, new, place, allowed);
+        if answer.is_ok() && are_odd_words(form, Some(packet)) {
+            new.copy_from_slice(&found.0);
+            *place = found.1;
+            return Err(Refusal::new(refusal::DATA_LEFT));
+        }
+        answer
+    }
+
+    fn shown_words<'a>(&self, state: &State, pictures: [&'a [u16]; 3]) -> &'a [u16] {
+        self.0.shown_words(state, pictures)
+    }
 }
 
 /// Whether the call is strict and the packet leaves exactly one byte over.
 fn is_odd(form: CallForm, packet: Option<&Packet>) -> bool {
     form == CallForm::Strict && packet.and_then(left_over) == Some(1)
+}
+
+/// The same of a packet with true colour: the byte is left in its second part (02, W7).
+fn are_odd_words(form: CallForm, packet: Option<&Packet>) -> bool {
+    let odd = Left { first: 0, second: 1 };
+    form == CallForm::Strict && packet.and_then(words::left_over) == Some(odd)
 }

@@ -3,7 +3,8 @@
 //! Both are [`Decoder`]s. A [`Comparison`] gives them the same seeded cases and compares whatever
 //! can be seen of each call: the answer with its number, block, count and rows, the place, and every
 //! byte of both pictures; outside the rows told these must be as the call found them. Lists of drawing
-//! calls are compared with the book of demand 3, too. Films, with sound or without, are compared step by
+//! calls are compared with the book of demand 3, too, and so are those of packets with true colour
+//! ([`words`]). Films, with sound or without, are compared step by
 //! step, with their state, palette, room and shown picture. Packets are checked in both forms, and
 //! calls and steps are of either. The first thing that differs ends it, with the seed and the number of
 //! the case; a [`Tally`] counts what the cases reached.
@@ -35,6 +36,7 @@ pub mod salvages;
 pub mod strips;
 pub mod tally;
 pub mod trailers;
+pub mod words;
 
 pub use begin::Separate;
 pub use comparison::{Comparison, Found, Kind};
@@ -42,4 +44,4 @@ pub use cuts::CutFilm;
 pub use decoder::{Answer, Begun, Checked, Decoder, Opened, Proved, Second, Step, Walked};
 pub use difference::{Difference, Part};
 pub use forms::FromDefault;
-pub use tally::{Event, Tally, Touched};
+pub use tally::{Event, Tally, Touched, Unparted};

@@ -1,6 +1,7 @@
 //! A long comparison of the proved library with the second decoder, of its strict form with its default
 //! form, and of its opening call with separate calls, run by hand:
-//! `compare SEED COUNT [packets|lists|films|sounds|openings|cuts|numbers|salvages|strips|encodes|trailers]`.
+//! `compare SEED COUNT [KIND]`, where the kind is one of those that it tells without arguments.
+//! Films are of both kinds, and the cases of `words` packets with true colour, checked and drawn.
 //! The cases of `numbers` are states and answers as numbers of any count, those of `salvages` films that are
 //! saved, those of `strips` films that are stripped, and played before and after, those of `encodes`
 //! pictures that are encoded, those of `trailers` frames of Microsoft Video 1.
@@ -36,7 +37,7 @@ fn main() -> ExitCode {
     let Some((seed, count, kinds)) = parsed(&arguments) else {
         eprintln!(
             "usage: compare SEED COUNT \
-             [packets|lists|films|sounds|openings|cuts|numbers|salvages|strips|encodes|trailers]"
+             [packets|lists|words|films|sounds|openings|cuts|numbers|salvages|strips|encodes|trailers]"
         );
         return ExitCode::from(2);
     };

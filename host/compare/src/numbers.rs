@@ -1,6 +1,6 @@
 //! Comparing the film's calls with states and answers as numbers of any count, as they cross to C.
 //!
-//! Each case is a film, numbers for a state and for an answer, and what is lent; all four calls are made
+//! Each case is a film, numbers for a state and for an answer, and what is lent; all five calls are made
 //! with them. Whatever can be seen of each is compared: what it returns, every number of `from` and `out`,
 //! and everything that is lent.
 
@@ -30,6 +30,9 @@ pub trait Boundary {
 
     /// How many bytes are shown.
     fn shown(&self, lent: &mut Lending) -> usize;
+
+    /// How many words are shown.
+    fn shown_words(&self, lent: &mut Lending) -> usize;
 }
 
 /// The numbers and bytes that are lent to a call.
@@ -59,14 +62,20 @@ impl Boundary for Proved {
 
     fn step(&self, film: &[u8], lent: &mut Lending, form: usize) -> usize {
         let Lending { from, out, start } = lent;
-        let Start { palette, picture_a, picture_b, place, room, allowed, .. } = start;
-        let (a, b) = (picture_a, picture_b);
-        mve::numbers::step(film, from, out, palette, a, b, place, room, *allowed, form)
+        let Start { palette, picture_a: a, picture_b: b, place, room, words, allowed, .. } = start;
+        let [c, d, e] = words;
+        let pictures = &mut mve::Pictures { a, b, c, d, e };
+        mve::numbers::step(film, from, out, palette, pictures, place, room, *allowed, form)
     }
 
     fn shown(&self, lent: &mut Lending) -> usize {
         let Start { picture_a, picture_b, .. } = &lent.start;
         mve::numbers::shown(&lent.from, picture_a, picture_b)
+    }
+
+    fn shown_words(&self, lent: &mut Lending) -> usize {
+        let [c, d, e] = &lent.start.words;
+        mve::numbers::shown_words(&lent.from, c, d, e)
     }
 }
 
@@ -86,14 +95,20 @@ impl Boundary for Second {
 
     fn step(&self, film: &[u8], lent: &mut Lending, form: usize) -> usize {
         let Lending { from, out, start } = lent;
-        let Start { palette, picture_a, picture_b, place, room, allowed, .. } = start;
-        let lent = Lent { palette, picture_a, picture_b, place, room };
+        let Start { palette, picture_a, picture_b, place, room, words, allowed, .. } = start;
+        let words = words.each_mut().map(Vec::as_mut_slice);
+        let lent = Lent { palette, picture_a, picture_b, place, room, words };
         reference::numbers::step(film, from, out, lent, *allowed, form)
     }
 
     fn shown(&self, lent: &mut Lending) -> usize {
         let Start { picture_a, picture_b, .. } = &lent.start;
         reference::numbers::shown(&lent.from, picture_a, picture_b)
+    }
+
+    fn shown_words(&self, lent: &mut Lending) -> usize {
+        let words = lent.start.words.each_ref().map(Vec::as_slice);
+        reference::numbers::shown_words(&lent.from, words)
     }
 }
 
@@ -110,19 +125,19 @@ pub struct Case {
     pub form: usize,
 }
 
-/// The numbers of a case: those of a state in the middle of a film, good or hostile, with flags that are
-/// neither 0 nor 1 and numbers where none is read; of half the cases more or fewer than a state has, or
+/// The numbers of a case: those of a state in the middle of a film, also of one with true colour, good or
+/// hostile, with flags that are neither 0 nor 1 and numbers where none is read; of half the cases more or fewer than a state has, or
 /// with a last sample of more than 16 bits. The answer has any length about that of one. Some films have
 /// bytes changed that the next step reads, and some lack their beginning.
 pub fn case(seed: u64, number: u64) -> Case {
     let rng = &mut chance(seed, number);
     let frames = rng.between(1, 2);
-    let film = match rng.below(3) {
-        0 => maker::film::with_frames(rng, frames),
-        _ => {
-            let stream = rng.below(16);
-            maker::sound::with_frames(rng, stream, frames)
-        }
+    let stream = rng.below(16);
+    let film = match rng.below(6) {
+        0 | 1 => maker::film::with_frames(rng, frames),
+        2 | 3 => maker::sound::with_frames(rng, stream, frames),
+        4 => maker::true_colour::with_frames(rng, frames),
+        _ => maker::true_colour::with_sound(rng, stream, frames),
     };
     let start = match rng.below(4) {
         0 => states::opening(rng, &film),
@@ -135,11 +150,11 @@ pub fn case(seed: u64, number: u64) -> Case {
     }
     match rng.below(8) {
         0 => from[rng.between(15, 16)] = sample_too_large(rng),
-        1 => resize(rng, &mut from, &[16, 18]),
-        2 => resize(rng, &mut from, &[0, 1, 16, 18, 25, 40]),
+        1 => resize(rng, &mut from, &[17, 19]),
+        2 => resize(rng, &mut from, &[0, 1, 17, 19, 26, 40]),
         _ => {}
     }
-    let lengths = [25, 25, 25, 25, 26, 40, 24, 0, rng.below(25)];
+    let lengths = [26, 26, 26, 26, 27, 40, 25, 0, rng.below(26)];
     let out = (0..rng.pick(&lengths)).map(|_| any_number(rng)).collect();
     let form = rng.pick(&[0, 0, 1, 1, 2, 256, usize::MAX]);
     let stream = rng.pick(&[film.stream, film.stream, 16, usize::MAX]);
@@ -154,7 +169,7 @@ pub fn case(seed: u64, number: u64) -> Case {
 /// Flags that are not 0 become any other number that is not; what stands behind a map or a format that
 /// is not there becomes any number, a sample one of 16 bits.
 fn oddities(rng: &mut Seeded, from: &mut [usize]) {
-    for at in [5, 8, 10, 11, 12, 13, 14] {
+    for at in [5, 8, 10, 11, 12, 13, 14, 17] {
         if from[at] != 0 && rng.one_in(2) {
             from[at] = any_number(rng).max(1);
         }
@@ -164,7 +179,7 @@ fn oddities(rng: &mut Seeded, from: &mut [usize]) {
     }
     if from[10] == 0 {
         from[11..15].fill_with(|| any_number(rng));
-        from[15..].fill_with(|| rng.pick(&[0, 1, 32_768, 65_535]));
+        from[15..17].fill_with(|| rng.pick(&[0, 1, 32_768, 65_535]));
     }
 }
 
@@ -228,7 +243,7 @@ impl fmt::Display for Reached {
     }
 }
 
-/// Compares the four calls of a case.
+/// Compares the five calls of a case.
 pub fn compare(
     first: &impl Boundary,
     second: &impl Boundary,
@@ -236,7 +251,7 @@ pub fn compare(
     reached: &mut Reached,
 ) -> Result<(), Difference> {
     let Case { film, stream, lent, form } = case;
-    let calls = ["open", "begin", "step", "shown"];
+    let calls = ["open", "begin", "step", "shown", "shown words"];
     for call in calls {
         let (mut one, mut other) = (lent.clone(), lent.clone());
         let returned = [
@@ -276,15 +291,21 @@ fn make(
         "open" => by.open(film, stream, &mut lent.out),
         "begin" => by.begin(film, stream, lent),
         "step" => by.step(film, lent, form),
-        _ => by.shown(lent),
+        "shown" => by.shown(lent),
+        _ => by.shown_words(lent),
     }
 }
 
 /// Notes what a call met.
 fn note(reached: &mut Reached, call: &str, found: &Lending, left: &Lending, returned: usize) {
     let Lending { from, out, .. } = found;
-    if call == "shown" {
-        let shown = if returned == 0 { "nothing shown" } else { "a picture shown" };
+    if call.starts_with("shown") {
+        let shown = match (call, returned) {
+            ("shown", 0) => "nothing shown",
+            ("shown", _) => "a picture shown",
+            (_, 0) => "no words shown",
+            _ => "a picture of words shown",
+        };
         return reached.count(shown.to_string());
     }
     if out.len() < STEPPED_NUMBERS {
@@ -296,8 +317,8 @@ fn note(reached: &mut Reached, call: &str, found: &Lending, left: &Lending, retu
     if call == "step" {
         let no_state = match from[..] {
             _ if from.len() != STATE_NUMBERS => Some(format!("{} numbers", from.len())),
-            [.., left, _] if left > 65_535 => Some("left too large".to_string()),
-            [.., right] if right > 65_535 => Some("right too large".to_string()),
+            [.., left, _, _] if left > 65_535 => Some("left too large".to_string()),
+            [.., right, _] if right > 65_535 => Some("right too large".to_string()),
             _ => None,
         };
         if let Some(what) = no_state {
@@ -310,6 +331,9 @@ fn note(reached: &mut Reached, call: &str, found: &Lending, left: &Lending, retu
             reached
                 .count(format!("step from odd numbers, {}", if moved { "moved" } else { "kept" }));
         }
+    }
+    if left.out[8..STEPPED_NUMBERS].last() != Some(&0) {
+        reached.count(format!("{call} with true colour, answered {}", left.out[0]));
     }
     match left.out[..2] {
         [4, number] => reached.count(format!("{call} refused by {number}")),

@@ -3,7 +3,7 @@
 //! whole where it is saved again.
 
 use crate::decoder::{Proved, Second};
-use maker::{film, film_damage, scratches, sound_damage, Seeded};
+use maker::{film, film_damage, scratches, sound_damage, true_colour, Seeded};
 use reference::salvage::{self, Stop};
 use reference::Refusal;
 
@@ -81,7 +81,7 @@ pub struct Question {
 /// The question of this number.
 pub fn question(number: u64) -> Question {
     let rng = &mut Seeded::new(number);
-    let film = match number % 8 {
+    let film = match number % 9 {
         0 => film::valid(rng).bytes(),
         1 => {
             let damage = rng.pick(&film_damage::Damage::ALL);
@@ -93,6 +93,11 @@ pub fn question(number: u64) -> Question {
             let (stream, damage) = (rng.below(16), rng.pick(&sound_damage::Damage::ALL));
             sound_damage::damaged(rng, stream, damage).bytes()
         }
+        5 if rng.one_in(2) => {
+            let damage = true_colour::Damage::any(rng);
+            true_colour::damaged(rng, damage)
+        }
+        5 => true_colour::scratched(rng),
         _ => scratches::make(rng).bytes(),
     };
     let rooms = match salvage::salvage(&film, usize::MAX, usize::MAX) {

@@ -5,7 +5,7 @@
 
 use crate::decoder::{Decoder, Proved, Second, Step};
 use maker::states::{Start, ENOUGH_ROOM};
-use maker::{film, film_damage, scratches, sound, sound_damage, strips, Seeded};
+use maker::{film, film_damage, scratches, sound, sound_damage, strips, true_colour, Seeded};
 use reference::film::open;
 use reference::frame::MAX_PIXELS;
 use reference::sound::STREAMS;
@@ -44,7 +44,7 @@ pub struct Question {
     pub stream: usize,
     /// Bytes of rooms. The first is exact where the film is taken.
     pub rooms: Vec<usize>,
-    /// Bytes of each picture and of the room for samples, and what fills them.
+    /// Pixels of each picture and bytes of the room for samples, and what fills them.
     pub lent: (usize, usize, u8),
 }
 
@@ -68,7 +68,7 @@ pub fn question(number: u64) -> Question {
 /// A film, and the streams that it has sound for.
 fn film_of(rng: &mut Seeded, number: u64) -> (Vec<u8>, Vec<usize>) {
     let stream = rng.below(STREAMS);
-    let film = match number % 12 {
+    let film = match number % 16 {
         0 => film::valid(rng).bytes(),
         1 => {
             let damage = rng.pick(&film_damage::Damage::ALL);
@@ -88,6 +88,16 @@ fn film_of(rng: &mut Seeded, number: u64) -> (Vec<u8>, Vec<usize>) {
         6 => strips::scratched(rng),
         7..=9 => {
             let film = strips::damaged(rng);
+            return (film.bytes(), film.streams);
+        }
+        12 | 14 => {
+            let film = true_colour::padded_damaged(rng);
+            return (film.bytes(), film.streams);
+        }
+        13 if rng.one_in(2) => true_colour::scratched_sound(rng, stream),
+        13 => true_colour::with_sound(rng, stream, 2).bytes(),
+        15 => {
+            let film = true_colour::padded(rng);
             return (film.bytes(), film.streams);
         }
         _ => {
@@ -110,8 +120,8 @@ pub struct Played {
 /// What a player sees and hears.
 #[derive(Clone, Debug, PartialEq, Eq)]
 pub enum Event {
-    /// A picture that is sent: columns and rows of blocks, pixels and palette.
-    Picture((usize, usize), Vec<u8>, Vec<u8>),
+    /// A picture that is sent: columns and rows of blocks, pixels as bytes or as words, and palette.
+    Picture((usize, usize), Vec<u8>, Vec<u16>, Vec<u8>),
     /// Samples of an opcode.
     Samples(Vec<u8>),
 }
@@ -127,7 +137,8 @@ pub fn play(player: &dyn Decoder, film: &[u8], question: &Question) -> Played {
     let (palette, picture) = (vec![filler; 768], vec![filler; pictures]);
     let (picture_a, picture_b, place) = (picture.clone(), picture, usize::from(filler));
     let (room, allowed) = (vec![filler; samples], 312_000);
-    let mut walk = Start { state, palette, picture_a, picture_b, place, room, allowed };
+    let words = [(); 3].map(|()| vec![u16::from(filler) * 257; pictures]);
+    let mut walk = Start { state, palette, picture_a, picture_b, place, room, words, allowed };
     loop {
         let front = walk.state.front;
         match player.step(CallForm::Default, film, &mut walk) {
@@ -139,10 +150,12 @@ pub fn play(player: &dyn Decoder, film: &[u8], question: &Question) -> Played {
             Ok(_) => (),
             Err(refusal) => return Played { events, refusal: Some(refusal) },
         }
-        let Start { state, palette, picture_a, picture_b, .. } = &walk;
+        let Start { state, palette, picture_a, picture_b, words, .. } = &walk;
         if state.front != front {
             let shown = player.shown(state, picture_a, picture_b).to_vec();
-            events.push(Event::Picture((state.columns, state.rows), shown, palette.clone()));
+            let words = player.shown_words(state, words.each_ref().map(Vec::as_slice)).to_vec();
+            let size = (state.columns, state.rows);
+            events.push(Event::Picture(size, shown, words, palette.clone()));
         }
     }
 }
@@ -236,6 +249,9 @@ pub fn reached(question: &Question, compared: &Compared) -> Vec<String> {
         let pictures = all.iter().any(is_picture);
         let samples = !all.iter().all(is_picture);
         events.extend(pictures.then(|| "pictures".into()));
+        let is_deep =
+            |event: &Event| matches!(event, Event::Picture(_, _, words, _) if !words.is_empty());
+        events.extend(all.iter().any(is_deep).then(|| "pictures with true colour".into()));
         events.extend(samples.then(|| "samples".into()));
         events.push(match question.stream {
             stream @ 0..STREAMS => format!("stream {stream}"),

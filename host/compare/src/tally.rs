@@ -3,12 +3,14 @@
 use crate::cases::Opening;
 use crate::decoder::{Answer, Begun, Checked, Step, Walked};
 use crate::forms::{left_over, packet_at};
+use crate::words;
 use maker::calls::Call;
 use maker::sound::Format;
 use maker::states::Start;
-use maker::{Form, Packet};
+use maker::word_calls::WordCall;
+use maker::{Form, Packet, WordForm};
 use reference::begin::Unbegun;
-use reference::film::{chunk_head, opcode_head, State, HEADER};
+use reference::film::{chunk_head, opcode, opcode_head, State, HEADER};
 use reference::sound::Sound;
 use reference::{CallForm, Drawn, Refusal, Rows};
 use std::collections::BTreeMap;
@@ -82,6 +84,55 @@ pub enum Event {
     /// A step writes samples of this format: of compressed sound, goes on from the last samples or
     /// not.
     Written(Format, bool),
+    /// A block of this form is in an accepted packet with true colour, or is finished by a drawing call or
+    /// a step.
+    WordForm(WordForm),
+    /// In this form, a packet with true colour is taken that leaves so many bytes over in its second part.
+    TakenWords(CallForm, usize),
+    /// In this form, one is refused by 15 that leaves so many bytes over in its first part and in its
+    /// second, 2 and 3 standing for more.
+    RefusedWords(CallForm, usize, usize),
+    /// A packet with true colour is refused by 20 for this.
+    Unparted(Unparted),
+    /// One is refused by 13 since its first part is short, or its second one.
+    ShortPart(u8),
+    /// A step at a film with true colour is refused by 5 for a body of 14 or 15 bytes, where a map is
+    /// pending or not.
+    ShortVideo(bool),
+    /// A step makes this picture of words the shown one.
+    TurnedTo(usize),
+    /// A step sends no frame of a film with true colour, since none is finished.
+    NotTurned,
+    /// A step at a film with true colour gives this kind of answer: taken, whole, unfinished, ended.
+    Deep(&'static str),
+    /// A step at a film with true colour is refused with this number.
+    DeepRefused(u8),
+    /// A picture of words is shown after a step.
+    ShownWords,
+}
+
+/// Why a packet with true colour has not its two parts.
+#[derive(Clone, Copy, Debug, PartialEq, Eq, PartialOrd, Ord)]
+pub enum Unparted {
+    /// It has fewer than two bytes.
+    Short,
+    /// The offset is below 2.
+    Below,
+    /// The offset is past its end.
+    Past,
+}
+
+impl Unparted {
+    /// Every kind.
+    pub const ALL: [Unparted; 3] = [Unparted::Short, Unparted::Below, Unparted::Past];
+
+    fn of(packet: &[u8]) -> Unparted {
+        match *packet {
+            [low, 0, ..] if low < 2 => Unparted::Below,
+            [_, _, ..] => Unparted::Past,
+            _ => Unparted::Short,
+        }
+    }
 }
 
 /// Which rows of a frame a packet touches.
@@ -176,6 +227,78 @@ impl Tally {
         }
     }
 
+    /// Counts a check of words.
+    pub(crate) fn checked_words(&mut self, form: CallForm, packet: &Packet, answer: Checked) {
+        self.words_told(form, Some(packet), answer.err());
+        match answer {
+            Err(refusal) => self.refused(refusal),
+            Ok(_) => {
+                self.note(Event::Accepted);
+                self.frame(packet);
+                self.word_forms(packet, 0..usize::MAX);
+            }
+        }
+    }
+
+    /// Counts a drawing call of words that led from one place to another.
+    pub(crate) fn called_words(
+        &mut self,
+        call: &WordCall,
+        new: usize,
+        places: Range<usize>,
+        answer: Answer,
+    ) {
+        self.calls += 1;
+        self.words_told(call.form, Some(&call.packet), answer.err());
+        match answer {
+            Err(refusal) => {
+                self.refused(refusal);
+                if places.start > 0 {
+                    self.note(Event::RefusedBetween);
+                }
+            }
+            Ok(drawn) => {
+                self.made(&call.packet, drawn);
+                self.allowed(call.stores_fed(), call.cut);
+                self.word_forms(&call.packet, places);
+                if new > call.packet.pixels() {
+                    self.note(Event::Longer);
+                }
+            }
+        }
+    }
+
+    /// What a packet with true colour is taken or refused for.
+    fn words_told(&mut self, form: CallForm, packet: Option<&Packet>, refused: Option<Refusal>) {
+        let Some(packet) = packet else { return };
+        let left = words::left_over(packet);
+        match (refused, left) {
+            (None, Some(left)) => self.note(Event::TakenWords(form, left.second)),
+            (Some(Refusal { number: 15, .. }), Some(left)) => {
+                self.note(Event::RefusedWords(form, left.first.min(2), left.second.min(3)));
+            }
+            (Some(Refusal { number: 20, .. }), _) => {
+                self.note(Event::Unparted(Unparted::of(&packet.data)));
+            }
+            (Some(Refusal { number: 13, block }), _) => {
+                let byte = packet.map[block / 2];
+                let code = if block % 2 == 0 { byte & 0x0F } else { byte >> 4 };
+                self.note(Event::ShortPart(if (2..=4).contains(&code) { 2 } else { 1 }));
+            }
+            _ => (),
+        }
+    }
+
+    /// The blocks of an accepted packet with true colour, or those that were finished.
+    fn word_forms(&mut self, packet: &Packet, places: Range<usize>) {
+        if places.is_empty() {
+            return;
+        }
+        for form in words::forms(packet).into_iter().take(places.end).skip(places.start) {
+            self.note(Event::WordForm(form));
+        }
+    }
+
     /// Counts a drawing call that led from one place to another.
     pub(crate) fn called(
         &mut self,
@@ -245,7 +368,7 @@ impl Tally {
         }
     }
 
-    /// Counts a step over a film; `shown` tells whether a picture is shown after it.
+    /// Counts a step over a film; `shown` tells whether a picture is shown after it, of bytes and of words.
     pub(crate) fn stepped(
         &mut self,
         form: CallForm,
@@ -253,10 +376,14 @@ impl Tally {
         found: &Start,
         left: &Start,
         answer: Walked,
-        shown: bool,
+        shown: (bool, bool),
     ) {
         self.steps += 1;
-        self.over(form, packet_at(film, &found.state).as_ref(), answer.err());
+        if found.state.true_colour {
+            self.deep(form, film, found, left, answer);
+        } else {
+            self.over(form, packet_at(film, &found.state).as_ref(), answer.err());
+        }
         match answer {
             Err(refusal) => self.refused(refusal),
             Ok(Step::Taken(stores, bytes)) => {
@@ -285,8 +412,40 @@ impl Tally {
         if found.palette != left.palette {
             self.note(Event::Coloured);
         }
-        if shown {
+        if shown.0 {
             self.note(Event::Shown);
+        }
+        if shown.1 {
+            self.note(Event::ShownWords);
+        }
+    }
+
+    /// What a step at a film with true colour reaches.
+    fn deep(&mut self, form: CallForm, film: &[u8], found: &Start, left: &Start, answer: Walked) {
+        let State { position, chunk_end, front, map, .. } = found.state;
+        let head = opcode_head(film, position, chunk_end);
+        let is_at = |kind| head.is_ok_and(|head| head.kind == kind);
+        self.note(match answer {
+            Ok(Step::Taken(..)) => Event::Deep("taken"),
+            Ok(Step::Whole(..)) => Event::Deep("whole"),
+            Ok(Step::Unfinished(..)) => Event::Deep("unfinished"),
+            Ok(Step::Ended) => Event::Deep("ended"),
+            Err(refusal) => Event::DeepRefused(refusal.number),
+        });
+        let drawn = matches!(answer, Ok(Step::Whole(..) | Step::Unfinished(..)));
+        if drawn || answer.is_err() && is_at(opcode::VIDEO) {
+            self.words_told(form, packet_at(film, &found.state).as_ref(), answer.err());
+        }
+        if answer.is_err_and(|refusal| refusal.number == 5) && is_at(opcode::VIDEO) {
+            let length = head.map_or(0, |head| head.body.length);
+            if length >= 14 {
+                self.note(Event::ShortVideo(map.is_some()));
+            }
+        }
+        if front != left.state.front {
+            self.note(Event::TurnedTo(left.state.front));
+        } else if answer.is_ok() && is_at(opcode::SEND) {
+            self.note(Event::NotTurned);
         }
     }
 
@@ -316,9 +475,13 @@ impl Tally {
 
     /// The blocks that a step over opcode 11 finished, and the rows that it told.
     fn video(&mut self, film: &[u8], found: &Start, place: usize, rows: Option<Rows>) {
-        if let Some(packet) = packet_at(film, &found.state) {
-            self.touched(&packet, found.place, rows);
-            self.forms(&packet, found.place..place);
+        match packet_at(film, &found.state) {
+            Some(packet) if found.state.true_colour => self.word_forms(&packet, found.place..place),
+            Some(packet) => {
+                self.touched(&packet, found.place, rows);
+                self.forms(&packet, found.place..place);
+            }
+            None => (),
         }
     }
 
@@ -352,23 +515,33 @@ impl Tally {
     }
 
     fn drawn(&mut self, call: &Call, places: Range<usize>, drawn: Drawn) {
+        self.made(&call.packet, drawn);
+        self.allowed(call.stores_fed(), call.cut);
+        if !places.is_empty() {
+            self.forms(&call.packet, places);
+        }
+    }
+
+    /// The stores that an accepted call made.
+    fn made(&mut self, packet: &Packet, drawn: Drawn) {
         self.stores += drawn.stores;
         match drawn {
             Drawn { whole: true, stores: 0, .. } => self.note(Event::WholeBefore),
             Drawn { whole: true, .. } => {
                 self.note(Event::Whole);
-                self.frame(&call.packet);
+                self.frame(packet);
             }
             Drawn { whole: false, .. } => self.note(Event::Unfinished),
         }
-        if call.stores_fed() == 0 {
+    }
+
+    /// What an accepted call was allowed.
+    fn allowed(&mut self, stores: usize, cut: Option<usize>) {
+        if stores == 0 {
             self.note(Event::NothingAllowed);
         }
-        if call.cut.is_some() {
+        if cut.is_some() {
             self.note(Event::Cut);
-        }
-        if !places.is_empty() {
-            self.forms(&call.packet, places);
         }
     }
 

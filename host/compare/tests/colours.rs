@@ -20,7 +20,8 @@ use std::collections::BTreeSet;
 fn compare(seed: u64, change: Change) -> (Vec<Store>, usize) {
     let (film, start) = at_change(&mut Seeded::new(seed), change);
     let pictures = [start.picture_a.clone(), start.picture_b.clone()];
-    let found = Memory { palette: start.palette.clone(), pictures, place: start.place };
+    let (palette, words) = (start.palette.clone(), start.words.clone());
+    let found = Memory { palette, pictures, words, place: start.place };
     let stores = listed(CallForm::Default, &film, &start.state, &found);
     let allowances = (0..stores.len() + 3).chain([312_000, usize::MAX]);
     let mut steps = 0;

@@ -56,8 +56,8 @@ impl Made<'_> {
 }
 
 fn memory(start: &Start) -> Memory {
-    let Start { palette, picture_a, picture_b, place, .. } = start.clone();
-    Memory { palette, pictures: [picture_a, picture_b], place }
+    let Start { palette, picture_a, picture_b, place, words, .. } = start.clone();
+    Memory { palette, pictures: [picture_a, picture_b], words, place }
 }
 
 /// The second decoder with a fault in its steps over opcodes.
@@ -386,6 +386,7 @@ fn an_opening_that_allows_768() {
                 picture_b,
                 place: 0,
                 room,
+                words: Default::default(),
                 allowed,
             };
             while walk.state.columns == 0 {

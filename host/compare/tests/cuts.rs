@@ -6,7 +6,7 @@
 use compare::{Comparison, CutFilm, Event, Proved, Second};
 use maker::film::Film;
 use maker::states::{self, Start};
-use maker::{colours, film, film_damage, sound, sound_damage, Seeded};
+use maker::{colours, film, film_damage, sound, sound_damage, true_colour, Seeded};
 use reference::CallForm;
 
 /// A film from its opening, in either form.
@@ -22,10 +22,13 @@ fn middle(rng: &mut Seeded, made: &Film) -> CutFilm {
     CutFilm { film: made.bytes(), form: CallForm::Default, start }
 }
 
-/// A small film, rich in palettes and maps.
+/// A small film, rich in palettes and maps, of either kind.
 fn small(rng: &mut Seeded) -> Film {
     let frames = rng.below(3);
-    colours::film(rng, frames)
+    match rng.below(3) {
+        0 => true_colour::with_colours(rng, frames),
+        _ => colours::film(rng, frames),
+    }
 }
 
 /// A film with these bytes, which may be damaged; none where it cannot be opened.
@@ -33,7 +36,8 @@ fn damaged(rng: &mut Seeded, film: Vec<u8>, stream: usize) -> Option<CutFilm> {
     let state = reference::film::open(&film, stream).ok()?;
     let [picture_a, picture_b] = [(); 2].map(|()| rng.bytes(reference::frame::MAX_PIXELS));
     let (palette, room) = (rng.bytes(768), vec![0; states::ENOUGH_ROOM]);
-    let start = Start { state, palette, picture_a, picture_b, place: 0, room, allowed: 0 };
+    let words = [(); 3].map(|()| rng.words(reference::frame::MAX_PIXELS));
+    let start = Start { state, palette, picture_a, picture_b, place: 0, room, words, allowed: 0 };
     Some(CutFilm { film, form: CallForm::Default, start })
 }
 
@@ -47,6 +51,11 @@ fn assert_short(comparison: &Comparison<Proved, Second>, often: usize) {
         assert!(times >= often, "opcode {kind:02X}: {times}");
     }
     assert!(tally.times(Event::NoneAllowed(0x0F)) >= often / 10);
+    for answer in ["taken", "whole", "unfinished"] {
+        let times = tally.times(Event::Deep(answer));
+        println!("with true colour, {answer}: {times} times");
+        assert!(times >= 20, "with true colour, {answer}: {times}");
+    }
 }
 
 #[test]
@@ -71,6 +80,7 @@ fn random_stores() {
         let made = match seed % 4 {
             0 => sound::with_frames(rng, stream, 2),
             1 => colours::film(rng, 4),
+            2 => true_colour::with_sound(rng, stream, 3),
             _ => film::with_frames(rng, 3),
         };
         let case = if seed % 8 < 6 { opened(rng, &made) } else { middle(rng, &made) };
@@ -90,6 +100,7 @@ fn whole_films() {
         let made = match seed % 4 {
             0 => sound::with_frames(rng, stream, 3),
             1 => colours::film(rng, 6),
+            2 => true_colour::with_colours(rng, 5),
             _ => film::with_frames(rng, 4),
         };
         let case = opened(rng, &made);
@@ -112,7 +123,9 @@ fn refused_films() {
         let rng = &mut Seeded::new(seed);
         let damage = rng.pick(&film_damage::Damage::ALL);
         let sounds = rng.pick(&sound_damage::Damage::ALL);
+        let deep = true_colour::Damage::any(rng);
         let films = [
+            (true_colour::damaged(rng, deep), 16),
             (film_damage::damaged(rng, damage), 16),
             (film_damage::scratched(rng), 16),
             (sound_damage::damaged(rng, 3, sounds).bytes(), 3),
@@ -125,7 +138,7 @@ fn refused_films() {
         }
     }
     let met = |number| comparison.tally().times(Event::Refused(number));
-    let numbers: Vec<u8> = (1..=19).filter(|&number| met(number) > 0).collect();
+    let numbers: Vec<u8> = (1..=20).filter(|&number| met(number) > 0).collect();
     println!("{refused} films, refused by {numbers:?}, {}", comparison.tally());
     assert!(refused >= 400 && numbers.len() >= 12, "{numbers:?}");
 }

@@ -96,6 +96,7 @@ fn frames(film: &[u8]) -> Vec<Frame> {
             picture_b: b,
             place: &mut place,
             room: &mut [],
+            words: Default::default(),
         };
         match reference::film::step(film, state, lent, mve::ALL_STORES) {
             Stepped::Taken(after, ..) => state = after,

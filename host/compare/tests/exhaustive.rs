@@ -177,6 +177,7 @@ fn lent(rng: &mut Seeded, film: &[u8], stream: usize) -> Start {
         picture_b: rng.bytes(64),
         place: 3,
         room: Vec::new(),
+        words: [(); 3].map(|()| rng.words(64)),
         allowed: 312_000,
     }
 }

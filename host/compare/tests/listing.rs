@@ -10,15 +10,16 @@ use std::process::{Command, Stdio};
 
 use maker::film::{self, Opcode};
 use maker::film_damage::{self, Damage};
-use maker::{sound, sound_damage, Seeded};
+use maker::{sound, sound_damage, true_colour, Seeded};
 use reference::listing;
 
 const SEED: u64 = 1;
 /// Films of each kind: valid, scratched, hostile, and each damage; and with sound, which is listed and
 /// passed over.
 const ROUNDS: usize = 30;
-/// The refusals that a film alone can meet: it lends nothing and starts at place 0.
-const NUMBERS: [usize; 13] = [1, 2, 3, 4, 5, 6, 7, 9, 10, 12, 13, 14, 15];
+/// The refusals that a film alone can meet: it lends nothing and starts at place 0. 8 is that of films with
+/// true colour, since no pictures of words are lent to them (02, W7).
+const NUMBERS: [usize; 14] = [1, 2, 3, 4, 5, 6, 7, 8, 9, 10, 12, 13, 14, 15];
 
 fn program() -> PathBuf {
     let folder = match env::var_os("MVE_BIN_DIR") {
@@ -71,6 +72,8 @@ fn films() -> Vec<Vec<u8>> {
         films.push(film_damage::scratched(rng));
         films.push(film::hostile(rng));
         films.extend(Damage::ALL.map(|damage| film_damage::damaged(rng, damage)));
+        films.push(true_colour::valid(rng).bytes());
+        films.push(true_colour::scratched(rng));
         let stream = rng.below(16);
         films.push(sound::valid(rng, stream).bytes());
         let damage = rng.pick(&sound_damage::Damage::ALL);

@@ -20,9 +20,9 @@ fn numbers() {
     println!("{reached}");
     let kinds =
         ["answered 0", "answered 1", "answered 2", "answered 3"].map(|kind| format!("step {kind}"));
-    let refusals = [2, 3, 4, 5, 8, 11, 13, 14, 15, 16, 17, 18, 19]
+    let refusals = [2, 3, 4, 5, 8, 11, 13, 14, 15, 16, 17, 18, 19, 20]
         .map(|number| format!("step refused by {number}"));
-    let counts = [0, 1, 16, 18, 25, 40].map(|count| format!("step from {count} numbers"));
+    let counts = [0, 1, 17, 19, 26, 40].map(|count| format!("step from {count} numbers"));
     let calls = ["open", "begin", "step"];
     let answers = calls
         .iter()
@@ -39,6 +39,14 @@ fn numbers() {
         "begin refused by 8",
         "nothing shown",
         "a picture shown",
+        "no words shown",
+        "a picture of words shown",
+        "begin with true colour, answered 0",
+        "step with true colour, answered 0",
+        "step with true colour, answered 1",
+        "step with true colour, answered 2",
+        "step with true colour, answered 3",
+        "step with true colour, answered 4",
     ];
     let others = others.map(str::to_string);
     let all = kinds.into_iter().chain(refusals).chain(counts).chain(answers).chain(others);
@@ -83,6 +91,10 @@ impl<F: Fn(Made<'_>)> Boundary for Faulty<F> {
     fn shown(&self, lent: &mut Lending) -> usize {
         Second.shown(lent)
     }
+
+    fn shown_words(&self, lent: &mut Lending) -> usize {
+        Second.shown_words(lent)
+    }
 }
 
 /// The first difference that a fault makes.
@@ -122,13 +134,13 @@ fn no_fault() {
 fn faults_in_the_answer() {
     // A number too far.
     assert_found("out", |made| {
-        if let Some(number) = made.left.out.get_mut(25) {
+        if let Some(number) = made.left.out.get_mut(26) {
             *number ^= 1;
         }
     });
     // An answer that is written as far as there is room.
     assert_found("out", |made| {
-        if (1..25).contains(&made.left.out.len()) {
+        if (1..26).contains(&made.left.out.len()) {
             made.left.out[0] = 4;
         }
     });
@@ -140,25 +152,25 @@ fn faults_in_the_answer() {
     });
     // A state of zeros, where the one that went in comes back; and the other way round.
     assert_found("out", |made| {
-        if made.left.out.len() >= 25 && made.left.out[1] == 8 {
-            made.left.out[8..25].fill(0);
+        if made.left.out.len() >= 26 && made.left.out[1] == 8 {
+            made.left.out[8..26].fill(0);
         }
     });
     assert_found("out", |made| {
-        if made.left.out.len() >= 25 && made.found.from.len() == 18 {
-            made.left.out[8..25].copy_from_slice(&made.found.from[..17]);
+        if made.left.out.len() >= 26 && made.found.from.len() == 19 {
+            made.left.out[8..26].copy_from_slice(&made.found.from[..18]);
         }
     });
     // Flags that are set become 1 also where the state stays.
     assert_found("out", |made| {
-        if made.left.out.len() >= 25 && matches!(made.left.out[0], 2..=4) {
-            let flags = [13, 16, 18, 19, 20, 21, 22];
+        if made.left.out.len() >= 26 && matches!(made.left.out[0], 2..=4) {
+            let flags = [13, 16, 18, 19, 20, 21, 22, 25];
             flags.iter().for_each(|&at| made.left.out[at] = made.left.out[at].min(1));
         }
     });
     // A flag of any number stays where the state moves.
     assert_found("out", |made| {
-        if made.left.out.len() >= 25 && made.left.out[0] == 0 && made.left.out[13] == 1 {
+        if made.left.out.len() >= 26 && made.left.out[0] == 0 && made.left.out[13] == 1 {
             made.left.out[13] = made.found.from[5];
         }
     });
@@ -169,8 +181,8 @@ fn faults_in_what_is_taken() {
     // Last samples of which only 16 bits are read.
     assert_taken(|made| {
         let mut cut = made.found.clone();
-        cut.from.iter_mut().skip(15).for_each(|number| *number %= 65_536);
-        if cut.from.len() == 17 && cut != *made.found {
+        cut.from.iter_mut().skip(15).take(2).for_each(|number| *number %= 65_536);
+        if cut.from.len() == 18 && cut != *made.found {
             *made.returned = Second.step(made.film, &mut cut, made.form);
             *made.left = Lending { from: made.found.from.clone(), ..cut };
         }
@@ -178,8 +190,8 @@ fn faults_in_what_is_taken() {
     // More numbers than a state has, of which the first are taken.
     assert_taken(|made| {
         let mut cut = made.found.clone();
-        cut.from.truncate(17);
-        if made.found.from.len() > 17 {
+        cut.from.truncate(18);
+        if made.found.from.len() > 18 {
             *made.returned = Second.step(made.film, &mut cut, made.form);
             *made.left = Lending { from: made.found.from.clone(), ..cut };
         }
@@ -193,6 +205,41 @@ fn faults_in_what_is_taken() {
     });
 }
 
+/// The last number says whether a film has true colour.
+#[test]
+fn faults_in_the_kind() {
+    let step_as = |made: Made<'_>, change: fn(&mut usize)| {
+        let mut other = made.found.clone();
+        other.from.get_mut(17).into_iter().for_each(change);
+        *made.returned = Second.step(made.film, &mut other, made.form);
+        *made.left = Lending { from: made.found.from.clone(), ..other };
+    };
+    // Only 1 says so.
+    assert_taken(|made| {
+        if made.found.from.get(17).is_some_and(|&number| number > 1) {
+            step_as(made, |number| *number = 0);
+        }
+    });
+    // Only the lowest bit is read.
+    assert_taken(|made| {
+        if made.found.from.get(17).is_some_and(|&number| number > 1 && number % 2 == 0) {
+            step_as(made, |number| *number = 0);
+        }
+    });
+    // It is not written.
+    assert_found("out", |made| {
+        if let Some(number) = made.left.out.get_mut(25).filter(|number| **number == 1) {
+            *number = 0;
+        }
+    });
+    // A word of a picture that is not drawn on.
+    assert_found("lent", |made| {
+        if *made.returned == 1 {
+            made.left.start.words[0].iter_mut().take(1).for_each(|word| *word ^= 0x8000);
+        }
+    });
+}
+
 #[test]
 fn faults_in_what_is_lent() {
     assert_found("from", |made| {
@@ -202,12 +249,12 @@ fn faults_in_what_is_lent() {
     });
     // A place that is set although the answer has no room.
     assert_found("lent", |made| {
-        if made.left.out.len() < 25 {
+        if made.left.out.len() < 26 {
             made.left.start.place = 0;
         }
     });
     assert_found("lent", |made| {
-        if made.left.from.len() != 17 {
+        if made.left.from.len() != 18 {
             made.left.start.palette.fill(0);
         }
     });

@@ -1,9 +1,9 @@
 //! The wrapper's loop over a film gives the second decoder's pictures, samples and refusal, also where
 //! each step is allowed few stores, and where it goes on from a saved state.
 
-use maker::{film, sound, sound_damage, Seeded};
-use mve::{Error, Event, Memory, Player, Refusal};
-use mve::{NO_STREAM, PALETTE_BYTES, PICTURE_BYTES, ROOM_BYTES};
+use maker::{film, sound, sound_damage, true_colour, Seeded};
+use mve::{Error, Event, Memory, Pictures, Player, Refusal};
+use mve::{NO_STREAM, PALETTE_BYTES, PICTURE_BYTES, PICTURE_WORDS, ROOM_BYTES};
 use reference::film::HEADER;
 use reference::{begin, pictures};
 
@@ -19,11 +19,15 @@ struct Given {
 
 /// The colours of a picture as the second decoder's PPM files have them, in 8 bits.
 fn colours(picture: &mve::Picture<'_>) -> Vec<u8> {
-    assert_eq!(picture.pixels.len(), 64 * picture.columns * picture.rows);
+    let pixels = 64 * picture.columns * picture.rows;
+    assert!([(pixels, 0), (0, pixels)].contains(&(picture.pixels.len(), picture.words.len())));
     let entries =
         picture.pixels.iter().map(|&pixel| &picture.palette[3 * usize::from(pixel)..][..3]);
-    let colours: Vec<u8> =
-        entries.flatten().map(|&component| component * 4 + component / 16).collect();
+    let entries = entries.flatten().map(|&component| component * 4 + component / 16);
+    // Red in bits 10 to 14, green in 5 to 9, blue in 0 to 4.
+    let words = picture.words.iter().flat_map(|&word| [word / 1024, word / 32, word]);
+    let words = words.map(|component| (component % 32) as u8).map(|c| c * 8 + c / 4);
+    let colours: Vec<u8> = entries.chain(words).collect();
     assert!(picture.rgb().flatten().eq(colours.iter().copied()));
     colours
 }
@@ -60,12 +64,12 @@ fn play(film: &[u8], stream: usize, allowed: usize, steps: usize) -> Given {
     let mut given = Given::default();
     let (mut palette, mut room, mut place) = (vec![0; PALETTE_BYTES], vec![0; ROOM_BYTES], 0);
     let (mut a, mut b) = (vec![0; PICTURE_BYTES], vec![0; PICTURE_BYTES]);
+    let [mut c, mut d, mut e] = [(); 3].map(|()| vec![0; PICTURE_WORDS]);
     let mut saved = None;
     for number in 1.. {
         let memory = Memory {
             palette: &mut palette,
-            a: &mut a,
-            b: &mut b,
+            pictures: Pictures { a: &mut a, b: &mut b, c: &mut c, d: &mut d, e: &mut e },
             place: &mut place,
             room: &mut room,
         };
@@ -113,7 +117,10 @@ fn films() {
     for seed in 0..60 {
         let rng = &mut Seeded::new(seed);
         let stream = rng.below(16);
-        let film = sound::with_frames(rng, stream, 3).bytes();
+        let film = match seed % 3 {
+            0 => true_colour::with_sound(rng, stream, 3).bytes(),
+            _ => sound::with_frames(rng, stream, 3).bytes(),
+        };
         for (allowed, steps) in [(mve::ALL_STORES, usize::MAX), (mve::BLOCK_STORES, 7), (1000, 1)] {
             for stream in [stream, NO_STREAM] {
                 let given = assert_given(&film, stream, allowed, steps);
@@ -135,7 +142,14 @@ fn refused_films() {
     let (mut refused, mut silent, mut unsized_films) = (0, 0, 0);
     for seed in 0..60 {
         let rng = &mut Seeded::new(seed);
-        let any = [film::hostile(rng), sound::scratched(rng, 0), sound::hostile(rng)];
+        let damage = true_colour::Damage::any(rng);
+        let any = [
+            film::hostile(rng),
+            sound::scratched(rng, 0),
+            sound::hostile(rng),
+            true_colour::damaged(rng, damage),
+            true_colour::scratched_sound(rng, 0),
+        ];
         let damaged =
             sound_damage::Damage::ALL.map(|damage| sound_damage::damaged(rng, 0, damage).bytes());
         for film in any.into_iter().chain(damaged).chain([Vec::new(), HEADER.to_vec()]) {

@@ -13,7 +13,7 @@ fn ends_with_the_counts() {
     let text = String::from_utf8(output.stdout).expect("text");
     let last = text.lines().last().expect("a line");
     assert!(output.status.success(), "{text}");
-    assert!(last.starts_with("seed 7: 120 packets, "), "{text}");
+    assert!(last.starts_with("seed 7: 240 packets, "), "{text}");
     assert!(last.ends_with(" sounds: no difference") && !last.contains(" 0 sounds"), "{text}");
 }
 
@@ -28,6 +28,10 @@ fn runs_one_kind() {
     let output = run(&["7", "60", "lists"]);
     let text = String::from_utf8(output.stdout).expect("text");
     assert!(text.starts_with("seed 7: 60 packets, ") && !text.contains(" 0 calls"), "{text}");
+    // Each case has a packet that is checked, and one that is drawn.
+    let output = run(&["7", "60", "words"]);
+    let text = String::from_utf8(output.stdout).expect("text");
+    assert!(text.starts_with("seed 7: 120 packets, ") && !text.contains(" 0 calls"), "{text}");
     let output = run(&["7", "60", "films"]);
     let text = String::from_utf8(output.stdout).expect("text");
     assert!(text.starts_with("seed 7: 0 packets, 0 calls, 60 films, "), "{text}");

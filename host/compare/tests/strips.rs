@@ -7,7 +7,7 @@ use maker::{strips, Seeded};
 use reference::strip::strip;
 use std::collections::BTreeMap;
 
-const QUESTIONS: u64 = 6_000;
+const QUESTIONS: u64 = 8_000;
 /// How often each thing must be reached at least.
 const OFTEN: usize = 20;
 
@@ -26,11 +26,11 @@ fn every_answer_is_reached() {
     println!("{times:#?}");
     let named = |names: &[&str]| names.iter().map(ToString::to_string).collect::<Vec<_>>();
     let refused = [1, 2, 3, 4, 5, 19].map(|number| format!("refused {number}"));
-    let ends = [6, 7, 8, 9, 10, 12, 13, 14, 15, 17, 18, 19];
+    let ends = [5, 6, 7, 8, 9, 10, 12, 13, 14, 15, 17, 18, 19, 20];
     let ends = ends.map(|number| format!("played to refusal {number}"));
     let streams = (0..16).map(|stream| format!("stream {stream}"));
     let others = named(&["written: the same", "written: shorter", "played to the end"]);
-    let heard = named(&["pictures", "samples", "no stream"]);
+    let heard = named(&["pictures", "pictures with true colour", "samples", "no stream"]);
     let wanted: Vec<String> =
         refused.into_iter().chain(ends).chain(streams).chain(others).chain(heard).collect();
     for event in &wanted {

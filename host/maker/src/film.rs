@@ -92,6 +92,15 @@ impl Film {
         let chunks = self.chunks.iter().flat_map(Chunk::bytes);
         HEADER.iter().copied().chain(chunks).chain(self.tail.iter().copied()).collect()
     }
+
+    /// Whether its opcode 05 says that it has true colour.
+    pub fn is_true_colour(&self) -> bool {
+        let opcodes = || self.chunks.iter().flat_map(|chunk| &chunk.opcodes);
+        let size = opcodes().find(|opcode| opcode.kind == 0x05);
+        size.is_some_and(|size| {
+            size.version == 2 && size.body.get(6..8).is_some_and(|w| w != [0, 0])
+        })
+    }
 }
 
 /// The length word of a head.

@@ -168,11 +168,7 @@ impl Form {
                 let inside = one_byte_vectors(self.code(), |v| reach.has(v));
                 vec![*inside.get(rng.below(inside.len().max(1)))?]
             }
-            Form::FrontFar => {
-                let dx = near_an_end(rng, reach.left.max(-128), reach.right.min(127));
-                let dy = near_an_end(rng, reach.up.max(-128), reach.down.min(127));
-                vec![dx as u8, dy as u8]
-            }
+            Form::FrontFar => far_vector(rng, &reach),
             _ => self.pieces().iter().flat_map(|&piece| bytes_of(rng, piece)).collect(),
         };
         Some(Block { code: self.code(), data })
@@ -275,6 +271,25 @@ fn one_byte_vector(code: u8, byte: u8) -> (isize, isize) {
         3 => (-ahead.0, -ahead.1),
         _ => (b % 16 - 8, b / 16 - 8),
     }
+}
+
+/// The two bytes of a vector that stays inside the frame, as code 5 has them.
+pub(crate) fn far_vector(rng: &mut Seeded, reach: &Reach) -> Vec<u8> {
+    let dx = near_an_end(rng, reach.left.max(-128), reach.right.min(127));
+    let dy = near_an_end(rng, reach.up.max(-128), reach.down.min(127));
+    vec![dx as u8, dy as u8]
+}
+
+/// A block of the frame's rim: from it one edge is always in reach of a copy.
+pub(crate) fn rim_block(rng: &mut Seeded, size: Size) -> usize {
+    let Size { columns, rows } = size;
+    let (column, row) = match rng.below(4) {
+        0 => (0, rng.below(rows)),
+        1 => (columns - 1, rng.below(rows)),
+        2 => (rng.below(columns), 0),
+        _ => (rng.below(columns), rows - 1),
+    };
+    row * columns + column
 }
 
 /// A number from `low` to `high`, often one of the two: copies that just touch an edge.

@@ -1,5 +1,5 @@
-//! Seeded makers of test inputs: packets, films with and without sound, film states, lists of
-//! drawing calls, pictures to be encoded, and frames of Microsoft Video 1; valid, damaged and hostile. The
+//! Seeded makers of test inputs: packets, films with and without sound, with 8-bit pictures or true colour,
+//! film states, lists of drawing calls, pictures to be encoded, and frames of Microsoft Video 1; valid, damaged and hostile. The
 //! same seed gives the same bytes for ever, on every machine.
 //!
 //! [`demo`] is the one film that is made for viewing; [`files`] has its pictures and its sound as files.
@@ -31,9 +31,14 @@ pub mod sound_damage;
 pub mod states;
 pub mod strips;
 pub mod trailers;
+pub mod true_colour;
 pub mod wanted;
+pub mod word_calls;
+pub mod word_damage;
+pub mod words;
 
 pub use form::Form;
 pub use packet::{Packet, Profile};
 pub use seeded::Seeded;
 pub use size::Size;
+pub use words::{WordDraft, WordForm, WordProfile};

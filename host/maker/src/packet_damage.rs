@@ -99,7 +99,7 @@ pub fn damaged(rng: &mut Seeded, draft: &Draft, damage: Damage) -> Packet {
 }
 
 /// Turns one to three bits of some bytes.
-fn flip(rng: &mut Seeded, bytes: &mut [u8]) {
+pub(crate) fn flip(rng: &mut Seeded, bytes: &mut [u8]) {
     if bytes.is_empty() {
         return;
     }
@@ -116,16 +116,9 @@ fn with_block(rng: &mut Seeded, draft: &Draft, change: impl Fn(&mut Seeded, &mut
     changed.packet()
 }
 
-/// A block of the frame's rim is copied from outside. From the rim one edge is always in reach.
+/// A block of the frame's rim is copied from outside.
 fn with_outside_copy(rng: &mut Seeded, draft: &Draft) -> Packet {
-    let (columns, rows) = (draft.size.columns, draft.size.rows);
-    let (column, row) = match rng.below(4) {
-        0 => (0, rng.below(rows)),
-        1 => (columns - 1, rng.below(rows)),
-        2 => (rng.below(columns), 0),
-        _ => (rng.below(columns), rows - 1),
-    };
-    let number = row * columns + column;
+    let number = form::rim_block(rng, draft.size);
     let mut changed = draft.clone();
     if let Some(block) = form::outside_copy(rng, draft.size, number) {
         changed.blocks[number] = block;

@@ -48,6 +48,11 @@ impl Seeded {
     pub fn bytes(&mut self, length: usize) -> Vec<u8> {
         (0..length).map(|_| self.byte()).collect()
     }
+
+    /// So many words of any 16 bits.
+    pub fn words(&mut self, length: usize) -> Vec<u16> {
+        (0..length).map(|_| self.number() as u16).collect()
+    }
 }
 
 #[cfg(test)]

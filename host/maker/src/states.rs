@@ -26,15 +26,18 @@ pub struct Start {
     pub place: usize,
     /// The lent room.
     pub room: Vec<u8>,
+    /// The three lent pictures of words.
+    pub words: [Vec<u16>; 3],
     /// Stores allowed.
     pub allowed: usize,
 }
 
 /// The start of a film: the opening state, random pictures, sometimes longer than the frame, a
-/// random palette, and for a film with sound room enough.
+/// random palette, and for a film with sound room enough. Pictures of the other kind are of any length.
 pub fn opening(rng: &mut Seeded, film: &Film) -> Start {
     let spare = rng.pick(&[0, 0, 1, 77]);
     let room = if film.stream < STREAMS { ENOUGH_ROOM } else { 0 };
+    let words = lent_words(&mut rng.clone(), film, spare);
     Start {
         state: film::open(&film.bytes(), film.stream).expect("a valid film opens"),
         palette: rng.bytes(768),
@@ -42,8 +45,18 @@ pub fn opening(rng: &mut Seeded, film: &Film) -> Start {
         picture_b: rng.bytes(film.size.pixels() + spare),
         place: 0,
         room: vec![0; room],
+        words,
         allowed: 312_000,
     }
+}
+
+/// Three pictures of words: of a film with true colour long enough, of another one seldom so.
+fn lent_words(rng: &mut Seeded, film: &Film, spare: usize) -> [Vec<u16>; 3] {
+    let fit = film.is_true_colour() || rng.one_in(4);
+    [(); 3].map(|()| {
+        let length = if fit { film.size.pixels() + spare } else { rng.below(70) };
+        rng.words(length)
+    })
 }
 
 /// A valid film's state after a random number of steps, with what is lent as those steps left it.
@@ -94,7 +107,7 @@ pub fn hostile(rng: &mut Seeded, film: &Film) -> Start {
             hostile_sound(rng, &mut state.sound);
             continue;
         }
-        match rng.below(10) {
+        match rng.below(if film.is_true_colour() { 14 } else { 11 }) {
             0 => state.position = hostile_number(rng, state.position, length),
             1 => state.chunk_end = hostile_number(rng, state.chunk_end, length),
             2 => {
@@ -107,11 +120,25 @@ pub fn hostile(rng: &mut Seeded, film: &Film) -> Start {
             5 => state.map = hostile_map(rng, length),
             6 => state.unsent = !state.unsent,
             7 | 8 => start.place = hostile_place(rng, film.size.blocks()),
-            _ => hostile_lengths(rng, &mut start, film.size.pixels()),
+            9 => hostile_lengths(rng, &mut start, film.size.pixels()),
+            _ => hostile_kind(rng, &mut start, film.size.pixels()),
         }
     }
     lend_room(rng, film, &mut start);
     start
+}
+
+/// The state says the other kind of film; front is one of three, or none; or a picture of words is short.
+fn hostile_kind(rng: &mut Seeded, start: &mut Start, pixels: usize) {
+    match rng.below(4) {
+        0 => start.state.true_colour ^= true,
+        1 => start.state.front = rng.pick(&[0, 1, 2, 2, 3]),
+        2 => start.words[rng.below(3)].truncate(pixels - 1),
+        _ => {
+            start.state.true_colour = true;
+            start.words = [(); 3].map(|()| rng.words(pixels));
+        }
+    }
 }
 
 /// A film's bytes with some of those changed that the next step reads: behind the position, or in
@@ -145,6 +172,7 @@ impl Start {
             picture_b: &mut self.picture_b,
             place: &mut self.place,
             room: &mut self.room,
+            words: self.words.each_mut().map(Vec::as_mut_slice),
         };
         film::step_as(form, film, self.state, lent, self.allowed)
     }

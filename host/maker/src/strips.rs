@@ -111,7 +111,12 @@ pub fn make(rng: &mut Seeded) -> Padded {
 /// Such a film with one damage inside an opcode, which the tests of 2 to 5 do not find: where it is played,
 /// it is usually refused. What is left of it is known still.
 pub fn damaged(rng: &mut Seeded) -> Padded {
-    let mut film = make(rng);
+    let film = make(rng);
+    with_damage(rng, film)
+}
+
+/// A film with such a damage.
+pub(crate) fn with_damage(rng: &mut Seeded, mut film: Padded) -> Padded {
     let damage = rng.pick(&Damage::ALL);
     let is_fit = |opcode: &Opcode| damage.kinds().contains(&opcode.kind) && damage.is_fit(opcode);
     let places: Vec<(usize, usize)> = film
@@ -139,7 +144,7 @@ enum Damage {
     MapLength,
     /// A block has code 6, or another one than it was: 12 to 15.
     Code,
-    /// A packet is shorter: 13.
+    /// A packet is shorter: 13, with true colour also 5 and 20.
     Short,
     /// A packet is longer: 15.
     Long,
@@ -198,7 +203,11 @@ impl Damage {
             Damage::Size => body[0] = rng.pick(&[0, 81, 255]),
             Damage::MapLength | Damage::Sound => body.push(rng.byte()),
             Damage::Code => body[rng.below(length)] = rng.pick(&[0x66, 0x11, 0x22, 0x33, 0xBB]),
-            Damage::Short => body.truncate(rng.between(VIDEO_FRONT, length - 1)),
+            Damage::Short => {
+                // With true colour 14 and 15 bytes are too few for the opcode, and more for its packet.
+                let most = if rng.one_in(3) { VIDEO_FRONT + 1 } else { length - 1 };
+                body.truncate(rng.between(VIDEO_FRONT, most.min(length - 1)));
+            }
             Damage::Long => body.extend(rng.bytes(2)),
             Damage::Content => body[rng.between(VIDEO_FRONT, length - 1)] = rng.byte(),
             Damage::Colour => body[rng.between(PALETTE_FRONT, length - 1)] |= 0x40,

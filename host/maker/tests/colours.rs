@@ -12,8 +12,8 @@ use reference::{palette, CallForm};
 use std::collections::{BTreeMap, BTreeSet};
 
 fn stores(film: &[u8], start: &Start) -> Vec<Store> {
-    let Start { state, palette, picture_a, picture_b, place, .. } = start.clone();
-    let memory = Memory { palette, pictures: [picture_a, picture_b], place };
+    let Start { state, palette, picture_a, picture_b, place, words, .. } = start.clone();
+    let memory = Memory { palette, pictures: [picture_a, picture_b], words, place };
     listed(CallForm::Default, film, &state, &memory)
 }
 

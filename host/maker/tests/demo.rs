@@ -25,6 +25,7 @@ fn pictures_and_samples() {
             picture_b: &mut b,
             place: &mut place,
             room: &mut room,
+            words: Default::default(),
         };
         match step(&film, state, lent, 312_000) {
             Stepped::Taken(next, _, bytes) => {

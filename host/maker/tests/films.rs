@@ -52,6 +52,7 @@ fn lend(pixels: usize, state: State) -> Start {
         picture_b: vec![0; pixels],
         place: 0,
         room: Vec::new(),
+        words: Default::default(),
         allowed: 312_000,
     }
 }
@@ -162,7 +163,7 @@ fn damage_made_for_a_number() {
         (Damage::Version, 4),
         (Damage::BodyLength, 5),
         (Damage::FrameSize, 6),
-        (Damage::TrueColour, 6),
+        (Damage::TrueColour, 8), // no pictures of words are lent here
         (Damage::SecondSize, 6),
         (Damage::PaletteRange, 7),
         (Damage::Component, 7),
@@ -193,7 +194,7 @@ fn damaged_films() {
             }
         }
     }
-    counts.assert_often([1, 2, 3, 4, 5, 6, 7, 9, 10, 12, 13, 14, 15]);
+    counts.assert_often([1, 2, 3, 4, 5, 6, 7, 8, 9, 10, 12, 13, 14, 15]);
 
     let mut counts = Counts::default();
     for seed in 0..1000 {
@@ -251,7 +252,13 @@ fn assert_only_due_changes(before: &Start, after: &Start, stepped: &Stepped) {
         Stepped::Taken(_, stores, _) => {
             assert!(*stores <= before.allowed);
             assert!(before.picture_a == after.picture_a && before.picture_b == after.picture_b);
+            assert!(before.words == after.words);
         }
+    }
+    if before.state.true_colour {
+        assert!(before.picture_a == after.picture_a && before.picture_b == after.picture_b);
+    } else {
+        assert!(before.words == after.words, "{stepped:?}: a picture of words changed");
     }
     let shown_before = shown(&before.state, &before.picture_a, &before.picture_b);
     let shown_after = shown(&before.state, &after.picture_a, &after.picture_b);

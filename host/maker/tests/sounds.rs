@@ -75,6 +75,7 @@ fn run(
         picture_b: picture,
         place: 0,
         room: vec![0; ENOUGH_ROOM],
+        words: Default::default(),
         allowed: 312_000,
     };
     loop {
@@ -230,9 +231,9 @@ fn damage_made_for_a_number() {
                 let bytes = vec![0; MAX_PIXELS];
                 let (palette, room) = (vec![0; 768], Vec::new());
                 let (picture_a, picture_b) = (bytes.clone(), bytes);
-                let (place, allowed) = (0, 0);
+                let (place, words, allowed) = (0, Default::default(), 0);
                 let mut start =
-                    Start { state, palette, picture_a, picture_b, place, room, allowed };
+                    Start { state, palette, picture_a, picture_b, place, room, words, allowed };
                 let refused = Stepped::Refused(Refusal::new(damage.number()));
                 assert_eq!(start.step(&film), refused, "{damage:?}, seed {seed}");
             }

@@ -170,7 +170,7 @@ mod tests {
             read(refused(13, 0), NONE),
             Some(Err(Refusal { error: Error::DataShort, block: 2 }))
         );
-        for (number, stores) in [(0, 0), (20, 0), (256 + 13, 0), (13, 1)] {
+        for (number, stores) in [(0, 0), (27, 0), (256 + 13, 0), (13, 1)] {
             assert_eq!(read(refused(number, stores), NONE), None, "{number} after {stores} stores");
         }
     }
@@ -209,6 +209,7 @@ mod tests {
         chunk_end: 2,
         columns: 3,
         rows: 4,
+        true_colour: true,
         front: 5,
         map: Some((6, 7)),
         unsent: true,

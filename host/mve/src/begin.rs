@@ -34,7 +34,8 @@ impl core::error::Error for Unbegun {}
 /// Opens a film for a stream of its sound and steps until a size appears: the state just after opcode
 /// 0x05. The palette and the place are as the steps up to there leave them.
 ///
-/// Then lend pictures of 64 bytes a block, and go on with [`step`](crate::step) and this palette and
+/// Then lend [`Pictures`](crate::Pictures) of the film's kind, which [`State::true_colour`] tells: two of 64
+/// bytes a block, or three of 64 words a block. Go on with [`step`](crate::step) and this palette and
 /// place. Sound before the size is decoded for the state and its samples are dropped, so 19 is not
 /// met. Whoever wants those samples, or reads opcodes 0x02 ([`timer`](crate::timer())) and 0x03 for timing and
 /// rate, uses [`open`](crate::open) and [`step`](crate::step).
@@ -50,7 +51,7 @@ impl core::error::Error for Unbegun {}
 /// A film with a palette entry, then the size, then a frame of one block.
 ///
 /// ```
-/// use mve::{begin, shown, step, Form, Step, NO_STREAM};
+/// use mve::{begin, shown, step, Form, Pictures, Step, NO_STREAM};
 ///
 /// let film = [
 ///     &b"Interplay MVE File\x1A\0\x1A\0\0\x01\x33\x11"[..],
@@ -69,8 +70,8 @@ impl core::error::Error for Unbegun {}
 /// let bytes = 64 * state.columns * state.rows;
 /// let (mut a, mut b) = (vec![0; bytes], vec![0; bytes]);
 /// loop {
-///     let (a, b, place, form) = (&mut a, &mut b, &mut place, Form::Default);
-///     match step(&film, state, &mut palette, a, b, place, &mut [], 312_000, form)? {
+///     let (pictures, form) = (&mut Pictures::bytes(&mut a, &mut b), Form::Default);
+///     match step(&film, state, &mut palette, pictures, &mut place, &mut [], 312_000, form)? {
 ///         Step::Ended { .. } => break,
 ///         next => state = next.state(),
 ///     }

@@ -108,7 +108,7 @@ mod tests {
         assert_eq!(of(0, 1, 15), Some(Ok(Encoded { map_length: 1, body_length: 15 })));
         let refusal = Refusal { error: Error::PacketLength, block: 0 };
         assert_eq!(of(23, 0, 0), Some(Err(refusal)));
-        for wrong in [of(20, 0, 0), of(23, 1, 0), of(19, 0, 15)] {
+        for wrong in [of(27, 0, 0), of(23, 1, 0), of(19, 0, 15)] {
             assert_eq!(wrong, None);
         }
     }

@@ -13,6 +13,7 @@ use crate::form::Form;
 use crate::origin::Numbers as Found;
 use crate::salvage::Numbers as Saved;
 use crate::strip::Numbers as Stripped;
+use crate::Pictures;
 
 unsafe extern "C" {
     fn mve_check(
@@ -63,6 +64,58 @@ unsafe extern "C" {
         allowed: usize,
     ) -> Answer;
 
+    fn mve_check_words(
+        columns: usize,
+        rows: usize,
+        map: *const u8,
+        map_length: usize,
+        data: *const u8,
+        data_length: usize,
+    ) -> Answer;
+
+    fn mve_check_words_strict(
+        columns: usize,
+        rows: usize,
+        map: *const u8,
+        map_length: usize,
+        data: *const u8,
+        data_length: usize,
+    ) -> Answer;
+
+    fn mve_draw_words(
+        columns: usize,
+        rows: usize,
+        map: *const u8,
+        map_length: usize,
+        data: *const u8,
+        data_length: usize,
+        last: *const u16,
+        last_length: usize,
+        oldest: *const u16,
+        oldest_length: usize,
+        drawn: *mut u16,
+        drawn_length: usize,
+        place: *mut usize,
+        allowed: usize,
+    ) -> Answer;
+
+    fn mve_draw_words_strict(
+        columns: usize,
+        rows: usize,
+        map: *const u8,
+        map_length: usize,
+        data: *const u8,
+        data_length: usize,
+        last: *const u16,
+        last_length: usize,
+        oldest: *const u16,
+        oldest_length: usize,
+        drawn: *mut u16,
+        drawn_length: usize,
+        place: *mut usize,
+        allowed: usize,
+    ) -> Answer;
+
     fn mve_open(
         film: *const u8,
         film_length: usize,
@@ -95,6 +148,12 @@ unsafe extern "C" {
         a_length: usize,
         b: *mut u8,
         b_length: usize,
+        c: *mut u16,
+        c_length: usize,
+        d: *mut u16,
+        d_length: usize,
+        e: *mut u16,
+        e_length: usize,
         place: *mut usize,
         room: *mut u8,
         room_length: usize,
@@ -109,6 +168,17 @@ unsafe extern "C" {
         a_length: usize,
         b: *const u8,
         b_length: usize,
+    ) -> usize;
+
+    fn mve_shown_words(
+        from: *const usize,
+        from_numbers: usize,
+        c: *const u16,
+        c_length: usize,
+        d: *const u16,
+        d_length: usize,
+        e: *const u16,
+        e_length: usize,
     ) -> usize;
 
     fn mve_origin(
@@ -213,6 +283,63 @@ pub(crate) fn draw(
     }
 }
 
+pub(crate) fn check_words(
+    form: Form,
+    columns: usize,
+    rows: usize,
+    map: &[u8],
+    data: &[u8],
+) -> Answer {
+    let call = match form {
+        Form::Default => mve_check_words,
+        Form::Strict => mve_check_words_strict,
+    };
+    // SAFETY: each address and length are those of a slice that lives through the call; that of an
+    // empty slice is not null. Both are only read.
+    unsafe { call(columns, rows, map.as_ptr(), map.len(), data.as_ptr(), data.len()) }
+}
+
+#[allow(clippy::too_many_arguments)] // those of the library's functions
+pub(crate) fn draw_words(
+    form: Form,
+    columns: usize,
+    rows: usize,
+    map: &[u8],
+    data: &[u8],
+    last: &[u16],
+    oldest: &[u16],
+    drawn: &mut [u16],
+    place: &mut usize,
+    allowed: usize,
+) -> Answer {
+    let call = match form {
+        Form::Default => mve_draw_words,
+        Form::Strict => mve_draw_words_strict,
+    };
+    // SAFETY: each address and length are those of a slice that lives through the call; that of an
+    // empty slice is not null, and that of a slice of words is aligned. Only `drawn` and `place` are
+    // written; they are borrowed mutably, so they overlap neither each other nor anything that is only
+    // read.
+    unsafe {
+        call(
+            columns,
+            rows,
+            map.as_ptr(),
+            map.len(),
+            data.as_ptr(),
+            data.len(),
+            last.as_ptr(),
+            last.len(),
+            oldest.as_ptr(),
+            oldest.len(),
+            drawn.as_mut_ptr(),
+            drawn.len(),
+            place,
+            allowed,
+        )
+    }
+}
+
 pub(crate) fn open(film: &[u8], stream: usize, out: &mut [usize]) -> usize {
     // SAFETY: each address and length are those of a slice that lives through the call; that of an
     // empty slice is not null. Only `out` is written; it is borrowed mutably, so it does not overlap
@@ -250,15 +377,15 @@ pub(crate) fn step(
     from: &[usize],
     out: &mut [usize],
     palette: &mut [u8],
-    a: &mut [u8],
-    b: &mut [u8],
+    pictures: &mut Pictures<'_>,
     place: &mut usize,
     room: &mut [u8],
     allowed: usize,
     form: usize,
 ) -> usize {
+    let Pictures { a, b, c, d, e } = pictures;
     // SAFETY: each address and length are those of a slice that lives through the call; that of an
-    // empty slice is not null. Only `out`, the palette, the pictures, `place` and the room are
+    // empty slice is not null, and that of a slice of words is aligned. Only `out`, the palette, the pictures, `place` and the room are
     // written; they are borrowed mutably, so they overlap neither each other nor film and `from`.
     unsafe {
         mve_step(
@@ -274,6 +401,12 @@ pub(crate) fn step(
             a.len(),
             b.as_mut_ptr(),
             b.len(),
+            c.as_mut_ptr(),
+            c.len(),
+            d.as_mut_ptr(),
+            d.len(),
+            e.as_mut_ptr(),
+            e.len(),
             place,
             room.as_mut_ptr(),
             room.len(),
@@ -283,11 +416,29 @@ pub(crate) fn step(
     }
 }
 
-/// How many bytes of the front picture are shown.
+/// How many bytes of the front picture of an 8-bit film are shown.
 pub(crate) fn shown(from: &[usize], a: &[u8], b: &[u8]) -> usize {
     // SAFETY: each address and length are those of a slice that lives through the call; that of an
     // empty slice is not null. All are only read.
     unsafe { mve_shown(from.as_ptr(), from.len(), a.as_ptr(), a.len(), b.as_ptr(), b.len()) }
+}
+
+/// How many words of the front picture of a film with true colour are shown.
+pub(crate) fn shown_words(from: &[usize], c: &[u16], d: &[u16], e: &[u16]) -> usize {
+    // SAFETY: each address and length are those of a slice that lives through the call; that of an
+    // empty slice is not null, and that of a slice of words is aligned. All are only read.
+    unsafe {
+        mve_shown_words(
+            from.as_ptr(),
+            from.len(),
+            c.as_ptr(),
+            c.len(),
+            d.as_ptr(),
+            d.len(),
+            e.as_ptr(),
+            e.len(),
+        )
+    }
 }
 
 #[allow(clippy::too_many_arguments)] // those of the library's function

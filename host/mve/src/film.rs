@@ -2,13 +2,17 @@
 
 use crate::answer::{Moved, Taken};
 use crate::numbers::{kind, STEPPED_NUMBERS};
-use crate::{ffi, Form, Refusal, Rows};
+use crate::{ffi, Form, Pictures, Refusal, Rows};
 
 /// The bytes of the palette: 256 entries of red, green and blue.
 pub const PALETTE_BYTES: usize = 768;
 
-/// The bytes of the largest picture, 640x480 pixels: pictures of this length are always enough.
+/// The bytes of the largest picture of an 8-bit film, 640x480 pixels: pictures of this length are always enough.
 pub const PICTURE_BYTES: usize = 307_200;
+
+/// The words of the largest picture of a film with true colour, 640x480 pixels: pictures of this length are
+/// always enough.
+pub const PICTURE_WORDS: usize = 307_200;
 
 /// The bytes of a room that is always enough: a word counts the samples of a packet, and each has two
 /// bytes at most.
@@ -33,7 +37,10 @@ pub struct State {
     pub columns: usize,
     /// Rows of blocks of the frame; 0 before opcode 0x05.
     pub rows: usize,
-    /// Which lent picture is the shown one: 0 the first, 1 the second. The other one is drawn on.
+    /// Whether the film has true colour: three pictures of words. Else it has two of bytes, or no size yet.
+    pub true_colour: bool,
+    /// Which lent picture of the film's kind is the shown one: 0 the first, 1 the second, 2 the third. The next
+    /// one is drawn on, which behind the last is the first.
     pub front: usize,
     /// The start and the length of the map that waits in the film for its video data.
     pub map: Option<(usize, usize)>,
@@ -125,7 +132,8 @@ impl Step {
     /// // A film of no chunk: it ends where it opens.
     /// let film = b"Interplay MVE File\x1A\0\x1A\0\0\x01\x33\x11";
     /// let (state, form) = (mve::open(film, mve::NO_STREAM)?, mve::Form::Default);
-    /// let step = mve::step(film, state, &mut [0; 768], &mut [], &mut [], &mut 0, &mut [], 0, form)?;
+    /// let pictures = &mut mve::Pictures::default();
+    /// let step = mve::step(film, state, &mut [0; 768], pictures, &mut 0, &mut [], 0, form)?;
     /// assert_eq!(step, mve::Step::Ended { state });
     /// assert_eq!(step.state(), state);
     /// # Ok::<(), mve::Refusal>(())
@@ -175,6 +183,7 @@ pub const fn is_sent(before: &State, after: &State) -> bool {
 ///     chunk_end: 26,
 ///     columns: 0,
 ///     rows: 0,
+///     true_colour: false,
 ///     front: 0,
 ///     map: None,
 ///     unsent: false,
@@ -198,8 +207,8 @@ pub fn open(film: &[u8], stream: usize) -> Result<State, Refusal> {
 ///
 /// Lend the same film, palette, pictures and place to every step, and give each step the state that
 /// the one before gave; the room is only written. The palette has 256 entries of red, green and
-/// blue, 0 to 63. The pictures have a byte a pixel, row by row, 64 for each block; one is shown, the
-/// other drawn on, and [`State::front`] tells which. They may be longer than the frame: what lies
+/// blue, 0 to 63. The [`Pictures`] have a byte or a word a pixel, row by row, 64 for each block; one is shown,
+/// the next one drawn on, and [`State::front`] tells which. They may be longer than the frame: what lies
 /// beyond it is never touched. The place is that of [`draw`](crate::draw); start with 0.
 ///
 /// Opcodes 0x08 and 0x09 of the stream write their samples to the room's front: of 16 bits low byte
@@ -212,7 +221,7 @@ pub fn open(film: &[u8], stream: usize) -> Result<State, Refusal> {
 /// makes the first of its stores and keeps its state. Taken again, opcode 0x11 goes on from the place, and
 /// any other begins with its first store. No frame has more than 312,000 stores, and no palette more than
 /// [`PALETTE_STORES`](crate::PALETTE_STORES). The step over opcode 0x11 tells the rows of blocks that its
-/// packet touches in the picture that is drawn on; both pictures stay as they are outside them.
+/// packet touches in the picture that is drawn on; all pictures stay as they are outside them.
 ///
 /// `form` says how many bytes a packet may leave over. The two forms give the same, except at an opcode
 /// 11 whose packet leaves exactly one byte over and has no other fault: [`Form::Strict`] refuses it.
@@ -220,9 +229,10 @@ pub fn open(film: &[u8], stream: usize) -> Result<State, Refusal> {
 /// # Errors
 ///
 /// In this order: 16 for the state, 8 for a palette that has not 768 bytes or, once a size is known,
-/// for a picture shorter than the frame, then what is wrong with the film: 2 to 7, 9, and 10 to 15
-/// as in [`draw`](crate::draw), or in [`draw_strict`](crate::draw_strict). Of sound 17 to 19. A refused
-/// step changes nothing, so the state that went in still holds.
+/// for a picture of the film's kind shorter than the frame, then what is wrong with the film: 2 to 7, 9, and
+/// 10 to 15 as in [`draw`](crate::draw), or in [`draw_strict`](crate::draw_strict); with true colour those of
+/// [`draw_words`](crate::draw_words). Of sound 17 to 19. A refused step changes nothing, so the state that went
+/// in still holds.
 ///
 /// # Examples
 ///
@@ -230,7 +240,7 @@ pub fn open(film: &[u8], stream: usize) -> Result<State, Refusal> {
 /// a map of code E; 0x11, that block's colour; 0x07, which sends the frame to the display; 0x01.
 ///
 /// ```
-/// use mve::{open, shown, step, Error, Form, Refusal, Rows, State, Step, NO_STREAM};
+/// use mve::{open, shown, step, Error, Form, Pictures, Refusal, Rows, State, Step, NO_STREAM};
 ///
 /// let film = [
 ///     &b"Interplay MVE File\x1A\0\x1A\0\0\x01\x33\x11"[..],
@@ -249,7 +259,8 @@ pub fn open(film: &[u8], stream: usize) -> Result<State, Refusal> {
 ///     if state.position < state.chunk_end {
 ///         opcodes.push((state.position, film[state.position + 2]));
 ///     }
-///     match step(&film, state, &mut palette, &mut a, &mut b, &mut place, &mut [], 312_000, form)? {
+///     let pictures = &mut Pictures::bytes(&mut a, &mut b);
+///     match step(&film, state, &mut palette, pictures, &mut place, &mut [], 312_000, form)? {
 ///         Step::Ended { .. } => break,
 ///         Step::Whole { state: next, stores, rows } => {
 ///             assert_eq!((stores, rows), (65, Some(Rows { first: 0, last: 0 })));
@@ -265,8 +276,8 @@ pub fn open(film: &[u8], stream: usize) -> Result<State, Refusal> {
 ///
 /// // No film gives this state.
 /// let wrong = State { position: 83, ..state };
-/// let refused =
-///     step(&film, wrong, &mut palette, &mut a, &mut b, &mut place, &mut [], 312_000, form);
+/// let pictures = &mut Pictures::bytes(&mut a, &mut b);
+/// let refused = step(&film, wrong, &mut palette, pictures, &mut place, &mut [], 312_000, form);
 /// assert_eq!(refused, Err(Refusal { error: Error::State, block: 0 }));
 /// # Ok::<(), Refusal>(())
 /// ```
@@ -275,7 +286,7 @@ pub fn open(film: &[u8], stream: usize) -> Result<State, Refusal> {
 /// start word for each channel and a byte for the sample behind each of them.
 ///
 /// ```
-/// use mve::{open, step, Error, Form, Refusal, Sound, Step, ROOM_BYTES};
+/// use mve::{open, step, Error, Form, Pictures, Refusal, Sound, Step, ROOM_BYTES};
 ///
 /// let film = [
 ///     &b"Interplay MVE File\x1A\0\x1A\0\0\x01\x33\x11"[..],
@@ -288,7 +299,8 @@ pub fn open(film: &[u8], stream: usize) -> Result<State, Refusal> {
 /// let (mut state, form) = (open(&film, 0)?, Form::Default);
 /// let mut samples: Vec<u8> = Vec::new();
 /// loop {
-///     match step(&film, state, &mut palette, &mut [], &mut [], &mut place, &mut room, 0, form)? {
+///     let pictures = &mut Pictures::default();
+///     match step(&film, state, &mut palette, pictures, &mut place, &mut room, 0, form)? {
 ///         Step::Taken { state: next, bytes, .. } => {
 ///             samples.extend(&room[..bytes]);
 ///             state = next;
@@ -309,7 +321,7 @@ pub fn open(film: &[u8], stream: usize) -> Result<State, Refusal> {
 /// and a byte that pads it to an even length.
 ///
 /// ```
-/// use mve::{open, step, Error, Form, Refusal, Step, NO_STREAM};
+/// use mve::{open, step, Error, Form, Pictures, Refusal, Step, NO_STREAM};
 ///
 /// let film = [
 ///     &b"Interplay MVE File\x1A\0\x1A\0\0\x01\x33\x11"[..],
@@ -321,8 +333,9 @@ pub fn open(film: &[u8], stream: usize) -> Result<State, Refusal> {
 ///
 /// let (mut palette, mut a, mut b, mut place) = ([0; 768], [0; 64], [0; 64], 0);
 /// let mut state = open(&film, NO_STREAM)?;
+/// let mut pictures = Pictures::bytes(&mut a, &mut b);
 /// let mut take = |state, form| {
-///     step(&film, state, &mut palette, &mut a, &mut b, &mut place, &mut [], 65, form)
+///     step(&film, state, &mut palette, &mut pictures, &mut place, &mut [], 65, form)
 /// };
 /// for _ in 0..3 {
 ///     // A chunk's head, 05 and 0F: the forms do not differ.
@@ -336,13 +349,42 @@ pub fn open(film: &[u8], stream: usize) -> Result<State, Refusal> {
 /// assert_eq!(b, [0x2a; 64]);
 /// # Ok::<(), Refusal>(())
 /// ```
+///
+/// A film with true colour of one frame of one block: the size has version 2 and a true-colour word that is not
+/// 0; the packet begins with the offset of its second part, which is empty here, and has the block's colour.
+///
+/// ```
+/// use mve::{open, shown, shown_words, step, Form, Pictures, Refusal, Step, NO_STREAM};
+///
+/// let film = [
+///     &b"Interplay MVE File\x1A\0\x1A\0\0\x01\x33\x11"[..],
+///     &[47, 0, 3, 0, 8, 0, 0x05, 2, 1, 0, 1, 0, 1, 0, 1, 0, 1, 0, 0x0f, 0, 0x0e, 18, 0, 0x11, 0],
+///     &[0; 14],
+///     &[4, 0, 0x1f, 0xfc, 4, 0, 0x07, 0, 0, 0, 0, 0],
+/// ]
+/// .concat();
+///
+/// let (mut palette, mut place) = ([0; 768], 0);
+/// let (mut c, mut d, mut e) = ([1; 64], [2; 64], [3; 64]);
+/// let (mut state, form) = (open(&film, NO_STREAM)?, Form::Default);
+/// loop {
+///     let pictures = &mut Pictures::words(&mut c, &mut d, &mut e);
+///     match step(&film, state, &mut palette, pictures, &mut place, &mut [], 312_000, form)? {
+///         Step::Ended { .. } => break,
+///         next => state = next.state(),
+///     }
+/// }
+/// assert_eq!((state.true_colour, state.front), (true, 1));
+/// assert_eq!(shown_words(&state, &c, &d, &e), [0x7c1f; 64]); // without the highest bit
+/// assert_eq!(shown(&state, &[], &[]), []);
+/// # Ok::<(), Refusal>(())
+/// ```
 #[allow(clippy::too_many_arguments)] // a film, its state, what is lent, how far to go, and the form
 pub fn step(
     film: &[u8],
     state: State,
     palette: &mut [u8],
-    a: &mut [u8],
-    b: &mut [u8],
+    pictures: &mut Pictures<'_>,
     place: &mut usize,
     room: &mut [u8],
     allowed: usize,
@@ -350,7 +392,7 @@ pub fn step(
 ) -> Result<Step, Refusal> {
     let (from, mut out) = (state.numbers(), [0; STEPPED_NUMBERS]);
     let form = form.number();
-    let returned = ffi::step(film, &from, &mut out, palette, a, b, place, room, allowed, form);
+    let returned = ffi::step(film, &from, &mut out, palette, pictures, place, room, allowed, form);
     let moved = Moved::new(returned, &out);
     let (state, Taken { kind, stores, rows }) = moved.taken(state)?;
     match (kind, moved.bytes, rows) {
@@ -364,10 +406,11 @@ pub fn step(
     }
 }
 
-/// The shown picture: the leading part of the lent picture that is front, 64 bytes for each block.
+/// The shown picture of an 8-bit film: the leading part of the lent picture that is front, 64 bytes for each
+/// block.
 ///
-/// It is empty where there is no size yet, where front or size is one that no film gives, and
-/// where that picture is shorter than the frame.
+/// It is empty where there is no size yet, where front or size is one that no film gives, where that picture is
+/// shorter than the frame, and for a film with true colour, which has [`shown_words`].
 ///
 /// # Examples
 ///
@@ -390,9 +433,42 @@ pub fn shown<'a>(state: &State, a: &'a [u8], b: &'a [u8]) -> &'a [u8] {
     &front[..count]
 }
 
+/// The shown picture of a film with true colour: the leading part of the lent picture that is front, 64 words
+/// for each block. [`word_colour`](crate::word_colour) gives the colour of a word.
+///
+/// It is empty where there is no size yet, where front or size is one that no film gives, where that picture is
+/// shorter than the frame, and for an 8-bit film, which has [`shown`].
+///
+/// # Examples
+///
+/// ```
+/// use mve::{open, shown_words, State, NO_STREAM};
+///
+/// let (c, d, e) = ([1; 200], [2; 128], [3; 128]);
+/// let opened = open(b"Interplay MVE File\x1A\0\x1A\0\0\x01\x33\x11", NO_STREAM)?;
+/// assert_eq!(shown_words(&opened, &c, &d, &e), []);
+/// let sized = State { columns: 2, rows: 1, true_colour: true, ..opened };
+/// assert_eq!(shown_words(&sized, &c, &d, &e), [1; 128]);
+/// assert_eq!(shown_words(&State { front: 2, ..sized }, &c, &d, &e), [3; 128]);
+/// assert_eq!(shown_words(&State { front: 3, ..sized }, &c, &d, &e), []);
+/// assert_eq!(shown_words(&State { true_colour: false, ..sized }, &c, &d, &e), []);
+/// assert_eq!(shown_words(&sized, &c[..127], &d, &e), []);
+/// # Ok::<(), mve::Refusal>(())
+/// ```
+pub fn shown_words<'a>(state: &State, c: &'a [u16], d: &'a [u16], e: &'a [u16]) -> &'a [u16] {
+    let count = ffi::shown_words(&state.numbers(), c, d, e);
+    let front = match state.front {
+        0 => c,
+        1 => d,
+        _ => e,
+    };
+    &front[..count]
+}
+
 #[cfg(test)]
 mod tests {
     use super::*;
+    use crate::numbers::{STATE, STATE_NUMBERS};
 
     const HEADER: &[u8] = b"Interplay MVE File\x1A\0\x1A\0\0\x01\x33\x11";
 
@@ -410,7 +486,7 @@ mod tests {
             sound: Sound { stream: 77, wide: true, left: 5, right: 6, ..Sound::default() },
             ..open(HEADER, 77).expect("a header")
         };
-        let with = |mut numbers: [usize; 17], changes: &[(usize, usize)]| {
+        let with = |mut numbers: [usize; STATE_NUMBERS], changes: &[(usize, usize)]| {
             changes.iter().for_each(|&(at, number)| numbers[at] = number);
             numbers
         };
@@ -422,12 +498,16 @@ mod tests {
         let unread = Sound { stream: 77, ..Sound::default() };
         for (from, sound) in [(format, read), (none, unread)] {
             let step = |film: &[u8], palette: &mut [u8]| {
-                let (mut out, room, allowed) = ([7; 26], &mut [], usize::MAX);
-                let (a, b, place) = (&mut [], &mut [], &mut 0);
+                let (mut out, room, allowed) = ([7; STEPPED_NUMBERS + 1], &mut [], usize::MAX);
+                let (pictures, place) = (&mut Pictures::default(), &mut 0);
                 let kind =
-                    ffi::step(film, &from, &mut out, palette, a, b, place, room, allowed, form);
-                assert_eq!((out[0], out[25]), (kind, 7));
-                (kind, out[1], <[usize; 17]>::try_from(&out[8..25]).expect("a state's numbers"))
+                    ffi::step(film, &from, &mut out, palette, pictures, place, room, allowed, form);
+                assert_eq!((out[0], out[STEPPED_NUMBERS]), (kind, 7));
+                (
+                    kind,
+                    out[1],
+                    <[usize; STATE_NUMBERS]>::try_from(&out[STATE]).expect("a state's numbers"),
+                )
             };
             let moved = State { position: 30, chunk_end: 30, sound, ..state };
             let taken = step(&[HEADER, &[0; 4]].concat(), &mut [0; 768]);

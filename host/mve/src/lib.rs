@@ -1,4 +1,5 @@
-//! The proved player core for Interplay MVE films with 8-bit pictures and sound, for Rust programs.
+//! The proved player core for Interplay MVE films, with 8-bit pictures or true colour and with sound, for Rust
+//! programs.
 //!
 //! The core is a static library whose contracts are proved. This crate hands each call on to it and
 //! gives its answers names. It decides nothing, allocates nothing and needs no standard library. Every
@@ -9,7 +10,7 @@
 //! A film is played in memory that the host lends, step by step:
 //!
 //! ```
-//! use mve::{Event, Memory, Player, PALETTE_BYTES, PICTURE_BYTES, ROOM_BYTES};
+//! use mve::{Event, Memory, Pictures, Player, PALETTE_BYTES, PICTURE_BYTES, ROOM_BYTES};
 //!
 //! // A film of one frame of one block: a timer, a colour, the size, a map, the block's colour, and
 //! // 0x07, which sends it.
@@ -28,8 +29,7 @@
 //! let (mut a, mut b, mut place) = (vec![0; PICTURE_BYTES], vec![0; PICTURE_BYTES], 0);
 //! let memory = Memory {
 //!     palette: &mut palette,
-//!     a: &mut a,
-//!     b: &mut b,
+//!     pictures: Pictures::bytes(&mut a, &mut b), // of an 8-bit film; `Memory` shows how to lend both kinds
 //!     place: &mut place,
 //!     room: &mut room,
 //! };
@@ -55,13 +55,15 @@
 //! Below the player are the library's calls: [`begin`] opens a film and steps until its size is known,
 //! [`open`] only opens it, [`step`] takes it chunk by chunk and opcode by opcode, keeping the palette,
 //! drawing the pictures and writing the samples to what is lent to it, [`is_sent`] tells whether a step
-//! sent a picture, and [`shown`] is the picture to show. [`timer`] reads how long a picture stays, and
-//! [`widened`] and [`colour`] give colours of 8 bits; these three are not proved.
+//! sent a picture, and [`shown`] is the picture to show, of a film with true colour [`shown_words`].
+//! [`timer`] reads how long a picture stays, and [`widened`], [`widened_5`], [`colour`] and [`word_colour`] give
+//! colours of 8 bits; these five are not proved.
 //!
 //! A frame comes as a packet: a map with a code for each 8x8 block, and the blocks' data. [`check`]
 //! tells whether a packet is valid, [`draw`] draws it, at once or in pieces. Both, and [`step`], tell
 //! the [`Rows`] of blocks that the packet touches, so that a display with a slow link need not be sent
-//! the others. [`origin`] tells which byte or pixel gave a pixel its value.
+//! the others. [`check_words`] and [`draw_words`] are those of a packet with true colour. [`origin`] tells
+//! which byte or pixel gave a pixel of an 8-bit packet its value.
 //!
 //! [`salvage`] saves what is left of a scratched film. [`strip`] drops what a player of one stream passes
 //! over. [`encode`] makes map and packet of a picture of one's own. [`video1`](video1()) draws a frame of
@@ -111,6 +113,7 @@ mod form;
 pub mod numbers;
 mod origin;
 mod packet;
+mod pictures;
 mod player;
 mod refusal;
 mod rows;
@@ -118,16 +121,18 @@ mod salvage;
 mod strip;
 mod timer;
 mod video1;
+mod words;
 
 pub use begin::{begin, Unbegun};
-pub use colour::{colour, widened};
+pub use colour::{colour, widened, widened_5, word_colour};
 pub use encode::{encode, Encoded, BODY_BYTES, MAP_BYTES};
-pub use film::{is_sent, open, shown, step, Sound, State, Step};
-pub use film::{NO_STREAM, PALETTE_BYTES, PICTURE_BYTES, ROOM_BYTES};
+pub use film::{is_sent, open, shown, shown_words, step, Sound, State, Step};
+pub use film::{NO_STREAM, PALETTE_BYTES, PICTURE_BYTES, PICTURE_WORDS, ROOM_BYTES};
 pub use form::Form;
 pub use origin::{origin, Origin, Traced};
 pub use packet::{check, check_strict, draw, draw_strict, Drawn};
 pub use packet::{ALL_STORES, BLOCK_STORES, PALETTE_STORES};
+pub use pictures::Pictures;
 pub use player::{Event, Memory, Picture, Player, RefusedAt, Samples};
 pub use refusal::{Error, Refusal};
 pub use rows::Rows;
@@ -135,6 +140,7 @@ pub use salvage::{salvage, LeftOut, Salvaged, Stop, LOSS_NUMBERS};
 pub use strip::strip;
 pub use timer::timer;
 pub use video1::video1;
+pub use words::{check_words, check_words_strict, draw_words, draw_words_strict};
 
 /// The version of the interface that this crate is written for: C's `MVE_VERSION`.
-pub const VERSION: usize = 15;
+pub const VERSION: usize = 16;

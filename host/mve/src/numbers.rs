@@ -20,30 +20,31 @@
 //! assert_eq!(numbers::open(film, mve::NO_STREAM, &mut answers[0]), numbers::kind::TAKEN);
 //! let [from, out] = &mut answers;
 //! let (palette, place) = (&mut [0; mve::PALETTE_BYTES], &mut 0);
+//! let pictures = &mut mve::Pictures::default();
 //! let form = mve::Form::Default.number();
 //! let kind = numbers::step(
-//!     film, &from[numbers::STATE], out, palette, &mut [], &mut [], place, &mut [], 0, form,
+//!     film, &from[numbers::STATE], out, palette, pictures, place, &mut [], 0, form,
 //! );
 //! assert_eq!((kind, out[0]), (numbers::kind::TAKEN, numbers::kind::TAKEN));
 //! let state = State::from_numbers(&out[numbers::STATE]).expect("a state");
 //! assert_eq!((state.position, state.chunk_end), (30, 30));
 //!
-//! // No state has 16 numbers: refused by 16.
+//! // No state has 17 numbers: refused by 16.
 //! let kind = numbers::step(
-//!     film, &from[9..], out, palette, &mut [], &mut [], place, &mut [], 0, form,
+//!     film, &from[9..], out, palette, pictures, place, &mut [], 0, form,
 //! );
-//! assert_eq!((kind, out[1], &out[8..]), (numbers::kind::REFUSED, 16, &[0; 17][..]));
+//! assert_eq!((kind, out[1], &out[8..]), (numbers::kind::REFUSED, 16, &[0; 18][..]));
 //! ```
 
 use crate::ffi;
-use crate::{Sound, State};
+use crate::{Pictures, Sound, State};
 use core::ops::Range;
 
 /// How many numbers a state has.
-pub const STATE_NUMBERS: usize = 17;
+pub const STATE_NUMBERS: usize = 18;
 
 /// How many numbers an answer about a film has.
-pub const STEPPED_NUMBERS: usize = 25;
+pub const STEPPED_NUMBERS: usize = 26;
 
 /// Where the numbers of the state stand in an answer.
 pub const STATE: Range<usize> = STEPPED_NUMBERS - STATE_NUMBERS..STEPPED_NUMBERS;
@@ -80,33 +81,37 @@ pub fn begin(
 
 /// Takes one step over a film, as [`step`](crate::step) does. Every `form` but 0 is the strict one.
 ///
-/// Where `from` has not as many numbers as a state, or one of the last two, the last samples, is above
-/// 65,535, the step is refused by 16, and the state of the answer is zeros.
+/// Where `from` has not as many numbers as a state, or one of the two last samples is above 65,535, the step is refused by 16, and the state of the answer is zeros.
 #[allow(clippy::too_many_arguments)] // those of the library's function
 pub fn step(
     film: &[u8],
     from: &[usize],
     out: &mut [usize],
     palette: &mut [u8],
-    a: &mut [u8],
-    b: &mut [u8],
+    pictures: &mut Pictures<'_>,
     place: &mut usize,
     room: &mut [u8],
     allowed: usize,
     form: usize,
 ) -> usize {
-    ffi::step(film, from, out, palette, a, b, place, room, allowed, form)
+    ffi::step(film, from, out, palette, pictures, place, room, allowed, form)
 }
 
-/// How many bytes of the front picture are shown; 0 also for what is no state.
+/// How many bytes of the front picture of an 8-bit film are shown; 0 also for what is no state.
 pub fn shown(from: &[usize], a: &[u8], b: &[u8]) -> usize {
     ffi::shown(from, a, b)
+}
+
+/// How many words of the front picture of a film with true colour are shown; 0 also for what is no state.
+pub fn shown_words(from: &[usize], c: &[u16], d: &[u16], e: &[u16]) -> usize {
+    ffi::shown_words(from, c, d, e)
 }
 
 impl State {
     /// The state's numbers, in the order of C's `struct mve_state`.
     pub fn numbers(&self) -> [usize; STATE_NUMBERS] {
-        let State { position, chunk_end, columns, rows, front, map, unsent, sound } = *self;
+        let State { position, chunk_end, columns, rows, true_colour, front, map, unsent, sound } =
+            *self;
         let (map_start, map_length) = map.unwrap_or((0, 0));
         let Sound { stream, has_format, stereo, wide, compressed, begun, left, right } = sound;
         [
@@ -127,6 +132,7 @@ impl State {
             begun.into(),
             left.into(),
             right.into(),
+            true_colour.into(),
         ]
     }
 
@@ -137,14 +143,14 @@ impl State {
         let numbers: [usize; STATE_NUMBERS] = numbers.try_into().ok()?;
         let [position, chunk_end, columns, rows, front, has_map, map_start, map_length, ..] =
             numbers;
-        let [.., unsent, stream, has_format, stereo, wide, compressed, begun, left, right] =
+        let [.., unsent, stream, has_format, stereo, wide, compressed, begun, left, right, deep] =
             numbers;
         let map = match (has_map, map_start, map_length) {
             (0, 0, 0) => None,
             (1, start, length) => Some((start, length)),
             _ => return None,
         };
-        let unsent = flag(unsent)?;
+        let (unsent, true_colour) = (flag(unsent)?, flag(deep)?);
         let sound = Sound {
             stream,
             has_format: flag(has_format)?,
@@ -155,7 +161,7 @@ impl State {
             left: left.try_into().ok()?,
             right: right.try_into().ok()?,
         };
-        Some(State { position, chunk_end, columns, rows, front, map, unsent, sound })
+        Some(State { position, chunk_end, columns, rows, true_colour, front, map, unsent, sound })
     }
 }
 
@@ -189,12 +195,13 @@ mod tests {
             chunk_end: 21,
             columns: 22,
             rows: 23,
+            true_colour: true,
             front: 24,
             map: Some((26, 27)),
             unsent: true,
             sound,
         };
-        let numbers = [20, 21, 22, 23, 24, 1, 26, 27, 1, 9, 1, 1, 1, 1, 1, 15, 16];
+        let numbers = [20, 21, 22, 23, 24, 1, 26, 27, 1, 9, 1, 1, 1, 1, 1, 15, 16, 1];
         assert_eq!(state.numbers(), numbers);
         assert_eq!(State::from_numbers(&numbers), Some(state));
         let flags = [
@@ -205,6 +212,7 @@ mod tests {
             (12, State { sound: Sound { wide: false, ..sound }, ..state }),
             (13, State { sound: Sound { compressed: false, ..sound }, ..state }),
             (14, State { sound: Sound { begun: false, ..sound }, ..state }),
+            (17, State { true_colour: false, ..state }),
         ];
         for (flag, other) in flags {
             let mut numbers = numbers;
@@ -225,7 +233,7 @@ mod tests {
     fn no_states() {
         let state = State { map: None, ..State::default() };
         let numbers = state.numbers();
-        assert_eq!(State::from_numbers(&numbers[..16]), None);
+        assert_eq!(State::from_numbers(&numbers[..17]), None);
         assert_eq!(State::from_numbers(&[&numbers[..], &[0]].concat()), None);
         for (at, number) in [(6, 1), (7, 1), (15, 65_536), (16, 65_536), (16, usize::MAX)] {
             let mut wrong = numbers;

@@ -1,11 +1,11 @@
-//! A packet, the map and the data of one frame: checking and drawing it.
+//! A packet, the map and the data of one frame of an 8-bit film: checking and drawing it.
 
-use crate::answer::Taken;
+use crate::answer::{Answer, Taken};
 use crate::form::Form;
 use crate::numbers::kind;
 use crate::{ffi, Refusal, Rows};
 
-/// Checks a packet for a frame of `columns` by `rows` blocks, each 8x8 pixels.
+/// Checks a packet of an 8-bit film for a frame of `columns` by `rows` blocks, each 8x8 pixels.
 ///
 /// The map has one nibble for each block, low nibble first; the data has the blocks' bytes in the
 /// same order. One byte may be left over behind them, since many films pad a packet to an even length;
@@ -64,7 +64,7 @@ pub fn check(
     map: &[u8],
     data: &[u8],
 ) -> Result<Option<Rows>, Refusal> {
-    checked(Form::Default, columns, rows, map, data)
+    accepted(ffi::check(Form::Default, columns, rows, map, data))
 }
 
 /// Checks a packet as [`check`] does, in the strict form: no byte may be left over.
@@ -91,17 +91,11 @@ pub fn check_strict(
     map: &[u8],
     data: &[u8],
 ) -> Result<Option<Rows>, Refusal> {
-    checked(Form::Strict, columns, rows, map, data)
+    accepted(ffi::check(Form::Strict, columns, rows, map, data))
 }
 
-fn checked(
-    form: Form,
-    columns: usize,
-    rows: usize,
-    map: &[u8],
-    data: &[u8],
-) -> Result<Option<Rows>, Refusal> {
-    let answer = ffi::check(form, columns, rows, map, data);
+/// What a check answers.
+pub(crate) fn accepted(answer: Answer) -> Result<Option<Rows>, Refusal> {
     match answer.taken()? {
         Taken { kind: kind::TAKEN, stores: 0, rows } => Ok(rows),
         _ => answer.unknown(),
@@ -143,6 +137,17 @@ pub enum Drawn {
 }
 
 impl Drawn {
+    /// What a drawing call answers.
+    pub(crate) fn of(answer: Answer) -> Result<Drawn, Refusal> {
+        match answer.taken()? {
+            Taken { kind: kind::WHOLE, stores, rows } => Ok(Drawn::Whole { stores, rows }),
+            Taken { kind: kind::UNFINISHED, stores, rows } => {
+                Ok(Drawn::Unfinished { stores, rows })
+            }
+            _ => answer.unknown(),
+        }
+    }
+
     /// Stores that the call made: 64 for each block drawn, and one for each place stored.
     ///
     /// ```
@@ -174,7 +179,7 @@ impl Drawn {
     }
 }
 
-/// Draws a packet on `back`, going on from `place`, with at most `allowed` stores. The frame has
+/// Draws a packet of an 8-bit film on `back`, going on from `place`, with at most `allowed` stores. The frame has
 /// `columns` by `rows` blocks.
 ///
 /// `front` is the shown picture and `back` the one two frames old; both have a byte a pixel, row by
@@ -242,7 +247,8 @@ pub fn draw(
     place: &mut usize,
     allowed: usize,
 ) -> Result<Drawn, Refusal> {
-    drawn(Form::Default, columns, rows, map, data, front, back, place, allowed)
+    let form = Form::Default;
+    Drawn::of(ffi::draw(form, columns, rows, map, data, front, back, place, allowed))
 }
 
 /// Draws a packet as [`draw`] does, in the strict form: no byte may be left over.
@@ -282,25 +288,6 @@ pub fn draw_strict(
     place: &mut usize,
     allowed: usize,
 ) -> Result<Drawn, Refusal> {
-    drawn(Form::Strict, columns, rows, map, data, front, back, place, allowed)
-}
-
-#[allow(clippy::too_many_arguments)] // those of `draw`
-fn drawn(
-    form: Form,
-    columns: usize,
-    rows: usize,
-    map: &[u8],
-    data: &[u8],
-    front: &[u8],
-    back: &mut [u8],
-    place: &mut usize,
-    allowed: usize,
-) -> Result<Drawn, Refusal> {
-    let answer = ffi::draw(form, columns, rows, map, data, front, back, place, allowed);
-    match answer.taken()? {
-        Taken { kind: kind::WHOLE, stores, rows } => Ok(Drawn::Whole { stores, rows }),
-        Taken { kind: kind::UNFINISHED, stores, rows } => Ok(Drawn::Unfinished { stores, rows }),
-        _ => answer.unknown(),
-    }
+    let form = Form::Strict;
+    Drawn::of(ffi::draw(form, columns, rows, map, data, front, back, place, allowed))
 }

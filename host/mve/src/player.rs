@@ -1,26 +1,52 @@
 //! A loop over a film: one step at a time, told as an event.
 
 use crate::begin::{begin, Unbegun};
-use crate::colour::colour;
-use crate::film::{is_sent, open, shown, step, State, Step};
+use crate::colour::{colour, word_colour};
+use crate::film::{is_sent, open, shown, shown_words, step, State, Step};
 use crate::timer::timer;
-use crate::{Form, Refusal, Rows, ALL_STORES};
+use crate::{Form, Pictures, Refusal, Rows, ALL_STORES};
 use core::fmt;
 
 /// The memory that a film is played in. The library allocates none, so the host lends it.
 ///
 /// Let palette, pictures and place be 0 at first. The lengths are those of
-/// [`PALETTE_BYTES`](crate::PALETTE_BYTES), [`PICTURE_BYTES`](crate::PICTURE_BYTES) and
-/// [`ROOM_BYTES`](crate::ROOM_BYTES), which are enough for every film; pictures may be shorter where
-/// the frame is smaller, and the room where packets of sound are, or where no sound is wanted.
+/// [`PALETTE_BYTES`](crate::PALETTE_BYTES), [`PICTURE_BYTES`](crate::PICTURE_BYTES),
+/// [`PICTURE_WORDS`](crate::PICTURE_WORDS) and [`ROOM_BYTES`](crate::ROOM_BYTES), which are enough for every
+/// film; pictures may be shorter where the frame is smaller, those of the other kind of film may be empty, and
+/// the room may be shorter where packets of sound are, or where no sound is wanted.
+///
+/// To lend no more than a film needs, [`begin`](crate::begin()) it first: its state tells size and kind. Then
+/// [`Player::resume`] from this state.
+///
+/// ```
+/// use mve::{begin, Memory, Pictures, Player, NO_STREAM, PALETTE_BYTES};
+///
+/// fn play(film: &[u8]) -> Result<(), Box<dyn std::error::Error>> {
+///     let (mut palette, mut place) = ([0; PALETTE_BYTES], 0);
+///     let state = begin(film, NO_STREAM, &mut palette, &mut place)?;
+///     let pixels = 64 * state.columns * state.rows;
+///     let (bytes, words) = if state.true_colour { (0, pixels) } else { (pixels, 0) };
+///     let (mut a, mut b) = (vec![0; bytes], vec![0; bytes]);
+///     let (mut c, mut d, mut e) = (vec![0; words], vec![0; words], vec![0; words]);
+///     let memory = Memory {
+///         palette: &mut palette,
+///         pictures: Pictures { a: &mut a, b: &mut b, c: &mut c, d: &mut d, e: &mut e },
+///         place: &mut place,
+///         room: &mut [],
+///     };
+///     let mut player = Player::resume(film, state, memory);
+///     while let Some(event) = player.step()? {
+///         println!("{event:?}");
+///     }
+///     Ok(())
+/// }
+/// ```
 #[derive(Debug)]
 pub struct Memory<'m> {
     /// 256 entries of red, green and blue, 0 to 63.
     pub palette: &'m mut [u8],
-    /// One of the two pictures, a byte a pixel.
-    pub a: &'m mut [u8],
-    /// The other one.
-    pub b: &'m mut [u8],
+    /// Two pictures of bytes and three of words; a film uses those of its kind.
+    pub pictures: Pictures<'m>,
     /// The first block that is not finished.
     pub place: &'m mut usize,
     /// Where samples are written.
@@ -95,8 +121,11 @@ pub struct Picture<'p> {
     pub columns: usize,
     /// Of 8x8 blocks: the picture is 8 times as many pixels high.
     pub rows: usize,
-    /// A palette entry for each pixel, row by row.
+    /// Of an 8-bit film a palette entry for each pixel, row by row; else empty.
     pub pixels: &'p [u8],
+    /// Of a film with true colour a word for each pixel, row by row: see [`word_colour`](crate::word_colour);
+    /// else empty.
+    pub words: &'p [u16],
     /// 256 entries of red, green and blue, 0 to 63.
     pub palette: &'p [u8],
 }
@@ -123,16 +152,22 @@ impl Picture<'_> {
         8 * self.rows
     }
 
-    /// Red, green and blue of each pixel, 8 bits each, row by row; see [`widened`](crate::widened).
+    /// Red, green and blue of each pixel, 8 bits each, row by row; see [`widened`](crate::widened) and
+    /// [`widened_5`](crate::widened_5).
     ///
     /// ```
     /// let palette = [0, 0, 0, 63, 0, 32];
-    /// let picture = mve::Picture { columns: 1, rows: 1, pixels: &[1; 64], palette: &palette };
+    /// let picture =
+    ///     mve::Picture { columns: 1, rows: 1, pixels: &[1; 64], words: &[], palette: &palette };
     /// assert_eq!((picture.width(), picture.height()), (8, 8));
     /// assert!(picture.rgb().eq([[255, 0, 130]; 64]));
+    ///
+    /// let picture = mve::Picture { pixels: &[], words: &[0x7C10; 64], ..picture };
+    /// assert!(picture.rgb().eq([[255, 0, 132]; 64]));
     /// ```
     pub fn rgb(&self) -> impl Iterator<Item = [u8; 3]> + '_ {
-        self.pixels.iter().map(|&entry| colour(self.palette, entry))
+        let entries = self.pixels.iter().map(|&entry| colour(self.palette, entry));
+        entries.chain(self.words.iter().copied().map(word_colour))
     }
 }
 
@@ -191,9 +226,9 @@ impl<'f, 'm> Player<'f, 'm> {
     /// Those of [`step`](crate::step), with the byte of the film. Nothing has changed, so the same step is
     /// refused again.
     pub fn step(&mut self) -> Result<Option<Event<'_>>, RefusedAt> {
-        let Memory { palette, a, b, place, room } = &mut self.memory;
+        let Memory { palette, pictures, place, room } = &mut self.memory;
         let (before, allowed, form) = (self.state, self.allowed, self.form);
-        let stepped = step(self.film, before, palette, a, b, place, room, allowed, form)
+        let stepped = step(self.film, before, palette, pictures, place, room, allowed, form)
             .map_err(|refusal| RefusedAt { refusal, position: before.position })?;
         self.state = stepped.state();
         Ok(match stepped {
@@ -212,9 +247,11 @@ impl<'f, 'm> Player<'f, 'm> {
 
     /// The picture that is shown; it has no pixel before the film has told its size.
     pub fn picture(&self) -> Picture<'_> {
-        let (Memory { palette, a, b, .. }, State { columns, rows, .. }) =
+        let (Memory { palette, pictures, .. }, State { columns, rows, .. }) =
             (&self.memory, self.state);
-        Picture { columns, rows, pixels: shown(&self.state, a, b), palette }
+        let Pictures { a, b, c, d, e } = pictures;
+        let (pixels, words) = (shown(&self.state, a, b), shown_words(&self.state, c, d, e));
+        Picture { columns, rows, pixels, words, palette }
     }
 
     fn samples(&self, bytes: usize) -> Samples<'_> {

@@ -95,11 +95,11 @@ errors! {
     /// An opcode or its head passes its chunk, or bytes follow opcode 0x00 or 0x01.
     Opcode = 3, "an opcode or its head passes its chunk, or bytes follow the chunk's last opcode";
     /// A type or version of opcode that is not taken.
-    Type = 4, "this type or version of opcode is not one of an 8-bit film";
+    Type = 4, "this type or version of opcode is not one that the player takes";
     /// An opcode's body of a wrong length.
     BodyLength = 5, "the opcode's body has a wrong length";
-    /// Columns not 1 to 80, rows not 1 to 60, a wrong true-colour word, or a second size.
-    FrameSize = 6, "the frame size is out of bounds, given twice, or for true colour";
+    /// Columns not 1 to 80, rows not 1 to 60, or a second size.
+    FrameSize = 6, "the frame size is out of bounds or given twice";
     /// A palette range or a colour component that is too large.
     Palette = 7, "a palette range or a colour component is too large";
     /// A palette that has not 768 bytes, or a picture shorter than the frame.
@@ -110,7 +110,7 @@ errors! {
     MapLength = 10, "the map's length does not fit the frame size";
     /// A place above the number of blocks.
     Place = 11, "the place is above the number of blocks";
-    /// A block of code 6.
+    /// A block of code 6 in an 8-bit film.
     Code6 = 12, "the block has code 6, which 8-bit films do not have";
     /// Too few data bytes for a block.
     DataShort = 13, "the packet's data ends before the block's";
@@ -127,6 +127,9 @@ errors! {
     /// A room that is too small for the samples, for a new film or the list of what it lacks, or for a map or
     /// body that is made.
     Room = 19, "a room is too small for what is to be written there";
+    /// A packet with true colour that has not the two bytes of its offset, or whose offset is below 2 or
+    /// behind its end.
+    Parts = 20, "the packet does not say where its second part begins, or it begins outside the packet";
     /// A film that ends without a frame size. Only [`begin`](crate::begin()) meets it.
     NoSize = 21, "the film ends without a frame size";
     /// A position outside the picture. Only [`origin`](crate::origin()) meets it.
@@ -173,12 +176,12 @@ mod tests {
     #[test]
     fn each_number_has_a_text_of_its_own() {
         let numbers = Error::ALL.iter().map(|error| error.number());
-        assert!(numbers.eq((1..=19).chain(21..=26)));
+        assert!(numbers.eq(1..=26));
         let texts: BTreeSet<_> = Error::ALL.iter().map(|error| error.text()).collect();
-        assert_eq!(texts.len(), 25);
+        assert_eq!(texts.len(), 26);
         for number in 0..=600 {
             let named = Error::from_number(number).map(|error| usize::from(error.number()));
-            let is_number = (1..=19).contains(&number) || (21..=26).contains(&number);
+            let is_number = (1..=26).contains(&number);
             assert_eq!(named, is_number.then_some(number));
         }
     }

@@ -193,7 +193,7 @@ mod tests {
             assert_eq!(read.is_some(), stop < 3, "{stop}");
         }
         for wrong in [
-            Numbers { number: 20, ..REFUSED },
+            Numbers { number: 27, ..REFUSED },
             Numbers { bytes: 1, ..REFUSED },
             Numbers { header: 26, ..REFUSED },
             Numbers { number: 1, ..SAVED },

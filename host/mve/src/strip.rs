@@ -81,6 +81,6 @@ mod tests {
         assert_eq!(read(0, usize::MAX), Some(Ok(usize::MAX)));
         assert_eq!(read(2, 0), Some(Err(Error::Chunk)));
         assert_eq!(read(19, 0), Some(Err(Error::Room)));
-        assert_eq!((read(19, 1), read(20, 0), read(99, 0)), (None, None, None));
+        assert_eq!((read(19, 1), read(27, 0), read(99, 0)), (None, None, None));
     }
 }

@@ -1,7 +1,9 @@
 //! The sentences of document 02's W8, run on the proved library. The expected values are worked out by
 //! hand from the documents.
 
-use mve::{begin, open, step, Error, Form, Refusal, Sound, State, Step, Unbegun, NO_STREAM};
+use mve::{
+    begin, open, step, Error, Form, Pictures, Refusal, Sound, State, Step, Unbegun, NO_STREAM,
+};
 
 const HEADER: &[u8] = b"Interplay MVE File\x1A\0\x1A\0\0\x01\x33\x11";
 
@@ -120,7 +122,7 @@ fn refusals() {
     assert_eq!(refused(&with(opcode(0x07, 2, &[0; 8])), 16), (4, 46));
     assert_eq!(refused(&with(opcode(0x07, 1, &[0; 4])), 16), (5, 46));
     assert_eq!(refused(&with(opcode(0x05, 0, &words(&[81, 1]))), 16), (6, 46));
-    assert_eq!(refused(&with(opcode(0x05, 2, &words(&[1, 1, 0, 1]))), 16), (6, 46));
+    assert_eq!(refused(&with(opcode(0x05, 2, &words(&[1, 61, 0, 1]))), 16), (6, 46));
     assert_eq!(
         refused(&with(opcode(0x0C, 0, &[words(&[0, 1]), vec![0, 0, 64]].concat())), 16),
         (7, 46)
@@ -172,8 +174,8 @@ fn steps_go_on() {
     let (mut palette, mut place) = ([0; 768], 5);
     let state = begin(&film, NO_STREAM, &mut palette, &mut place).expect("a size");
     let (mut a, mut b) = (vec![1; 384], vec![2; 384]);
-    let form = Form::Default;
-    let drawn = step(&film, state, &mut palette, &mut a, &mut b, &mut place, &mut [], 6, form);
+    let (pictures, form) = (&mut Pictures::bytes(&mut a, &mut b), Form::Default);
+    let drawn = step(&film, state, &mut palette, pictures, &mut place, &mut [], 6, form);
     // Six blocks of code 1: a store of the place for each.
     assert!(matches!(drawn, Ok(Step::Whole { stores: 6, rows: None, .. })), "{drawn:?}");
     assert_eq!(place, 6);

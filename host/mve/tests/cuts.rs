@@ -1,7 +1,9 @@
 //! The stores of palettes and of opcode 0F (02, W11), on cases worked out by hand: listed, limited and
 //! counted. (`host/compare` has every allowance and every cut, beside the second decoder.)
 
-use mve::{begin, open, step, Error, Form, Refusal, State, Step, NO_STREAM, PALETTE_STORES};
+use mve::{
+    begin, open, step, Error, Form, Pictures, Refusal, State, Step, NO_STREAM, PALETTE_STORES,
+};
 
 const HEADER: &[u8] = b"Interplay MVE File\x1A\0\x1A\0\0\x01\x33\x11";
 
@@ -36,8 +38,7 @@ fn stepped(
         film,
         state,
         &mut palette,
-        &mut [],
-        &mut [],
+        &mut Pictures::default(),
         &mut place,
         &mut [],
         allowed,

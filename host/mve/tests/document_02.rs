@@ -1,7 +1,7 @@
 //! The sentences of document 02's W5, in its order, run on the proved library. The expected values
 //! are worked out by hand from the documents.
 
-use mve::{open, step, Error, Form, Refusal, Sound, State, Step, ROOM_BYTES};
+use mve::{open, step, Error, Form, Pictures, Refusal, Sound, State, Step, ROOM_BYTES};
 
 const HEADER: &[u8; 26] = b"Interplay MVE File\x1A\0\x1A\0\0\x01\x33\x11";
 
@@ -45,8 +45,8 @@ fn film(opcodes: &[Vec<u8>]) -> Vec<u8> {
 /// A step in a room of this length, each byte of it 5A. With what the room holds then.
 fn step_in(film: &[u8], state: State, length: usize) -> (Result<Step, Refusal>, Vec<u8>) {
     let (mut palette, mut place, mut room) = ([0; 768], 0, vec![0x5A; length]);
-    let (a, b, form) = (&mut [], &mut [], Form::Default);
-    let stepped = step(film, state, &mut palette, a, b, &mut place, &mut room, 0, form);
+    let (pictures, form) = (&mut Pictures::default(), Form::Default);
+    let stepped = step(film, state, &mut palette, pictures, &mut place, &mut room, 0, form);
     assert_eq!((palette, place), ([0; 768], 0));
     (stepped, room)
 }

@@ -63,6 +63,7 @@ fn constants() {
         ("MVE_VERSION", mve::VERSION),
         ("MVE_PALETTE_BYTES", mve::PALETTE_BYTES),
         ("MVE_PICTURE_BYTES", mve::PICTURE_BYTES),
+        ("MVE_PICTURE_WORDS", mve::PICTURE_WORDS),
         ("MVE_ROOM_BYTES", mve::ROOM_BYTES),
         ("MVE_MAP_BYTES", mve::MAP_BYTES),
         ("MVE_BODY_BYTES", mve::BODY_BYTES),
@@ -76,7 +77,7 @@ fn constants() {
     let defined = header
         .lines()
         .filter(|line| line.starts_with("#define MVE_") && line.contains(char::is_numeric));
-    assert_eq!(defined.count(), 10, "a constant that the wrapper lacks");
+    assert_eq!(defined.count(), 11, "a constant that the wrapper lacks");
 }
 
 /// The numbers of the enums: of states and answers, of the forms and of the kinds.

@@ -2,8 +2,8 @@
 //! worked out by hand from the documents.
 
 use mve::{
-    begin, check, check_strict, draw, draw_strict, step, Drawn, Error, Form, Refusal, Rows, State,
-    Step, NO_STREAM,
+    begin, check, check_strict, draw, draw_strict, step, Drawn, Error, Form, Pictures, Refusal,
+    Rows, State, Step, NO_STREAM,
 };
 
 fn refused<T>(number: usize, block: usize) -> Result<T, Refusal> {
@@ -54,7 +54,8 @@ impl Calls {
         let (mut a, mut b, mut place) = (vec![1; pixels], vec![5; pixels], 0);
         let mut take = |state| {
             let (palette, room) = (&mut [0; 768], &mut []);
-            step(&film, state, palette, &mut a, &mut b, &mut place, room, 312_000, self.form)
+            let pictures = &mut Pictures::bytes(&mut a, &mut b);
+            step(&film, state, palette, pictures, &mut place, room, 312_000, self.form)
         };
         let sized = begin(&film, NO_STREAM, &mut [0; 768], &mut 0).expect("a size");
         let state = take(sized).expect("0F").state();

@@ -214,20 +214,20 @@ fn figures_of_the_readme() {
     );
     assert!(row(&readme, "Time ")[2].starts_with(&told), "{told}");
 
-    // What a player lends: palette, two pictures, room, place and two answers.
+    // What a player lends: palette, pictures of one kind, room, place and two answers.
     let answers = 2 * mve::numbers::STEPPED_NUMBERS * size_of::<usize>();
-    let lent = mve::PALETTE_BYTES
-        + 2 * mve::PICTURE_BYTES
-        + mve::ROOM_BYTES
-        + size_of::<usize>()
-        + answers;
-    let told = format!("{} bytes at most beside the film", grouped(lent));
+    let lent =
+        |pictures| mve::PALETTE_BYTES + pictures + mve::ROOM_BYTES + size_of::<usize>() + answers;
+    let bytes = grouped(lent(2 * mve::PICTURE_BYTES));
+    let words = grouped(lent(3 * mve::PICTURE_WORDS * size_of::<u16>()));
+    let told = format!("{bytes} bytes at most beside the film, with true colour {words}: ");
     assert!(row(&readme, "Memory that you lend")[2].starts_with(&told), "{told}");
     let in_all = header.lines().find_map(|line| line.trim().strip_prefix("in all "));
-    assert_eq!(in_all.map(str::trim), Some(&*format!("{} bytes", grouped(lent))));
+    let in_all: Vec<_> = in_all.unwrap_or_default().split_whitespace().collect();
+    assert_eq!(in_all, [&*bytes, &*words, "bytes"]);
 }
 
-/// A number with commas: 746,646.
+/// A number with commas: 746,662.
 fn grouped(number: usize) -> String {
     match number {
         0..1000 => number.to_string(),

@@ -2,8 +2,8 @@
 //! worked out by hand from the documents.
 
 use mve::{
-    begin, check, check_strict, draw, draw_strict, step, Drawn, Error, Form, Refusal, Rows, Step,
-    NO_STREAM,
+    begin, check, check_strict, draw, draw_strict, step, Drawn, Error, Form, Pictures, Refusal,
+    Rows, Step, NO_STREAM,
 };
 
 const fn rows(first: usize, last: usize) -> Option<Rows> {
@@ -122,8 +122,8 @@ fn steps() {
         let mut told = Vec::new();
         loop {
             let found = (a, b);
-            let step =
-                step(&film, state, &mut palette, &mut a, &mut b, &mut place, &mut [], 66, form);
+            let pictures = &mut Pictures::bytes(&mut a, &mut b);
+            let step = step(&film, state, &mut palette, pictures, &mut place, &mut [], 66, form);
             let step = step.expect("a good film");
             match step {
                 Step::Whole { stores, rows, .. } => told.push((true, stores, rows)),

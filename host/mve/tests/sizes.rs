@@ -1,7 +1,9 @@
 //! The sentences of document 02's W1, run on the proved library. The expected values are worked out
 //! by hand from the documents.
 
-use mve::{begin, check, draw, shown, step, Error, Form, Refusal, State, Step, NO_STREAM};
+use mve::{
+    begin, check, draw, shown, step, Error, Form, Pictures, Refusal, State, Step, NO_STREAM,
+};
 
 /// The pixels of a picture of 640 by 480.
 const LARGEST: usize = 640 * 480;
@@ -17,7 +19,8 @@ fn film(columns: u16, rows: u16) -> Vec<u8> {
 /// Steps with pictures of so many bytes.
 fn step_with(film: &[u8], state: State, pixels: usize) -> Result<Step, Refusal> {
     let (mut a, mut b) = (vec![0; pixels], vec![0; pixels]);
-    step(film, state, &mut [0; 768], &mut a, &mut b, &mut 0, &mut [], 0, Form::Default)
+    let pictures = &mut Pictures::bytes(&mut a, &mut b);
+    step(film, state, &mut [0; 768], pictures, &mut 0, &mut [], 0, Form::Default)
 }
 
 /// The state behind the 05 of a film, which is its first opcode.

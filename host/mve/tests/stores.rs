@@ -5,7 +5,8 @@
 //! else stores is read from the sources, since no contract says which function stores. The numbers of
 //! an answer, which are no part of a film's memory, are stored by some functions of `mve_states` and
 //! `mve_steps`, to `out` alone; `parts::put_number` stores a number of a list, `video1::put` a pixel of a
-//! Video 1 frame, and `encode::put` a byte of a map or a packet that is made.
+//! Video 1 frame, `encode::put` a byte of a map or a packet that is made, and `word_paint::put_word` a
+//! pixel of a film with true colour.
 //!
 //! Rattle stores by assignment alone; slices have no methods that do. Lent memory is assigned to by
 //! an index, through a reference, or as a field: an assignment to a mere name is to the function's
@@ -17,7 +18,7 @@ use std::fs;
 use std::path::{Path, PathBuf};
 
 /// The functions that store, in the order of their names.
-const STORING: [&str; 10] = [
+const STORING: [&str; 11] = [
     "dpcm::put",
     "dpcm::put_start_byte",
     "encode::put",
@@ -28,10 +29,12 @@ const STORING: [&str; 10] = [
     "room::put_byte",
     "room::put_value",
     "video1::put",
+    "word_paint::put_word",
 ];
 
 /// The functions that store numbers of an answer, in the order of their names.
-const ANSWERING: [&str; 9] = [
+const ANSWERING: [&str; 10] = [
+    "mve_states::put_deep",
     "mve_states::put_format",
     "mve_states::put_map",
     "mve_states::put_no_state",

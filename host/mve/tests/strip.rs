@@ -1,7 +1,7 @@
 //! The sentences of document 02's W14, in its order, run on the proved library. The expected values are
 //! worked out by hand from the documents.
 
-use mve::{strip, Error, Event, Memory, Player, NO_STREAM, PALETTE_BYTES, ROOM_BYTES};
+use mve::{strip, Error, Event, Memory, Pictures, Player, NO_STREAM, PALETTE_BYTES, ROOM_BYTES};
 
 const HEADER: &[u8; 26] = b"Interplay MVE File\x1A\0\x1A\0\0\x01\x33\x11";
 
@@ -106,8 +106,8 @@ fn chunks() {
 fn played(film: &[u8], stream: usize, room: usize) -> (Vec<Vec<u8>>, Option<Error>) {
     let (mut a, mut b, mut place) = (vec![3; 64], vec![4; 64], 0);
     let (mut palette, mut room) = ([9; PALETTE_BYTES], vec![0; room]);
-    let memory =
-        Memory { palette: &mut palette, a: &mut a, b: &mut b, place: &mut place, room: &mut room };
+    let pictures = Pictures::bytes(&mut a, &mut b);
+    let memory = Memory { palette: &mut palette, pictures, place: &mut place, room: &mut room };
     let mut player = Player::open(film, stream, memory).expect("a header");
     let mut events = Vec::new();
     loop {

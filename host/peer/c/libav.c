@@ -20,6 +20,7 @@ struct event {
     int error;        /* of END and FAULT: libav's number; 0 at the end of the film */
     int width;        /* of PICTURE, in pixels */
     int height;       /* the same */
+    int deep;         /* the same: 1 with true colour */
     int channels;     /* of SAMPLES */
     int sample_bytes; /* the same: 1 or 2 */
     int samples;      /* the same, of one channel */
@@ -189,8 +190,9 @@ static struct event event_of(const struct player *player)
         if (bytes)
             return (struct event){.kind = SAMPLES, .channels = channels_of(frame), .sample_bytes = bytes,
                                   .samples = frame->nb_samples};
-    } else if (frame->format == AV_PIX_FMT_PAL8) {
-        return (struct event){.kind = PICTURE, .width = frame->width, .height = frame->height};
+    } else if (frame->format == AV_PIX_FMT_PAL8 || frame->format == AV_PIX_FMT_RGB555) {
+        return (struct event){.kind = PICTURE, .width = frame->width, .height = frame->height,
+                              .deep = frame->format == AV_PIX_FMT_RGB555};
     }
     return (struct event){.kind = FAULT, .error = AVERROR_PATCHWELCOME};
 }
@@ -229,6 +231,15 @@ void libav_picture(const struct player *player, uint8_t *pixels, uint8_t *colour
         for (int component = 0; component < 3; component++)
             *colours++ = (uint8_t)(colour >> (16 - 8 * component));
     }
+}
+
+/* Writes the words of the picture with true colour decoded last, row by row. */
+void libav_words(const struct player *player, uint16_t *words)
+{
+    const AVFrame *frame = player->frame;
+    for (int y = 0; y < frame->height; y++)
+        memcpy(words + (ptrdiff_t)y * frame->width, frame->data[0] + (ptrdiff_t)y * frame->linesize[0],
+               (size_t)frame->width * sizeof *words);
 }
 
 /* Writes the samples decoded last, left and right in turn. */

@@ -27,6 +27,7 @@ struct RawEvent {
     error: c_int,
     width: c_int,
     height: c_int,
+    deep: c_int,
     channels: c_int,
     sample_bytes: c_int,
     samples: c_int,
@@ -39,6 +40,7 @@ unsafe extern "C" {
     fn libav_close(player: *mut RawPlayer);
     fn libav_next(player: *mut RawPlayer) -> RawEvent;
     fn libav_picture(player: *const RawPlayer, pixels: *mut u8, colours: *mut u8);
+    fn libav_words(player: *const RawPlayer, words: *mut u16);
     fn libav_samples(player: *const RawPlayer, bytes: *mut u8);
     fn libav_trailer_open(width: c_int, height: c_int) -> *mut RawTrailer;
     fn libav_trailer_close(trailer: *mut RawTrailer);
@@ -91,7 +93,10 @@ impl<'a> Player<'a> {
         let event = unsafe { libav_next(self.raw.as_ptr()) };
         match event.kind {
             0 => Event::End(Some(event.error).filter(|&error| error != 0)),
-            1 => Event::Picture(self.picture(size(event.width), size(event.height))),
+            1 if event.deep == 0 => {
+                Event::Picture(self.picture(size(event.width), size(event.height)))
+            }
+            1 => Event::Picture(self.words(size(event.width), size(event.height))),
             2 => Event::Samples(self.samples(&event)),
             _ => Event::Fault(event.error),
         }
@@ -103,7 +108,16 @@ impl<'a> Player<'a> {
         // SAFETY: the player is open; it writes a byte for each pixel of the size that it told, and
         // three for each of 256 entries, which are the lengths of the slices.
         unsafe { libav_picture(self.raw.as_ptr(), pixels.as_mut_ptr(), colours.as_mut_ptr()) };
-        Picture { width, height, pixels, colours }
+        Picture { width, height, pixels, words: Vec::new(), colours }
+    }
+
+    /// The picture with true colour decoded last, which has this size.
+    fn words(&self, width: usize, height: usize) -> Picture {
+        let mut words = vec![0; width * height];
+        // SAFETY: the player is open; it writes a word for each pixel of the size that it told, which is the
+        // length of the slice.
+        unsafe { libav_words(self.raw.as_ptr(), words.as_mut_ptr()) };
+        Picture { width, height, pixels: Vec::new(), words, colours: Vec::new() }
     }
 
     /// The samples decoded last.

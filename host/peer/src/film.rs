@@ -1,11 +1,12 @@
 //! Seeded films that libavformat and libavcodec play as the documents say: the chunks of real films
-//! (003, "Typical chunk formations"), every form of block, palettes by 0C, the odd byte, and sound
-//! of stream 0 in every format. docs/PEERS.md lists what these films must not have.
+//! (003, "Typical chunk formations"), every form of block, 8-bit or with true colour, palettes by 0C, the odd
+//! byte, and sound of stream 0 in every format. docs/PEERS.md lists what these films must not have.
 
 use maker::film::{init_video, packet_opcodes, Chunk, Film, Opcode};
 use maker::form::Block;
 use maker::packet::Draft;
 use maker::sound::{self, Format, Track};
+use maker::words::{WordBlock, WordDraft, WordForm, SOLID};
 use maker::{Form, Seeded, Size};
 use std::collections::BTreeSet;
 
@@ -31,6 +32,15 @@ const PICTURE_BYTES: usize = 36_000;
 /// Samples of a channel in a packet; 12,000 bytes at most.
 const SAMPLES: usize = 3000;
 
+/// What a pixel is.
+#[derive(Clone, Copy, Debug, PartialEq, Eq)]
+pub enum Width {
+    /// A byte: an 8-bit film.
+    Bytes,
+    /// A word: a film with true colour.
+    Words,
+}
+
 /// A film, and what is in it.
 #[derive(Clone, Debug)]
 pub struct Plain {
@@ -38,16 +48,23 @@ pub struct Plain {
     pub film: Film,
     /// The format of its sound, if it has any.
     pub format: Option<Format>,
-    /// The forms of its blocks.
+    /// The forms of its blocks, where it is 8-bit.
     pub forms: BTreeSet<Form>,
+    /// The forms of its blocks, where it has true colour.
+    pub word_forms: BTreeSet<WordForm>,
     /// The palette changes, each an opcode 0C.
     pub palettes: usize,
     /// The pictures whose data has a byte left over.
     pub odd: usize,
 }
 
-/// The film of a case. The first two of every seed have the smallest and the largest size.
+/// The 8-bit film of a case.
 pub fn plain(seed: u64, number: u64) -> Plain {
+    of(Width::Bytes, seed, number)
+}
+
+/// The film of a case. The first two of every seed have the smallest and the largest size.
+pub fn of(width: Width, seed: u64, number: u64) -> Plain {
     let rng = &mut Seeded::new(Seeded::new(seed).number().wrapping_add(number));
     let size = match number {
         0 => Size::new(1, 1),
@@ -55,7 +72,7 @@ pub fn plain(seed: u64, number: u64) -> Plain {
         _ => any_size(rng),
     };
     let format = if rng.one_in(5) { None } else { Some(rng.pick(&Format::ALL)) };
-    Maker::new(size, format).film(rng)
+    Maker::new(width, size, format).film(rng)
 }
 
 fn any_size(rng: &mut Seeded) -> Size {
@@ -68,6 +85,7 @@ fn any_size(rng: &mut Seeded) -> Size {
 
 /// A film in the making.
 struct Maker {
+    width: Width,
     size: Size,
     track: Track,
     format: Option<Format>,
@@ -75,19 +93,22 @@ struct Maker {
     pictures: usize,
     chunks: Vec<Chunk>,
     forms: BTreeSet<Form>,
+    word_forms: BTreeSet<WordForm>,
     palettes: usize,
     odd: usize,
 }
 
 impl Maker {
-    fn new(size: Size, format: Option<Format>) -> Maker {
+    fn new(width: Width, size: Size, format: Option<Format>) -> Maker {
         Maker {
+            width,
             size,
             track: Track::new(STREAM),
             format,
             pictures: 0,
             chunks: Vec::new(),
             forms: BTreeSet::new(),
+            word_forms: BTreeSet::new(),
             palettes: 0,
             odd: 0,
         }
@@ -104,15 +125,18 @@ impl Maker {
             }
         }
         let tail = self.end(rng);
-        let Maker { size, format, chunks, forms, palettes, odd, .. } = self;
+        let Maker { size, format, chunks, forms, word_forms, palettes, odd, .. } = self;
         let film = Film { size, stream: STREAM, chunks, tail };
-        Plain { film, format, forms, palettes, odd }
+        Plain { film, format, forms, word_forms, palettes, odd }
     }
 
     /// Size and palette, then the format of the sound. libavformat opens a film only if its first
     /// chunk is of type 2 and its second of type 0 or 3; the format may come later, too.
     fn opening(&mut self, rng: &mut Seeded) {
-        let mut opcodes = vec![init_video(self.size)];
+        let mut opcodes = vec![match self.width {
+            Width::Bytes => init_video(self.size),
+            Width::Words => init_words(rng, self.size),
+        }];
         let at = rng.below(2);
         opcodes.splice(at..at, self.some_palettes(rng, 2));
         self.close(rng, INIT_VIDEO, opcodes);
@@ -179,12 +203,23 @@ impl Maker {
 
     /// The opcodes 0F and 11 of the next picture, one in three with a byte left over.
     fn picture(&mut self, rng: &mut Seeded) -> [Opcode; 2] {
-        let of = forms(rng, self.pictures);
-        let draft = draft(rng, self.size, &of);
+        let mut packet = match self.width {
+            Width::Bytes => {
+                let of = forms(rng, self.pictures);
+                let draft = draft(rng, self.size, &of);
+                let forms = draft.blocks.iter().map(|block| Form::of(block.code, &block.data));
+                self.forms.extend(forms.flatten());
+                draft.packet()
+            }
+            Width::Words => {
+                let of = word_forms(rng, self.pictures);
+                let draft = word_draft(rng, self.size, &of);
+                let forms = draft.blocks.iter().map(|block| WordForm::of(block.code, &block.first));
+                self.word_forms.extend(forms.flatten());
+                draft.packet()
+            }
+        };
         self.pictures += 1;
-        self.forms
-            .extend(draft.blocks.iter().filter_map(|block| Form::of(block.code, &block.data)));
-        let mut packet = draft.packet();
         if rng.one_in(3) {
             packet.data.push(rng.byte());
             self.odd += 1;
@@ -258,6 +293,51 @@ fn draft(rng: &mut Seeded, size: Size, of: &[Form]) -> Draft {
     });
     let blocks = blocks.collect();
     Draft { size, blocks, spare: rng.byte() & 0x0F, over: Vec::new() }
+}
+
+/// Opcode 05 of a film with true colour: version 2, and a word that is not 0.
+fn init_words(rng: &mut Seeded, size: Size) -> Opcode {
+    let far = rng.between(1, 0xFFFF) as u16;
+    let word = rng.pick(&[1, 1, 0x0100, far]);
+    let words = [size.columns as u16, size.rows as u16, rng.number() as u16, word];
+    Opcode::new(0x05, 2, words.map(u16::to_le_bytes).concat())
+}
+
+/// The forms for the blocks of a picture with true colour, likewise.
+fn word_forms(rng: &mut Seeded, pictures: usize) -> Vec<WordForm> {
+    let is_fit = |form: &WordForm| match form.code {
+        0x0 | 0x4 | 0x5 => pictures >= 1,
+        0x1 | 0x2 | 0x6 | 0xF => pictures >= 2,
+        _ => true,
+    };
+    let fit: Vec<WordForm> = WordForm::ALL.into_iter().filter(is_fit).collect();
+    let of_codes = |low, high| {
+        let of = fit.iter().filter(|form| (low..=high).contains(&form.code));
+        of.copied().collect()
+    };
+    match rng.below(8) {
+        0 => vec![rng.pick(&fit)],
+        1 => of_codes(0x0, 0x6),
+        2 => of_codes(0x7, 0xA),
+        _ => fit,
+    }
+}
+
+/// Blocks of these forms; solid ones as in [`draft`], counted by the bytes of the first part.
+fn word_draft(rng: &mut Seeded, size: Size, of: &[WordForm]) -> WordDraft {
+    let mut used = 0;
+    let blocks = (0..size.blocks()).map(|number| {
+        let room = PICTURE_BYTES * (number + 1) / size.blocks() - used;
+        let block = rng.pick(of).block(rng, size, number);
+        let block: WordBlock = block
+            .filter(|block| block.first.len() + block.second.len() <= room)
+            .or_else(|| SOLID.block(rng, size, number))
+            .expect("a solid block has no vector");
+        used += block.first.len() + block.second.len();
+        block
+    });
+    let blocks = blocks.collect();
+    WordDraft { size, blocks, spare: rng.byte() & 0x0F, over: Vec::new() }
 }
 
 /// Opcode 0C.

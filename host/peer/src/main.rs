@@ -1,5 +1,6 @@
 //! A long comparison of the proved library with libavformat and libavcodec, run by hand:
-//! `peer COUNT SEED` plays films, `peer COUNT SEED trailers` decodes frames of Microsoft Video 1.
+//! `peer COUNT SEED` plays 8-bit films, `peer COUNT SEED words` films with true colour, `peer COUNT SEED trailers`
+//! decodes frames of Microsoft Video 1.
 
 use peer::comparison::Tally;
 use peer::{libav, trailers};
@@ -12,11 +13,10 @@ const PROGRESS: Duration = Duration::from_secs(10);
 
 fn main() -> ExitCode {
     let arguments: Vec<String> = env::args().skip(1).collect();
-    let Some((count, seed, of_trailers)) = parsed(&arguments) else {
-        eprintln!("usage: peer COUNT SEED [trailers]");
+    let Some((count, seed, run)) = parsed(&arguments) else {
+        eprintln!("usage: peer COUNT SEED [words | trailers]");
         return ExitCode::from(2);
     };
-    let run = if of_trailers { long_trailers } else { long };
     match libav::versions().and_then(|peer| run(&peer, count, seed)) {
         Ok(compared) => {
             println!("{compared}");
@@ -29,14 +29,23 @@ fn main() -> ExitCode {
     }
 }
 
-/// Count, seed, and whether frames of Microsoft Video 1 are asked for.
-fn parsed(arguments: &[String]) -> Option<(u64, u64, bool)> {
-    let (count, seed, of_trailers) = match arguments {
-        [count, seed] => (count, seed, false),
-        [count, seed, name] if name == "trailers" => (count, seed, true),
+/// Compares so many cases of a seed; what was compared, in words.
+type Run = fn(&str, u64, u64) -> Result<String, String>;
+
+/// Count, seed, and what is asked for.
+fn parsed(arguments: &[String]) -> Option<(u64, u64, Run)> {
+    let (count, seed, run): (_, _, Run) = match arguments {
+        [count, seed] => (count, seed, |peer, count, seed| long(peer, count, seed, Tally::compare)),
+        [count, seed, name] => match &**name {
+            "words" => {
+                (count, seed, |peer, count, seed| long(peer, count, seed, Tally::compare_deep))
+            }
+            "trailers" => (count, seed, long_trailers),
+            _ => return None,
+        },
         _ => return None,
     };
-    Some((count.parse().ok()?, seed.parse().ok()?, of_trailers))
+    Some((count.parse().ok()?, seed.parse().ok()?, run))
 }
 
 /// Compares so many cases of frames of Microsoft Video 1; what was compared, in words.
@@ -50,11 +59,16 @@ fn long_trailers(peer: &str, count: u64, seed: u64) -> Result<String, String> {
 }
 
 /// Compares so many films; what was compared, in words.
-fn long(peer: &str, count: u64, seed: u64) -> Result<String, String> {
+fn long(
+    peer: &str,
+    count: u64,
+    seed: u64,
+    compare: fn(&mut Tally, u64, u64) -> Result<(), String>,
+) -> Result<String, String> {
     let mut tally = Tally::default();
     let mut told = Instant::now();
     for number in 0..count {
-        let compared = tally.compare(seed, number);
+        let compared = compare(&mut tally, seed, number);
         compared.map_err(|what| format!("seed {seed}, film {number}: {what}"))?;
         if told.elapsed() >= PROGRESS {
             told = Instant::now();

@@ -1,7 +1,8 @@
 //! Films as the proved library plays them.
 
 use crate::played::{Picture, Played, Recording, PALETTE_BYTES};
-use mve::{Event, Memory, Picture as Shown, Player, Refusal, Samples, PICTURE_BYTES, ROOM_BYTES};
+use mve::{Event, Memory, Picture as Shown, Pictures, Player, Refusal, Samples};
+use mve::{PICTURE_BYTES, PICTURE_WORDS, ROOM_BYTES};
 
 /// What the library makes of a film.
 #[derive(Clone, Debug, PartialEq, Eq)]
@@ -21,11 +22,12 @@ pub fn play(film: &[u8], stream: usize) -> Account {
 }
 
 fn walk(film: &[u8], stream: usize, played: &mut Played) -> Result<(), Refusal> {
-    let (mut a, mut b) = (vec![0; PICTURE_BYTES], vec![0; PICTURE_BYTES]);
+    let [mut a, mut b] = [(); 2].map(|()| vec![0; PICTURE_BYTES]);
+    let [mut c, mut d, mut e] = [(); 3].map(|()| vec![0; PICTURE_WORDS]);
+    let pictures = Pictures { a: &mut a, b: &mut b, c: &mut c, d: &mut d, e: &mut e };
     let (mut palette, mut room) = (vec![0; PALETTE_BYTES], vec![0; ROOM_BYTES]);
     let mut place = 0;
-    let memory =
-        Memory { palette: &mut palette, a: &mut a, b: &mut b, place: &mut place, room: &mut room };
+    let memory = Memory { palette: &mut palette, pictures, place: &mut place, room: &mut room };
     let mut player = Player::begin(film, stream, memory).map_err(|unbegun| unbegun.refusal)?;
     while let Some(event) = player.step().map_err(|refused| refused.refusal)? {
         match event {
@@ -42,6 +44,7 @@ fn picture(shown: Shown<'_>) -> Picture {
         width: shown.width(),
         height: shown.height(),
         pixels: shown.pixels.to_vec(),
+        words: shown.words.to_vec(),
         colours: shown.palette.to_vec(),
     }
 }

@@ -10,9 +10,11 @@ pub struct Picture {
     pub width: usize,
     /// Rows of pixels.
     pub height: usize,
-    /// A palette entry for each pixel, row by row.
+    /// Of an 8-bit film a palette entry for each pixel, row by row; else empty.
     pub pixels: Vec<u8>,
-    /// Red, green and blue of each palette entry.
+    /// Of a film with true colour a word for each pixel, row by row; else empty.
+    pub words: Vec<u16>,
+    /// Red, green and blue of each palette entry; by libav empty where the film has true colour.
     pub colours: Vec<u8>,
 }
 

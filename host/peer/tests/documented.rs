@@ -4,7 +4,7 @@ use std::collections::BTreeSet;
 use std::fs;
 use std::path::Path;
 
-const MODULES: [&str; 5] = ["chunks", "colours", "pictures", "sounds", "trailers"];
+const MODULES: [&str; 6] = ["chunks", "colours", "pictures", "sounds", "trailers", "words"];
 
 fn read(path: &str) -> String {
     let path = Path::new(env!("CARGO_MANIFEST_DIR")).join(path);

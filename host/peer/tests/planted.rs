@@ -2,7 +2,7 @@
 //! libav, which is the library's own to begin with.
 
 use peer::comparison::compare;
-use peer::film::{plain, STREAM};
+use peer::film::{of, plain, Width, STREAM};
 use peer::{libav, ours};
 
 /// A film with several pictures and stereo sound of 16 bits.
@@ -46,6 +46,20 @@ fn pictures() {
     assert_begins(&found_width, "picture 0: size: ");
     let found_missing = found(|theirs| theirs.played.pictures.truncate(2));
     assert_begins(&found_missing, "pictures: ");
+}
+
+/// With true colour all bits but the highest one count.
+#[test]
+fn words() {
+    let ours = ours::play(&of(Width::Words, SEED, 2).film.bytes(), STREAM);
+    for (bit, is_found) in [(0, true), (14, true), (15, false)] {
+        let mut theirs =
+            libav::Account { played: ours.played.clone(), ..libav::Account::default() };
+        assert_eq!(compare(&ours, &theirs), Ok(()));
+        theirs.played.pictures[1].words[63] ^= 1 << bit;
+        let found = compare(&ours, &theirs).err();
+        assert_eq!(found.is_some_and(|what| what.starts_with("picture 1: word 63: ")), is_found);
+    }
 }
 
 fn last_sample(theirs: &mut libav::Account) -> &mut u8 {

@@ -4,9 +4,10 @@
 //! as 000000.ppm, 000001.ppm and so on, and the sound of stream STREAM (0 to 15, 0 if it is not
 //! given; above 15 none) as 000000.wav; where format or rate changes 000001.wav begins, and so on.
 //! The heading of each picture says, in a line like "# rows 3 to 5" or "# rows none", which rows of
-//! blocks were touched since this one of the two pictures was last sent: all that a display with a
+//! blocks were touched since this one of the film's pictures was last sent: all that a display with a
 //! copy of each needs to be sent. A second line, like "# at 400000 us", says when to show it: so many
-//! microseconds after the film's begin, by its timer (opcode 0x02).
+//! microseconds after the film's begin, by its timer (opcode 0x02). 8-bit films and films with true
+//! colour are played alike.
 //! FOLDER must be there and hold no name that ends in .ppm or .wav. Every step is allowed ALLOWANCE
 //! stores; when they do not suffice, the player is stopped as a watchdog would stop it, and goes on. A
 //! drawing goes on from its place. A palette begins again with its first store; so a step that came no
@@ -19,7 +20,8 @@
 mod sound;
 mod unsent;
 
-use mve::{Form, Refusal, Rows, State, Step, PALETTE_BYTES, PICTURE_BYTES, ROOM_BYTES};
+use mve::{Form, Pictures, Refusal, Rows, State, Step};
+use mve::{PALETTE_BYTES, PICTURE_BYTES, PICTURE_WORDS, ROOM_BYTES};
 use sound::{Failed, Format, Sound};
 use std::env;
 use std::ffi::{OsStr, OsString};
@@ -70,8 +72,10 @@ struct Kept {
     /// Which of the two is the saved one.
     holds: AtomicUsize,
     palette: [u8; PALETTE_BYTES],
-    a: Vec<u8>,
-    b: Vec<u8>,
+    /// Of an 8-bit film.
+    bytes: [Vec<u8>; 2],
+    /// Of a film with true colour.
+    words: [Vec<u16>; 3],
     place: usize,
 }
 
@@ -140,8 +144,8 @@ impl Kept {
             }; 2],
             holds: AtomicUsize::new(0),
             palette: [0; PALETTE_BYTES],
-            a: vec![0; PICTURE_BYTES],
-            b: vec![0; PICTURE_BYTES],
+            bytes: [(); 2].map(|()| vec![0; PICTURE_BYTES]),
+            words: [(); 3].map(|()| vec![0; PICTURE_WORDS]),
             place: 0,
         }
     }
@@ -224,8 +228,9 @@ fn run(kept: &mut Kept, arguments: &Arguments, watchdog: &mut Watchdog) -> Resul
     loop {
         let Saved { state, sound, mut unsent, mut clock } = kept.load();
         let found = kept.place;
-        let Kept { palette, a, b, place, .. } = kept;
-        let step = mve::step(&film, state, palette, a, b, place, &mut room, watchdog.allowed, form);
+        let Kept { palette, bytes: [a, b], words: [c, d, e], place, .. } = kept;
+        let (pictures, allowed) = (&mut Pictures { a, b, c, d, e }, watchdog.allowed);
+        let step = mve::step(&film, state, palette, pictures, place, &mut room, allowed, form);
         let step = match step {
             Ok(step) => step,
             Err(refusal) => {
@@ -245,7 +250,7 @@ fn run(kept: &mut Kept, arguments: &Arguments, watchdog: &mut Watchdog) -> Resul
             }
             Step::Taken { state: next, bytes, .. } => (next, bytes),
             Step::Whole { state: next, rows, .. } => {
-                unsent.touch(state.front, rows);
+                unsent.touch(&state, rows);
                 (next, 0)
             }
         };
@@ -320,12 +325,11 @@ fn ppm(kept: &Kept, state: &State, rows: Option<Rows>, at: u64) -> Vec<u8> {
     };
     let (width, height) = (state.width(), state.height());
     let heading = format!("P6\n# rows {rows}\n# at {at} us\n{width} {height}\n255\n");
-    let pixels = mve::shown(state, &kept.a, &kept.b).iter();
-    heading
-        .into_bytes()
-        .into_iter()
-        .chain(pixels.flat_map(|&pixel| mve::colour(&kept.palette, pixel)))
-        .collect()
+    let ([a, b], [c, d, e]) = (&kept.bytes, &kept.words);
+    // Of the film's own kind; of the other one nothing is shown.
+    let bytes = mve::shown(state, a, b).iter().map(|&pixel| mve::colour(&kept.palette, pixel));
+    let words = mve::shown_words(state, c, d, e).iter().copied().map(mve::word_colour);
+    heading.into_bytes().into_iter().chain(bytes.chain(words).flatten()).collect()
 }
 
 /// Whether the folder holds a name that ends in .ppm or .wav, whatever its number.

@@ -3,7 +3,7 @@
 //! the refusal that it meets.
 
 use maker::film_damage::{self, Damage};
-use maker::{demo, sound, Seeded};
+use maker::{demo, sound, true_colour, Seeded};
 use reference::begin::begin;
 use reference::pictures;
 use std::collections::BTreeSet;
@@ -92,6 +92,7 @@ fn counts_and_refuses() {
             // It may have no size, which is 21.
             let said = assert_said(&program, &sound::valid(rng, 0).bytes());
             assert!(matches!(said, None | Some(21)), "{said:?}");
+            assert_eq!(assert_said(&program, &true_colour::with_frames(rng, 3).bytes()), None);
             for damage in Damage::ALL {
                 numbers.extend(assert_said(&program, &film_damage::damaged(rng, damage)));
             }

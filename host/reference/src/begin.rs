@@ -34,6 +34,7 @@ pub fn begin(
             picture_b: &mut [],
             place: &mut new_place,
             room: &mut room,
+            words: Default::default(),
         };
         let refusal = match step(film, state, lent, STORES_A_STEP) {
             Stepped::Taken(next, ..) | Stepped::Whole(next, ..) | Stepped::Unfinished(next, ..) => {

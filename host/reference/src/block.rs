@@ -62,7 +62,7 @@ impl BlockCopy {
 }
 
 /// Whether eight pixels from `corner` moved by `offset` lie inside `extent`.
-fn fits(corner: usize, offset: isize, extent: usize) -> bool {
+pub(crate) fn fits(corner: usize, offset: isize, extent: usize) -> bool {
     corner
         .checked_add_signed(offset)
         .and_then(|start| start.checked_add(BLOCK_SIDE))
@@ -112,7 +112,7 @@ pub fn copy(code: u8, data: &[u8]) -> Option<BlockCopy> {
 }
 
 /// The vector of code 2: to the right of the block, or below it.
-fn right_and_down(byte: u8) -> (isize, isize) {
+pub(crate) fn right_and_down(byte: u8) -> (isize, isize) {
     let b = isize::from(byte);
     if b < 56 {
         (8 + b % 7, b / 7)
@@ -122,18 +122,18 @@ fn right_and_down(byte: u8) -> (isize, isize) {
 }
 
 /// The vector of code 3: that of code 2 negated.
-fn left_and_up(byte: u8) -> (isize, isize) {
+pub(crate) fn left_and_up(byte: u8) -> (isize, isize) {
     let (dx, dy) = right_and_down(byte);
     (-dx, -dy)
 }
 
 /// The vector of code 4: x in the low nibble, y in the high one, both less 8.
-fn around(byte: u8) -> (isize, isize) {
+pub(crate) fn around(byte: u8) -> (isize, isize) {
     (isize::from(byte & 0x0F) - 8, isize::from(byte >> 4) - 8)
 }
 
 /// A byte of code 5's vector, in two's complement.
-fn signed(byte: u8) -> isize {
+pub(crate) fn signed(byte: u8) -> isize {
     isize::from(byte as i8)
 }
 

@@ -6,10 +6,11 @@
 //! state, on memory as the cut left it.
 
 use crate::film::{self, opcode, Lent, State, Stepped};
-use crate::frame::FrameSize;
+use crate::frame::{FrameSize, BLOCK_PIXELS};
 use crate::packet::{self, CallForm};
 use crate::palette::{self, Entry};
 use crate::refusal::Refusal;
+use crate::word_packet;
 
 /// Stores that each call is allowed that is not cut: none has more.
 pub const STORES_A_STEP: usize = 312_000;
@@ -30,6 +31,15 @@ pub enum Store {
         /// Its new value.
         value: u8,
     },
+    /// A pixel of a picture of words.
+    Word {
+        /// Which picture, 0 to 2.
+        picture: usize,
+        /// Which pixel.
+        index: usize,
+        /// Its new value.
+        value: u16,
+    },
     /// The place.
     Place(usize),
 }
@@ -41,6 +51,8 @@ pub struct Memory {
     pub palette: Vec<u8>,
     /// The two pictures.
     pub pictures: [Vec<u8>; 2],
+    /// The three pictures of words.
+    pub words: [Vec<u16>; 3],
     /// The place.
     pub place: usize,
 }
@@ -51,6 +63,7 @@ impl Memory {
         match store {
             Store::Colour(palette::Store { index, value }) => self.palette[index] = value,
             Store::Pixel { picture, index, value } => self.pictures[picture][index] = value,
+            Store::Word { picture, index, value } => self.words[picture][index] = value,
             Store::Place(place) => self.place = place,
         }
     }
@@ -63,8 +76,9 @@ impl Memory {
     }
 
     fn lent<'a>(&'a mut self, room: &'a mut [u8]) -> Lent<'a> {
-        let Memory { palette, pictures: [picture_a, picture_b], place } = self;
-        Lent { palette, picture_a, picture_b, place, room }
+        let Memory { palette, pictures: [picture_a, picture_b], words, place } = self;
+        let words = words.each_mut().map(Vec::as_mut_slice);
+        Lent { palette, picture_a, picture_b, place, room, words }
     }
 }
 
@@ -84,6 +98,7 @@ pub fn listed(form: CallForm, film: &[u8], state: &State, memory: &Memory) -> Ve
         opcode::PALETTE => palette::palette_entries(body).map(colours),
         opcode::PALETTE_COMPRESSED => palette::compressed_entries(body).map(colours),
         opcode::MAP => Ok(vec![Store::Place(0)]),
+        opcode::VIDEO if state.true_colour => word_drawing(form, film, body, state, memory),
         opcode::VIDEO => drawing(form, film, body, state, memory),
         _ => Ok(Vec::new()),
     };
@@ -121,11 +136,40 @@ fn drawing(
     Ok(stores)
 }
 
+/// The same with true colour: every block has its pixels stored.
+fn word_drawing(
+    form: CallForm,
+    film: &[u8],
+    body: &[u8],
+    state: &State,
+    memory: &Memory,
+) -> Result<Vec<Store>, Refusal> {
+    let size = FrameSize::new(state.columns, state.rows)?;
+    let map = state.map.and_then(|map| map.of(film)).unwrap_or_default();
+    let (picture, place) = ((state.front + 1) % 3, memory.place);
+    let (last, oldest) = (&memory.words[state.front], &memory.words[(state.front + 2) % 3]);
+    let mut new = memory.words[picture].clone();
+    let pictures = [&last[..], oldest, &new];
+    let blocks = word_packet::accepted_words(form, size, map, &body[14..], pictures, place)?;
+    let mut stores = Vec::new();
+    for block in &blocks[place..] {
+        for i in 0..BLOCK_PIXELS {
+            let (index, value) = (block.target(size, i), block.value(size, i, last, oldest, &new));
+            new[index] = value;
+            stores.push(Store::Word { picture, index, value });
+        }
+        stores.push(Store::Place(block.number + 1));
+    }
+    Ok(stores)
+}
+
 /// A picture that is sent, with the palette that stands then.
 #[derive(Clone, Debug, PartialEq, Eq)]
 pub struct Sent {
-    /// The shown picture.
+    /// The shown picture; empty of a film with true colour.
     pub picture: Vec<u8>,
+    /// The shown picture of a film with true colour; empty of any other.
+    pub words: Vec<u16>,
     /// The palette.
     pub palette: Vec<u8>,
 }
@@ -148,7 +192,9 @@ impl Played {
         if before.unsent && !after.unsent {
             let [a, b] = &memory.pictures;
             let picture = film::shown(after, a, b).to_vec();
-            self.sent.push(Sent { picture, palette: memory.palette.clone() });
+            let words = memory.words.each_ref().map(Vec::as_slice);
+            let words = film::shown_words(after, words).to_vec();
+            self.sent.push(Sent { picture, words, palette: memory.palette.clone() });
         }
     }
 }

@@ -1,11 +1,12 @@
 //! The film: header, chunks, opcodes, one step, the shown picture
-//! (01, "Film, chunks, opcodes" and "Numbers of refusal"; 02, W1, W2, W5, W6 and W11).
+//! (01, "Film, chunks, opcodes" and "Numbers of refusal"; 02, W1, W2, W5, W6, W7 and W11).
 
 use crate::frame::FrameSize;
-use crate::packet::{self, CallForm, Rows};
+use crate::packet::{self, CallForm, Drawn, Rows};
 use crate::palette::{self, Entry};
 use crate::refusal::{self, Refusal};
 use crate::sound::{self, Sound};
+use crate::word_packet;
 
 /// The 26 bytes that every film starts with: a title, then the words 001A, 0100, 1133.
 pub const HEADER: [u8; 26] = *b"Interplay MVE File\x1A\x00\x1A\x00\x00\x01\x33\x11";
@@ -18,6 +19,8 @@ const OPCODE_HEAD: usize = 4;
 const AUDIO_FRONT: usize = 6;
 /// Bytes of opcode 11's body that are skipped in front of the packet.
 const VIDEO_FRONT: usize = 14;
+/// Bytes of opcode 11's body that a film with true colour has at least: its packet begins with a word.
+const TRUE_COLOUR_FRONT: usize = 16;
 
 /// The opcode types that are acted on, by 003's names; 03, 08 and 09 only where a stream is chosen.
 pub mod opcode {
@@ -75,8 +78,11 @@ pub struct State {
     pub columns: usize,
     /// Rows of blocks of a frame; 0 before opcode 05.
     pub rows: usize,
+    /// Whether the film has true colour; never before opcode 05.
+    pub true_colour: bool,
     /// Which lent picture is front, the shown one: 0 the first, 1 the second. The other one is
-    /// back, the one that is drawn on.
+    /// back, the one that is drawn on. With true colour it is one of three, the next one is drawn on, and
+    /// the one behind that is the oldest.
     pub front: usize,
     /// The map of the next frame, given by opcode 0F and not used up yet.
     pub map: Option<Span>,
@@ -120,6 +126,8 @@ pub struct Lent<'a> {
     pub place: &'a mut usize,
     /// The room that samples are written to, from its front on.
     pub room: &'a mut [u8],
+    /// The three pictures of words, for films with true colour.
+    pub words: [&'a mut [u16]; 3],
 }
 
 /// What a step is allowed.
@@ -181,6 +189,7 @@ pub fn open(film: &[u8], stream: usize) -> Result<State, Refusal> {
         chunk_end: HEADER.len(),
         columns: 0,
         rows: 0,
+        true_colour: false,
         front: 0,
         map: None,
         unsent: false,
@@ -248,14 +257,26 @@ pub fn step_as(
 }
 
 /// The shown picture: the leading part of whichever lent picture is front, empty where there is
-/// no such part (01).
+/// no such part (01), and where the film has true colour.
 pub fn shown<'a>(state: &State, picture_a: &'a [u8], picture_b: &'a [u8]) -> &'a [u8] {
-    let picture = match state.front {
-        0 => picture_a,
-        1 => picture_b,
-        _ => return &[],
-    };
-    state.size().and_then(|size| picture.get(..size.pixels())).unwrap_or(&[])
+    match state.true_colour {
+        false => leading_part(state, &[picture_a, picture_b]),
+        true => &[],
+    }
+}
+
+/// The shown picture of a film with true colour; empty of any other.
+pub fn shown_words<'a>(state: &State, pictures: [&'a [u16]; 3]) -> &'a [u16] {
+    match state.true_colour {
+        true => leading_part(state, &pictures),
+        false => &[],
+    }
+}
+
+/// The frame's pixels of the front one of these pictures.
+fn leading_part<'a, P>(state: &State, pictures: &[&'a [P]]) -> &'a [P] {
+    let part = pictures.get(state.front).zip(state.size());
+    part.and_then(|(picture, size)| picture.get(..size.pixels())).unwrap_or(&[])
 }
 
 fn take_step(
@@ -277,19 +298,24 @@ fn take_step(
 fn check_state(film: &[u8], state: &State) -> Result<(), Refusal> {
     let cursor_can_be = state.position <= state.chunk_end && state.chunk_end <= film.len();
     let map_can_be = state.map.is_none_or(|map| map.of(film).is_some());
-    let size_can_be = state.has_no_size() || state.size().is_some();
+    let front_can_be = state.front < if state.true_colour { 3 } else { 2 };
+    // Only opcode 05 tells that a film has true colour, and it gives a size.
+    let size_can_be = state.has_no_size() && !state.true_colour || state.size().is_some();
     let sound_can_be = state.sound.can_be();
-    if cursor_can_be && map_can_be && state.front <= 1 && size_can_be && sound_can_be {
+    if cursor_can_be && map_can_be && front_can_be && size_can_be && sound_can_be {
         Ok(())
     } else {
         Err(Refusal::new(refusal::STATE))
     }
 }
 
-/// Refusal 8. Both pictures are tested at every step once a size is known.
+/// Refusal 8. All pictures of the film's own kind are tested at every step once a size is known.
 fn check_lent(state: &State, lent: &Lent<'_>) -> Result<(), Refusal> {
     let pixels = state.pixels();
-    let pictures_fit = lent.picture_a.len() >= pixels && lent.picture_b.len() >= pixels;
+    let pictures_fit = match state.true_colour {
+        false => lent.picture_a.len() >= pixels && lent.picture_b.len() >= pixels,
+        true => lent.words.iter().all(|words| words.len() >= pixels),
+    };
     if lent.palette.len() == palette::LENGTH && pictures_fit {
         Ok(())
     } else {
@@ -336,6 +362,9 @@ fn take_opcode(
         opcode::MAP => {
             *lent.place = 0;
             Ok(Stepped::Taken(State { map: Some(head.body), ..moved }, 1, 0))
+        }
+        opcode::VIDEO if state.true_colour && body.len() < TRUE_COLOUR_FRONT => {
+            Err(Refusal::new(refusal::BODY_LENGTH))
         }
         opcode::VIDEO => draw_video(film, &body[VIDEO_FRONT..], state, moved, lent, allowance),
         opcode::INIT_AUDIO => {
@@ -442,30 +471,33 @@ fn at_end(film: &[u8], state: State) -> State {
 }
 
 /// Opcode 05: words columns and rows, which count blocks (02, W1), from version 1 a count that is not
-/// read, in version 2 a true-colour word that must be 0. Only once in a film.
+/// read, in version 2 a true-colour word: a film has true colour where it is not 0 (02, W7). Only once in a
+/// film.
 fn init_video(body: &[u8], state: State) -> Result<State, Refusal> {
     let words: Vec<usize> = body
         .chunks_exact(2)
         .map(|word| usize::from(u16::from_le_bytes([word[0], word[1]])))
         .collect();
-    let true_colour = words.get(3).copied().unwrap_or(0);
-    if !state.has_no_size() || true_colour != 0 {
+    if !state.has_no_size() {
         return Err(Refusal::new(refusal::SIZE));
     }
     let (columns, rows) = (words[0], words[1]);
     FrameSize::new(columns, rows)?;
-    Ok(State { columns, rows, ..state })
+    let true_colour = words.get(3).is_some_and(|&word| word != 0);
+    Ok(State { columns, rows, true_colour, ..state })
 }
 
-/// Opcode 07: front and back change roles if a frame is finished and unsent.
+/// Opcode 07: if a frame is finished and unsent, the picture that was drawn on becomes front. So front and
+/// back change roles; with true colour the oldest one is drawn on next (02, W7).
 fn send(state: State) -> State {
     if !state.unsent {
         return state;
     }
-    State { front: 1 - state.front, unsent: false, ..state }
+    let pictures = if state.true_colour { 3 } else { 2 };
+    State { front: (state.front + 1) % pictures, unsent: false, ..state }
 }
 
-/// Opcode 11: draws the packet on back, going on from the place. `moved` is the state with the
+/// Opcode 11: draws the packet, going on from the place. `moved` is the state with the
 /// position behind the opcode, for when the frame is whole.
 fn draw_video(
     film: &[u8],
@@ -479,17 +511,48 @@ fn draw_video(
     let (Some(map), false) = (map, state.has_no_size()) else {
         return Err(Refusal::new(refusal::NO_SIZE_OR_MAP));
     };
-    let (front, back) = if state.front == 0 {
-        (&*lent.picture_a, &mut *lent.picture_b)
-    } else {
-        (&*lent.picture_b, &mut *lent.picture_a)
+    let drawn = match state.true_colour {
+        false => draw_bytes(map, packet, &state, lent, allowance)?,
+        true => draw_words(map, packet, &state, lent, allowance)?,
     };
-    let (State { columns, rows, .. }, Allowance { stores, form }) = (state, allowance);
-    let drawn = packet::draw_as(form, columns, rows, map, packet, front, back, lent.place, stores)?;
     Ok(if drawn.whole {
         let after = State { map: None, unsent: true, ..moved };
         Stepped::Whole(after, drawn.stores, drawn.rows)
     } else {
         Stepped::Unfinished(state, drawn.stores, drawn.rows)
     })
+}
+
+fn draw_bytes(
+    map: &[u8],
+    packet: &[u8],
+    state: &State,
+    lent: &mut Lent<'_>,
+    Allowance { stores, form }: Allowance,
+) -> Result<Drawn, Refusal> {
+    let (front, back) = if state.front == 0 {
+        (&*lent.picture_a, &mut *lent.picture_b)
+    } else {
+        (&*lent.picture_b, &mut *lent.picture_a)
+    };
+    let State { columns, rows, .. } = *state;
+    packet::draw_as(form, columns, rows, map, packet, front, back, lent.place, stores)
+}
+
+/// "With front f the last, f+1 the new, f+2 the oldest, modulo 3" (02, W7).
+fn draw_words(
+    map: &[u8],
+    packet: &[u8],
+    state: &State,
+    lent: &mut Lent<'_>,
+    Allowance { stores, form }: Allowance,
+) -> Result<Drawn, Refusal> {
+    let [first, second, third] = &mut lent.words;
+    let (last, new, oldest) = match state.front {
+        0 => (&**first, &mut **second, &**third),
+        1 => (&**second, &mut **third, &**first),
+        _ => (&**third, &mut **first, &**second),
+    };
+    let (State { columns, rows, .. }, place) = (*state, &mut *lent.place);
+    word_packet::draw_words_as(form, columns, rows, map, packet, last, oldest, new, place, stores)
 }

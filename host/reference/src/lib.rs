@@ -1,4 +1,4 @@
-//! A second decoder for Interplay MVE films with 8-bit pictures and sound.
+//! A second decoder for Interplay MVE films, with 8-bit pictures or true colour, and sound.
 //!
 //! It is written from the documents alone and shares nothing with the player core that is compared
 //! with it: straightforward rather than fast, one short function for each rule. In comments "01"
@@ -14,6 +14,8 @@
 //! | [`frame`] | frame sizes and the grid of 8x8 blocks |
 //! | [`block`] | one block: data length, motion vector, source of each pixel |
 //! | [`packet`] | map and data of one frame: checking and drawing |
+//! | [`word_block`] | one block with true colour: its bytes and its pixels |
+//! | [`word_packet`] | map and packet of one frame with true colour: checking and drawing |
 //! | [`origin`] | where the value of a pixel comes from |
 //! | [`book`] | what a list of drawing calls must do, worked out without drawing |
 //! | [`palette`] | opcodes 0B, 0C, 0D |
@@ -49,8 +51,11 @@ pub mod sound;
 pub mod steps;
 pub mod strip;
 pub mod video1;
+pub mod word_block;
+pub mod word_packet;
 
 pub use block::{source, Source};
 pub use origin::{origin, Origin, Traced};
 pub use packet::{check, check_as, draw, draw_as, CallForm, Drawn, Rows};
 pub use refusal::Refusal;
+pub use word_packet::{check_words, check_words_as, draw_words, draw_words_as};

@@ -27,7 +27,7 @@ pub fn list(film: &[u8]) -> String {
     HEADING.to_string() + &lines
 }
 
-/// The lines behind the heading. Pictures and palette are zero at first.
+/// The lines behind the heading. Pictures and palette are zero at first; those of words are empty (02, W7).
 fn lines(film: &[u8], opened: State) -> String {
     let (mut palette, mut place) = (vec![0; palette::LENGTH], 0);
     let (mut a, mut b) = (vec![0; MAX_PIXELS], vec![0; MAX_PIXELS]);
@@ -40,6 +40,7 @@ fn lines(film: &[u8], opened: State) -> String {
             picture_b: &mut b,
             place: &mut place,
             room: &mut [],
+            words: Default::default(),
         };
         match film::step(film, state, lent, STORES_A_STEP) {
             Stepped::Taken(after, ..) | Stepped::Whole(after, ..) => {

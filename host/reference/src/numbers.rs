@@ -8,7 +8,7 @@ use crate::refusal::{self, Refusal};
 use crate::sound::Sound;
 
 /// How many numbers a state has.
-pub const STATE_NUMBERS: usize = 17;
+pub const STATE_NUMBERS: usize = 18;
 /// How many numbers an answer about a film has: eight, and those of the state.
 pub const STEPPED_NUMBERS: usize = 8 + STATE_NUMBERS;
 
@@ -27,7 +27,8 @@ pub fn state_of(numbers: &[usize]) -> Option<State> {
     else {
         return None;
     };
-    let &[stream, has_format, stereo, wide, compressed, begun, left, right] = sound else {
+    let &[stream, has_format, stereo, wide, compressed, begun, left, right, true_colour] = sound
+    else {
         return None;
     };
     let sound = Sound {
@@ -41,18 +42,20 @@ pub fn state_of(numbers: &[usize]) -> Option<State> {
         right: u16::try_from(right).ok()?,
     };
     let map = (has_map != 0).then_some(Span { start, length });
-    Some(State { position, chunk_end, columns, rows, front, map, unsent: unsent != 0, sound })
+    let (unsent, true_colour) = (unsent != 0, true_colour != 0);
+    Some(State { position, chunk_end, columns, rows, true_colour, front, map, unsent, sound })
 }
 
 /// The numbers of a state: 0 or 1 for a flag, zeros for a map that is not there.
 pub fn numbers_of(state: State) -> [usize; STATE_NUMBERS] {
-    let State { position, chunk_end, columns, rows, front, map, unsent, sound } = state;
+    let State { position, chunk_end, columns, rows, true_colour, front, map, unsent, sound } =
+        state;
     let (start, length) = map.map_or((0, 0), |Span { start, length }| (start, length));
     let (has_map, unsent) = (map.is_some().into(), unsent.into());
     let picture = [position, chunk_end, columns, rows, front, has_map, start, length, unsent];
     let Sound { stream, has_format, stereo, wide, compressed, begun, left, right } = sound;
     let flags = [has_format, stereo, wide, compressed, begun].map(usize::from);
-    let last = [left, right].map(usize::from);
+    let last = [left.into(), right.into(), true_colour.into()];
     let numbers = [&picture[..], &[stream], &flags, &last].concat();
     numbers.try_into().expect("as many as a state has")
 }
@@ -136,4 +139,9 @@ pub fn step(
 /// How many bytes of the front picture are shown.
 pub fn shown(from: &[usize], a: &[u8], b: &[u8]) -> usize {
     state_of(from).map_or(0, |state| film::shown(&state, a, b).len())
+}
+
+/// How many words of the front picture are shown, of a film with true colour.
+pub fn shown_words(from: &[usize], pictures: [&[u16]; 3]) -> usize {
+    state_of(from).map_or(0, |state| film::shown_words(&state, pictures).len())
 }

@@ -240,7 +240,7 @@ pub(crate) fn accepted_blocks<'a>(
     Ok(blocks)
 }
 
-fn check_map_length(size: FrameSize, map: &[u8]) -> Result<(), Refusal> {
+pub(crate) fn check_map_length(size: FrameSize, map: &[u8]) -> Result<(), Refusal> {
     if map.len() == size.map_length() {
         Ok(())
     } else {
@@ -292,7 +292,7 @@ fn next_block(size: FrameSize, number: usize, code: u8, rest: &[u8]) -> Result<B
 }
 
 /// The code of a block: one nibble each, low nibble first (01). A spare last nibble is not read.
-fn map_code(map: &[u8], block: usize) -> u8 {
+pub(crate) fn map_code(map: &[u8], block: usize) -> u8 {
     let byte = map[block / 2];
     if block % 2 == 0 {
         byte & 0x0F

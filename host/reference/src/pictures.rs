@@ -20,7 +20,7 @@ const USUAL: u64 = 66_728;
 #[derive(Clone, Debug, PartialEq, Eq)]
 pub struct Played {
     /// The pictures sent, in order, each as the bytes of a PPM file. Its heading has the rows of blocks
-    /// touched (02, W2) since the same one of the two lent pictures was last sent, and the microseconds
+    /// touched (02, W2) since the same one of the lent pictures was last sent, and the microseconds
     /// after which it is shown.
     pub pictures: Vec<Vec<u8>>,
     /// The sound of the stream. Opcode 03 begins another recording unless channels, bits and rate
@@ -57,9 +57,10 @@ pub fn play(film: &[u8], stream: usize) -> Played {
     };
     let (mut colours, mut place) = (vec![0; palette::LENGTH], 0);
     let (mut a, mut b) = (vec![0; MAX_PIXELS], vec![0; MAX_PIXELS]);
+    let mut words = [(); 3].map(|()| vec![0; MAX_PIXELS]);
     let mut room = vec![0; ROOM];
     // Of each lent picture, what the packets drawn on it touched since it was sent.
-    let mut touched = [Vec::new(), Vec::new()];
+    let mut touched = [Vec::new(), Vec::new(), Vec::new()];
     let (mut time, mut stays) = (0_u64, USUAL);
     let refusal = loop {
         let lent = Lent {
@@ -68,13 +69,18 @@ pub fn play(film: &[u8], stream: usize) -> Played {
             picture_b: &mut b,
             place: &mut place,
             room: &mut room,
+            words: words.each_mut().map(Vec::as_mut_slice),
         };
         match film::step(film, state, lent, STORES_A_STEP) {
             Stepped::Taken(after, _, bytes) => {
                 // Only a frame that is sent changes the roles (01, opcode 07).
                 if after.front != state.front {
                     let rows = std::mem::take(&mut touched[after.front]);
-                    pictures.push(ppm(&after, film::shown(&after, &a, &b), &colours, &rows, time));
+                    let shown =
+                        film::shown(&after, &a, &b).iter().flat_map(|&p| entry(&colours, p));
+                    let words = film::shown_words(&after, words.each_ref().map(Vec::as_slice));
+                    let shown = shown.chain(words.iter().flat_map(|&word| components(word)));
+                    pictures.push(ppm(&after, shown, &rows, time));
                     time = time.wrapping_add(stays);
                 }
                 stays = timer(film, &state).unwrap_or(stays);
@@ -82,7 +88,8 @@ pub fn play(film: &[u8], stream: usize) -> Played {
                 state = after;
             }
             Stepped::Whole(after, _, rows) => {
-                touched[1 - state.front].extend(rows);
+                let count = if state.true_colour { 3 } else { 2 };
+                touched[(state.front + 1) % count].extend(rows);
                 state = after;
             }
             // Not met: no step has more stores than it is allowed.
@@ -136,7 +143,7 @@ fn timer(film: &[u8], state: &State) -> Option<u64> {
 
 /// A picture as a PPM file: a heading with the first and the last of its touched rows and its time, as
 /// comments, and with its width and height in pixels, then red, green and blue of each pixel.
-fn ppm(state: &State, picture: &[u8], colours: &[u8], touched: &[Rows], time: u64) -> Vec<u8> {
+fn ppm(state: &State, colours: impl Iterator<Item = u8>, touched: &[Rows], time: u64) -> Vec<u8> {
     let [width, height] = [state.columns, state.rows].map(|blocks| blocks * BLOCK_SIDE);
     let first = touched.iter().map(|rows| rows.first).min();
     let last = touched.iter().map(|rows| rows.last).max();
@@ -145,11 +152,17 @@ fn ppm(state: &State, picture: &[u8], colours: &[u8], touched: &[Rows], time: u6
         None => "none".to_string(),
     };
     let heading = format!("P6\n# rows {rows}\n# at {time} us\n{width} {height}\n255\n");
-    let entry = |&pixel: &u8| colours[usize::from(pixel) * 3..][..3].iter().map(|&c| full_range(c));
-    heading.into_bytes().into_iter().chain(picture.iter().flat_map(entry)).collect()
+    heading.into_bytes().into_iter().chain(colours).collect()
 }
 
-/// A colour component, 0 to 63, in 8 bits: 4 times as much, and a 16th of it more.
-fn full_range(component: u8) -> u8 {
-    component * 4 + component / 16
+/// Red, green and blue of a palette entry: 0 to 63 in 8 bits, 4 times as much, and a 16th of it more.
+fn entry(palette: &[u8], number: u8) -> [u8; 3] {
+    let first = usize::from(number) * 3;
+    [0, 1, 2].map(|component| palette[first + component]).map(|c| c * 4 + c / 16)
+}
+
+/// Red, green and blue of a word, from its high end: 0 to 31 in 8 bits, 8 times as much, and a 4th of it
+/// more.
+fn components(word: u16) -> [u8; 3] {
+    [10, 5, 0].map(|low| (word >> low & 31) as u8).map(|c| c * 8 + c / 4)
 }

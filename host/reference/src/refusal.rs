@@ -1,4 +1,4 @@
-//! The numbers of refusal (01, "Numbers of refusal"; 17 to 19: 02, W5; 21: W8; 22: W9; 23: W10;
+//! The numbers of refusal (01, "Numbers of refusal"; 17 to 19: 02, W5; 20: W7; 21: W8; 22: W9; 23: W10;
 //! 24 to 26: W12).
 
 use std::fmt;
@@ -13,7 +13,7 @@ pub const OPCODE: u8 = 3;
 pub const TYPE_OR_VERSION: u8 = 4;
 /// Opcode body of a wrong length.
 pub const BODY_LENGTH: u8 = 5;
-/// Frame size or true-colour word wrong, or a second 05.
+/// Frame size wrong, or a second 05.
 pub const SIZE: u8 = 6;
 /// Palette entry or colour component out of range.
 pub const PALETTE: u8 = 7;
@@ -41,6 +41,8 @@ pub const SOUND_FORMAT: u8 = 17;
 pub const SOUND_LENGTH: u8 = 18;
 /// Room too small for what is to be written.
 pub const ROOM: u8 = 19;
+/// A true-colour packet without its two parts.
+pub const PARTS: u8 = 20;
 /// The film ends without a size.
 pub const NO_SIZE: u8 = 21;
 /// A position outside the picture.
@@ -57,7 +59,7 @@ pub const END_MARK: u8 = 26;
 /// Why a call was refused. Nothing lent to the call was changed.
 #[derive(Clone, Copy, Debug, PartialEq, Eq, PartialOrd, Ord, Hash)]
 pub struct Refusal {
-    /// The documents' number, 1 to 19 or 21 to 26.
+    /// The documents' number, 1 to 26.
     pub number: u8,
     /// The block that met 12, 13 or 14; else 0.
     pub block: usize,
@@ -82,7 +84,7 @@ impl Refusal {
             OPCODE => "opcode passes its chunk, or bytes follow the end of the chunk",
             TYPE_OR_VERSION => "opcode type or version not taken",
             BODY_LENGTH => "opcode body of a wrong length",
-            SIZE => "frame size or true-colour word not taken, or a second frame size",
+            SIZE => "frame size not taken, or a second frame size",
             PALETTE => "palette entry or colour component out of range",
             LENT => "palette not 768 bytes, or a picture shorter than the frame",
             NO_SIZE_OR_MAP => "video data without a frame size or a pending map",
@@ -96,6 +98,7 @@ impl Refusal {
             SOUND_FORMAT => "sound before its format, or a format both 8-bit and compressed",
             SOUND_LENGTH => "sound data or sample count of a wrong length",
             ROOM => "room too small for what is to be written there",
+            PARTS => "true-colour packet without its two parts",
             NO_SIZE => "film ends without a frame size",
             POSITION => "position outside the picture",
             PACKET_LENGTH => "packet longer than an opcode's body can be",

@@ -26,7 +26,8 @@ fn found() -> Lent {
 
 fn memory(lent: &Lent) -> Memory {
     let pictures = [lent.a.clone(), lent.b.clone()];
-    Memory { palette: lent.palette.clone(), pictures, place: lent.place }
+    let (palette, words) = (lent.palette.clone(), lent.words.clone());
+    Memory { palette, pictures, words, place: lent.place }
 }
 
 /// An opcode of the palette has just these stores, byte and value: a step that is allowed n makes the
@@ -199,8 +200,8 @@ fn a_film_through_cuts() {
     let mut second = first.clone();
     second[21..27].copy_from_slice(&[0, 0, 0, 63, 0, 0]);
     let sent = vec![
-        Sent { picture: vec![7; 64], palette: first },
-        Sent { picture: vec![9; 64], palette: second },
+        Sent { picture: vec![7; 64], words: Vec::new(), palette: first },
+        Sent { picture: vec![9; 64], words: Vec::new(), palette: second },
     ];
     let expected = Played { sent, samples: Vec::new(), refusal: None };
     assert_eq!(play(&film, NO_STREAM, 0, |_, _| None), expected);

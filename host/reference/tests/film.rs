@@ -46,6 +46,7 @@ fn number_1_header() {
         chunk_end: 26,
         columns: 0,
         rows: 0,
+        true_colour: false,
         front: 0,
         map: None,
         unsent: false,
@@ -255,8 +256,8 @@ fn end_of_film() {
 
 // --- 05 ---
 
-/// The words count blocks. The count word is not read; the true-colour word must be 0 and is in
-/// version 2 alone.
+/// The words count blocks. The count word is not read; the true-colour word is in version 2 alone, and is
+/// 0 here.
 #[test]
 fn init_video() {
     for (version, body) in
@@ -265,7 +266,7 @@ fn init_video() {
         let Stepped::Taken(state, 0, 0) = first_opcode(&[opcode(0x05, version, &hex(body))]) else {
             panic!("version {version} not taken");
         };
-        assert_eq!((state.columns, state.rows), (80, 60));
+        assert_eq!((state.columns, state.rows, state.true_colour), (80, 60, false));
         // "Our first real film says 80 by 60 and should fill a 640 by 480 picture" (02, W1).
         assert_eq!(state.pixels(), 640 * 480);
     }
@@ -294,10 +295,6 @@ fn number_6_size() {
         let stepped = first_opcode(&[size(columns, rows)]);
         assert_eq!(is_taken(stepped), taken, "{columns}x{rows}");
         assert_eq!(stepped == refused(6), !taken, "{columns}x{rows}");
-    }
-    for true_colour in ["01 00", "00 01"] {
-        let body = hex(&format!("01 00 01 00 01 00 {true_colour}"));
-        assert_eq!(first_opcode(&[opcode(0x05, 2, &body)]), refused(6));
     }
 }
 

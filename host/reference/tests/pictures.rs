@@ -2,7 +2,7 @@
 
 mod common;
 
-use common::{chunk, film, opcode, send, size, video};
+use common::{chunk, deep_size, film, opcode, parted, send, size, video, word};
 use reference::pictures::{self, Played};
 use reference::sound::NO_STREAM;
 use reference::Refusal;
@@ -54,6 +54,35 @@ fn one_for_each_sent() {
     let played = play(&film(&[chunk(&opcodes.concat())]));
     assert_eq!(played.pictures, [ppm(0, [255, 0, 0]), ppm(1, [0, 255, 0])]);
     assert_eq!(played.refusal, None);
+}
+
+/// With true colour a word has red in bits 10 to 14, green in 5 to 9, blue in 0 to 4; the high three of five
+/// bits come again as the low ones: 31 is 255, 1 is 8, 16 is 132. Each frame touches every row, of whichever of
+/// the three pictures.
+#[test]
+fn true_colour() {
+    let solid = |colour| [opcode(0x0F, 0, &[0x0E]), video(&parted(&word(colour), &[]))].concat();
+    let opcodes = [
+        deep_size(1, 1),
+        entry(1, [63, 63, 63]),
+        solid(0x7C10),
+        send(),
+        send(),
+        solid(0x83E1),
+        solid(0x801F),
+        send(),
+        // Code 1 is the picture before the last one, code 0 the last.
+        [opcode(0x0F, 0, &[0x01]), video(&[2, 0])].concat(),
+        send(),
+        [opcode(0x0F, 0, &[0x00]), video(&[2, 0])].concat(),
+        send(),
+    ];
+    let played = play(&film(&[chunk(&opcodes)]));
+    let [first, second] = [[255, 0, 132], [0, 0, 255]];
+    let expected = [ppm(0, first), ppm(1, second), ppm(2, first), ppm(3, first)];
+    assert_eq!((played.pictures, played.refusal), (expected.to_vec(), None));
+    let played = play(&film(&[chunk(&[deep_size(1, 1), solid(0x83E1), send()])]));
+    assert_eq!(played.pictures, [ppm(0, [0, 255, 8])]);
 }
 
 /// Opcodes 0F and 11 of a frame of one column and three rows: code E in these rows, else code 1.

@@ -5,6 +5,7 @@
 const uint8_t *film, *map, *data;
 size_t film_length, map_length, data_length, columns, rows, allowed, place;
 uint8_t palette[MVE_PALETTE_BYTES], front[MVE_PICTURE_BYTES], back[MVE_PICTURE_BYTES];
+uint16_t last_words[MVE_PICTURE_WORDS], oldest_words[MVE_PICTURE_WORDS], new_words[MVE_PICTURE_WORDS];
 struct mve_stepped answer;
 struct mve_answer verdict;
 struct mve_traced traced;
@@ -28,6 +29,11 @@ void call_mve_shown(void) {
     shown = mve_shown(&answer.state, MVE_STATE_NUMBERS, front, sizeof front, back, sizeof back);
 }
 
+void call_mve_shown_words(void) {
+    shown = mve_shown_words(&answer.state, MVE_STATE_NUMBERS, last_words, MVE_PICTURE_WORDS, oldest_words,
+                            MVE_PICTURE_WORDS, new_words, MVE_PICTURE_WORDS);
+}
+
 void call_mve_check(void) {
     verdict = mve_check(columns, rows, map, map_length, data, data_length);
 }
@@ -47,6 +53,28 @@ void call_mve_draw_strict(void) {
     do {
         verdict = mve_draw_strict(columns, rows, map, map_length, data, data_length, front, sizeof front, back,
                                   sizeof back, &place, allowed);
+    } while (verdict.kind == MVE_UNFINISHED);
+}
+
+void call_mve_check_words(void) {
+    verdict = mve_check_words(columns, rows, map, map_length, data, data_length);
+}
+
+void call_mve_check_words_strict(void) {
+    verdict = mve_check_words_strict(columns, rows, map, map_length, data, data_length);
+}
+
+void call_mve_draw_words(void) {
+    do {
+        verdict = mve_draw_words(columns, rows, map, map_length, data, data_length, last_words, MVE_PICTURE_WORDS,
+                                 oldest_words, MVE_PICTURE_WORDS, new_words, MVE_PICTURE_WORDS, &place, allowed);
+    } while (verdict.kind == MVE_UNFINISHED);
+}
+
+void call_mve_draw_words_strict(void) {
+    do {
+        verdict = mve_draw_words_strict(columns, rows, map, map_length, data, data_length, last_words, MVE_PICTURE_WORDS,
+                                        oldest_words, MVE_PICTURE_WORDS, new_words, MVE_PICTURE_WORDS, &place, allowed);
     } while (verdict.kind == MVE_UNFINISHED);
 }
 

@@ -5,7 +5,7 @@
 
 CALL is a call of the library. The caller of mve_step is main of examples/synopsis.c, compiled under the name `stage`, and
 INPUT is the film that it reads. The other callers are those of callers.c. INPUT of open, begin, shown, salvage and strip is
-a film, too; of the others it is packets, each as four numbers of four bytes, columns, rows and the lengths of map and data,
+a film, too (of shown_words one with true colour); of the others it is packets, each as four numbers of four bytes, columns, rows and the lengths of map and data,
 then map and data; frames of Video 1 have no map. What encode wants is the picture that a packet gives. ALLOWED is for the
 drawing calls. PAINT is the byte that the stack is painted with; a caller may store it, so that more than one is to be tried.
 
@@ -104,6 +104,11 @@ static const struct {
     {"mve_check_strict", call_mve_check_strict, 1},
     {"mve_draw", call_mve_draw, 1},
     {"mve_draw_strict", call_mve_draw_strict, 1},
+    {"mve_shown_words", call_mve_shown_words, 0},
+    {"mve_check_words", call_mve_check_words, 1},
+    {"mve_check_words_strict", call_mve_check_words_strict, 1},
+    {"mve_draw_words", call_mve_draw_words, 1},
+    {"mve_draw_words_strict", call_mve_draw_words_strict, 1},
     {"mve_origin", call_mve_origin, 1},
     {"mve_salvage", call_mve_salvage, 0},
     {"mve_strip", call_mve_strip, 0},
@@ -137,7 +142,7 @@ int main(int count, char **words) {
     input_length = fread(input, 1, sizeof input, stdin);
     film = input;
     film_length = input_length;
-    if (callers[which].caller == call_mve_shown) {
+    if (callers[which].caller == call_mve_shown || callers[which].caller == call_mve_shown_words) {
         call_mve_begin();
     }
     for (size_t at = 0; at < input_length; runs += 1) {

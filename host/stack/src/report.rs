@@ -26,7 +26,7 @@ pub fn header_table(figures: &Figures) -> String {
     ];
     let calls = figures.calls.iter();
     rows.extend(calls.map(|(name, chain)| (format!("stack of {name}"), bytes(chain.bytes()))));
-    rows.iter().map(|(name, value)| format!("    {name:<27} {value}\n")).collect()
+    rows.iter().map(|(name, value)| format!("    {name:<31} {value}\n")).collect()
 }
 
 /// The table of the page: the stack of each call, and where its bytes go.
@@ -42,7 +42,7 @@ pub fn page_table(figures: &Figures) -> String {
 
 /// The table of the whole stages in the header.
 pub fn header_stages(stages: &Stages) -> String {
-    let stage = |(name, bytes): (&str, String)| format!("    {name:<31} {bytes}\n");
+    let stage = |(name, bytes): (&str, String)| format!("    {name:<37} {bytes}\n");
     let rows = stages.calls.iter().map(|(name, whole)| {
         let name = format!("{STAGE}{name}");
         stage((&name, format!("{} bytes", grouped(whole.bytes()))))

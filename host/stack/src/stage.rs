@@ -11,7 +11,8 @@ use crate::frames::{deepest, frames, Chain, Frame};
 use crate::listing::Listing;
 use maker::packet::Draft;
 use maker::trailers::{self, Codes};
-use maker::{demo, scratches, strips, Form, Packet, Profile, Seeded, Size};
+use maker::words::{WordDraft, WordForm, WordProfile, LONG};
+use maker::{demo, scratches, strips, true_colour, Form, Packet, Profile, Seeded, Size};
 use std::collections::BTreeMap;
 use std::env;
 use std::fs;
@@ -100,8 +101,9 @@ impl Stages {
         for call in calls {
             stages.calls.insert(call.to_string(), Whole::default());
         }
-        let (films, openings, packets) = (films(), openings(), packets());
-        let (scratched, padded, frames) = (scratched(&films), padded(&films), frames_of_video1());
+        let (films, openings, deep) = (films(), openings(), deep_films());
+        let (packets, words, frames) = (packets(), word_packets(), frames_of_video1());
+        let (scratched, padded) = (scratched(&films), padded(&films));
         let library = Library::new(archive)?;
         for (level, (name, changes)) in LEVELS.iter().flat_map(|level| VARIANTS.map(|v| (level, v)))
         {
@@ -114,9 +116,14 @@ impl Stages {
                 let films = match *call {
                     "mve_salvage" => &scratched,
                     "mve_strip" => &padded,
+                    "mve_shown_words" => &deep,
                     _ => &openings,
                 };
-                let packets = if *call == "mve_video1" { &frames } else { &packets };
+                let packets = match *call {
+                    "mve_video1" => &frames,
+                    name if name.contains("_words") => &words,
+                    _ => &packets,
+                };
                 let whole = built.caller(call, films, packets)?;
                 stages.calls.entry(call.to_string()).or_default().join(whole);
             }
@@ -264,7 +271,8 @@ impl Built<'_> {
 
     /// The whole of another caller.
     fn caller(&self, call: &str, films: &[Vec<u8>], packets: &[u8]) -> Result<Whole, String> {
-        let of_film = ["mve_open", "mve_begin", "mve_shown", "mve_salvage", "mve_strip"];
+        let of_film =
+            ["mve_open", "mve_begin", "mve_shown", "mve_shown_words", "mve_salvage", "mve_strip"];
         let is_of_film = of_film.contains(&call);
         let inputs: Vec<(&[u8], usize)> = match is_of_film {
             true => films.iter().map(|film| (&film[..], 0)).collect(),
@@ -347,12 +355,18 @@ fn padded(films: &[Vec<u8>]) -> Vec<Vec<u8>> {
 }
 
 /// The film of the demonstration, and small films of every form of block, with palettes and sound of
-/// stream 0.
+/// stream 0; some of them with true colour.
 fn films() -> Vec<Vec<u8>> {
     let mut films = vec![demo::film().bytes()];
     films
         .extend((0..6).map(|seed| maker::sound::with_frames(&mut Seeded::new(seed), 0, 4).bytes()));
+    films.extend(deep_films());
     films
+}
+
+/// Films with true colour, with palettes and sound of stream 0.
+fn deep_films() -> Vec<Vec<u8>> {
+    (0..6).map(|seed| true_colour::with_sound(&mut Seeded::new(seed), 0, 4).bytes()).collect()
 }
 
 /// Films with palettes and sound of stream 0 before their size.
@@ -373,6 +387,19 @@ fn packets() -> Vec<u8> {
     let packet = |profile| {
         let Packet { columns, rows, map, data } =
             Draft::make(rng, Size::new(6, 5), profile).packet();
+        packed((columns, rows), &map, &data)
+    };
+    profiles.flat_map(packet).collect()
+}
+
+/// Packets with true colour of every form of block, and of all together.
+fn word_packets() -> Vec<u8> {
+    let rng = &mut Seeded::new(1);
+    let only = WordForm::ALL.map(WordProfile::Only);
+    let profiles = only.into_iter().chain(WordProfile::MANY);
+    let packet = |profile| {
+        let Packet { columns, rows, map, data } =
+            WordDraft::make(rng, Size::new(6, 5), profile, LONG).packet();
         packed((columns, rows), &map, &data)
     };
     profiles.flat_map(packet).collect()

@@ -349,14 +349,14 @@ const SMALL: &[&str] = &[
 #[test]
 fn tables_of_figures() {
     let figures = Figures::new(&texts(SMALL)).expect("figures");
-    let header = "    code                        42 bytes
-    constants                   1,040 bytes
-    memory of its own           7 bytes
-    undefined symbols           memset
-    relocations                 R_X86_64_PLT32
-    vector registers            xmm0 to xmm2, xmm7
-    below the stack pointer     24 bytes
-    stack of a                  32 bytes\n";
+    let header = "    code                            42 bytes
+    constants                       1,040 bytes
+    memory of its own               7 bytes
+    undefined symbols               memset
+    relocations                     R_X86_64_PLT32
+    vector registers                xmm0 to xmm2, xmm7
+    below the stack pointer         24 bytes
+    stack of a                      32 bytes\n";
     assert_eq!(header_table(&figures), header);
     let page = "| call | bytes | deepest chain |\n|---|---:|---|\n| `a` | 32 | `a` 32 |\n";
     assert_eq!(page_table(&figures), page);
@@ -405,8 +405,8 @@ fn limit_of_a_stage() {
 #[test]
 fn tables_of_stages() {
     let stages = stages(1024, 1016);
-    let header = "    compiler of the stages          cc 1.2
-    whole stage of a                1,024 bytes\n";
+    let header = "    compiler of the stages                cc 1.2
+    whole stage of a                      1,024 bytes\n";
     assert_eq!(header_stages(&stages), header);
     let page = "| whole stage of | bytes | painted | deepest chain |\n|---|---:|---:|---|\n\
         | `a` | 1,024 | 1,016 | `stage` 1000, `a` 24 |\n";

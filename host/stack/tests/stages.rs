@@ -18,7 +18,7 @@ fn stage(changes: &[(&str, &str)]) -> Result<Whole, String> {
     Ok(stages.calls["mve_step"].clone())
 }
 
-/// The answers on the stack: the stage is larger by their 400 bytes, by both measurements, and too large.
+/// The answers on the stack: the stage is larger by their 416 bytes, by both measurements, and too large.
 #[test]
 fn answers_on_the_stack() {
     let line = "static struct mve_stepped answers[2];";

@@ -256,12 +256,27 @@ pub(crate) fn second_step(
     memory: &mut Memory,
     allowed: usize,
 ) -> (Stepped, Vec<u8>) {
-    let Memory { palette, pictures: [picture_a, picture_b], place, .. } = memory;
+    let Memory { palette, pictures: [picture_a, picture_b], words, place, .. } = memory;
     let mut room = vec![0; ROOM_BYTES];
-    let lent = Lent { palette, picture_a, picture_b, place, room: &mut room };
+    let words = words.each_mut().map(Vec::as_mut_slice);
+    let lent = Lent { palette, picture_a, picture_b, place, room: &mut room, words };
     let stepped = reference::film::step_as(form, film, state, lent, allowed);
     room.truncate(if let Stepped::Taken(_, _, bytes) = stepped { bytes } else { 0 });
     (stepped, room)
+}
+
+/// A step of the library.
+pub(crate) fn own_step(
+    form: mve::Form,
+    film: &[u8],
+    state: mve::State,
+    memory: &mut Memory,
+    room: &mut [u8],
+    allowed: usize,
+) -> Result<mve::Step, mve::Refusal> {
+    let Memory { palette, pictures: [a, b], words: [c, d, e], place, .. } = memory;
+    let pictures = &mut mve::Pictures { a, b, c, d, e };
+    mve::step(film, state, palette, pictures, place, room, allowed, form)
 }
 
 impl Case for Walk {
@@ -288,15 +303,13 @@ impl Case for Walk {
         // Behind the last step nothing is changed.
         let after = self.steps.get(stopped + 1).unwrap_or(&self.steps[stopped]);
         let mut memory = left.clone();
-        let Memory { palette, pictures: [a, b], place, .. } = &mut memory;
         let given =
             mve::State::from_numbers(&left.state).ok_or("the saved numbers are no state")?;
         let (mut room, form) = (vec![0; samples.len()], own_form(self.form));
-        let step = mve::step(&self.film, given, palette, a, b, place, &mut room, usize::MAX, form)
+        let step = own_step(form, &self.film, given, &mut memory, &mut room, usize::MAX)
             .map_err(|refusal| format!("the new step is refused: {refusal}"))?;
         memory.state = step.state().numbers();
-        let packet = list::packet_at(&self.film, state);
-        let due = packet.map_or(0, |packet| list::due(&packet, left.place));
+        let due = list::due_at(&self.film, state, left.place).unwrap_or(0);
         match (undisturbed, step) {
             (Stepped::Taken(_, made, bytes), mve::Step::Taken { stores, bytes: again, .. })
                 if *made == stores && *bytes == again => {}
@@ -314,11 +327,14 @@ impl Case for Walk {
 
 /// Whether memory is as it is when nothing stops the call.
 pub(crate) fn same(memory: &Memory, undisturbed: &Memory) -> Result<(), String> {
-    let Memory { palette, pictures: [a, b], place, state } = undisturbed;
+    let Memory { palette, pictures: [a, b], words: [c, d, e], place, state } = undisturbed;
     let differs = [
         (memory.palette != *palette, "palette"),
         (memory.pictures[0] != *a, "first picture"),
         (memory.pictures[1] != *b, "second picture"),
+        (memory.words[0] != *c, "first picture of words"),
+        (memory.words[1] != *d, "second picture of words"),
+        (memory.words[2] != *e, "third picture of words"),
         (memory.place != *place, "place"),
         (memory.state != *state, "state"),
     ];

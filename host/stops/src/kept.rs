@@ -4,6 +4,7 @@
 
 use crate::ffi;
 use mve::numbers::{STATE, STATE_NUMBERS, STEPPED_NUMBERS};
+use mve::Pictures;
 use std::fs::File;
 use std::hint;
 use std::io;
@@ -14,7 +15,7 @@ use std::sync::atomic::{AtomicUsize, Ordering};
 /// A state of a film as numbers, in the order of include/mve.h.
 pub type Numbers = [usize; STATE_NUMBERS];
 
-/// What is kept, each picture with so many bytes lent.
+/// What is kept, each picture with so many bytes or words lent.
 #[repr(C)]
 pub struct Kept<const LENT: usize> {
     /// Two answers, each with a state at its end, which calls use in turn.
@@ -32,6 +33,8 @@ pub struct Kept<const LENT: usize> {
     pub a: [u8; LENT],
     /// The second picture.
     pub b: [u8; LENT],
+    /// The three pictures of words.
+    pub words: [[u16; LENT]; 3],
 }
 
 impl<const LENT: usize> Kept<LENT> {
@@ -47,8 +50,10 @@ impl<const LENT: usize> Kept<LENT> {
         let [one, other] = &mut self.answers;
         let (saved, out) =
             if self.holds.load(Ordering::SeqCst) == 0 { (one, other) } else { (other, one) };
-        let (palette, a, b) = (&mut self.palette, &mut self.a, &mut self.b);
-        Lent { from: &saved[STATE], out, palette, a, b, place: &mut self.place }
+        let (palette, a, b, [c, d, e]) =
+            (&mut self.palette, &mut self.a, &mut self.b, &mut self.words);
+        let pictures = Pictures { a, b, c, d, e };
+        Lent { from: &saved[STATE], out, palette, pictures, place: &mut self.place }
     }
 
     /// The saved state, and the one that the last call wrote.
@@ -92,10 +97,8 @@ pub struct Lent<'a> {
     pub out: &'a mut [usize],
     /// The palette.
     pub palette: &'a mut [u8],
-    /// The first picture.
-    pub a: &'a mut [u8],
-    /// The second picture.
-    pub b: &'a mut [u8],
+    /// All pictures.
+    pub pictures: Pictures<'a>,
     /// The place.
     pub place: &'a mut usize,
 }
@@ -106,8 +109,10 @@ pub struct Lent<'a> {
 pub struct Memory {
     /// The palette.
     pub palette: Vec<u8>,
-    /// Both pictures.
+    /// Both pictures of bytes.
     pub pictures: [Vec<u8>; 2],
+    /// The three of words.
+    pub words: [Vec<u16>; 3],
     /// The place.
     pub place: usize,
     /// The saved state.
@@ -131,6 +136,10 @@ impl<const LENT: usize> Shared<LENT> {
         shared.put(offset_of!(Kept<LENT>, palette), &memory.palette);
         shared.put(offset_of!(Kept<LENT>, a), &memory.pictures[0]);
         shared.put(offset_of!(Kept<LENT>, b), &memory.pictures[1]);
+        for (number, words) in memory.words.iter().enumerate() {
+            let bytes: Vec<u8> = words.iter().flat_map(|word| word.to_ne_bytes()).collect();
+            shared.put(words_offset::<LENT>(number), &bytes);
+        }
         shared.file.write_all_at(&shared.bytes, 0)?;
         Ok(shared)
     }
@@ -177,6 +186,10 @@ impl<const LENT: usize> Shared<LENT> {
                 part(offset_of!(Kept<LENT>, a), LENT),
                 part(offset_of!(Kept<LENT>, b), LENT),
             ],
+            words: std::array::from_fn(|number| {
+                let bytes = part(words_offset::<LENT>(number), 2 * LENT);
+                bytes.chunks_exact(2).map(|word| u16::from_ne_bytes([word[0], word[1]])).collect()
+            }),
             place: self.number(offset_of!(Kept<LENT>, place)),
             state: std::array::from_fn(|i| self.number(numbers + i * size_of::<usize>())),
         }
@@ -186,6 +199,11 @@ impl<const LENT: usize> Shared<LENT> {
         let bytes = self.bytes[at..].first_chunk().expect("a number of the type");
         usize::from_ne_bytes(*bytes)
     }
+}
+
+/// Where a picture of words begins.
+fn words_offset<const LENT: usize>(number: usize) -> usize {
+    offset_of!(Kept<LENT>, words) + number * size_of::<[u16; LENT]>()
 }
 
 /// Where the state of one of the two answers stands.

@@ -8,7 +8,7 @@ use crate::made;
 use crate::stopped;
 use maker::colours::Change;
 use maker::film::{init_video, Film};
-use maker::{Form, Profile, Seeded, Size};
+use maker::{Form, Profile, Seeded, Size, WordProfile};
 use mve::NO_STREAM;
 use reference::CallForm;
 use std::env;
@@ -24,7 +24,7 @@ use std::time::{Duration, Instant};
 
 /// The frame, 320x200 pixels.
 const SIZE: Size = Size { columns: 40, rows: 25 };
-/// The bytes of each picture that are lent.
+/// The bytes or words of each picture that are lent.
 const LENT: usize = 64 * SIZE.columns * SIZE.rows;
 /// The frames of the film.
 const FRAMES: usize = 96;
@@ -102,7 +102,10 @@ pub fn play(player: Player, film: &str, allowed: usize) -> io::Result<()> {
     stopped::walk(CallForm::Default, kept, &film, allowed, Kept::save, |kept, next| {
         let position = (next.position as u64).to_le_bytes();
         let picture = mve::shown(next, &kept.a, &kept.b);
-        let bytes = [&position[..], &kept.palette, picture].concat();
+        let [c, d, e] = &kept.words;
+        let words = mve::shown_words(next, c, d, e).iter().flat_map(|word| word.to_le_bytes());
+        let words: Vec<u8> = words.collect();
+        let bytes = [&position[..], &kept.palette, picture, &words].concat();
         bytes.chunks(PIECE).try_for_each(|piece| output.write_all(piece))
     })?;
     Ok(())
@@ -115,6 +118,8 @@ pub enum Rich {
     Blocks,
     /// Palettes of every kind, and sends.
     Palettes,
+    /// Every kind of block with true colour.
+    Words,
 }
 
 impl Rich {
@@ -122,19 +127,20 @@ impl Rich {
         match self {
             Rich::Blocks => film(rng),
             Rich::Palettes => film_of_palettes(rng),
+            Rich::Words => film_of_words(rng),
         }
     }
 
     fn longest(self) -> Duration {
         match self {
-            Rich::Blocks => LONGEST,
+            Rich::Blocks | Rich::Words => LONGEST,
             Rich::Palettes => COLOUR_LONGEST,
         }
     }
 
     fn allowances(self) -> [usize; 6] {
         match self {
-            Rich::Blocks => ALLOWANCES,
+            Rich::Blocks | Rich::Words => ALLOWANCES,
             Rich::Palettes => COLOUR_ALLOWANCES,
         }
     }
@@ -168,6 +174,22 @@ fn film(rng: &mut Seeded) -> Film {
         if frame % SENT == 0 {
             opcodes.extend([made::gradients(rng), made::set_palette(rng)]);
             opcodes.extend([made::set_palette_compressed(rng), send]);
+        }
+        chunks.push(made::chunk(opcodes));
+    }
+    Film { size: SIZE, stream: NO_STREAM, chunks, tail: Vec::new() }
+}
+
+/// The same with true colour, so that each of the three pictures is drawn on and sent.
+fn film_of_words(rng: &mut Seeded) -> Film {
+    let mut chunks = vec![made::chunk(vec![made::init_words(SIZE)])];
+    for frame in 1..=FRAMES {
+        let profile = WordProfile::MANY[frame % WordProfile::MANY.len()];
+        let over = rng.below(2);
+        let [map, video, send] = made::word_frame(rng, SIZE, profile, over);
+        let mut opcodes = vec![map, video];
+        if frame % SENT == 0 {
+            opcodes.extend([made::gradients(rng), made::set_palette(rng), send]);
         }
         chunks.push(made::chunk(opcodes));
     }
@@ -311,7 +333,11 @@ fn pictures(steps: &[Step]) -> Vec<Vec<u8>> {
     let picture = |two: &[Step]| {
         let Step { state, before: after, .. } = &two[1];
         let position = (state.position as u64).to_le_bytes();
-        [&position[..], &after.palette, &after.pictures[state.front]].concat()
+        let picture = match state.true_colour {
+            false => after.pictures[state.front].clone(),
+            true => after.words[state.front].iter().flat_map(|word| word.to_le_bytes()).collect(),
+        };
+        [&position[..], &after.palette, &picture].concat()
     };
     sends.map(picture).collect()
 }

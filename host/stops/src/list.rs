@@ -4,9 +4,10 @@
 use crate::kept::{Memory, Numbers};
 use reference::cuts;
 use reference::film::{opcode, opcode_head, State};
-use reference::frame::FrameSize;
+use reference::frame::{FrameSize, BLOCK_PIXELS};
 use reference::packet;
 use reference::palette;
+use reference::word_packet;
 use reference::{CallForm, Refusal};
 
 /// One store to what is kept.
@@ -27,6 +28,15 @@ pub enum Store {
         index: usize,
         /// Its new value.
         value: u8,
+    },
+    /// A pixel of a picture of words.
+    Word {
+        /// Which picture: 0, 1 or 2.
+        picture: usize,
+        /// Which pixel.
+        index: usize,
+        /// Its new value.
+        value: u16,
     },
     /// A byte of the palette that becomes 0, of a gradient with one entry. The library has memset store
     /// the three bytes of such an entry, or the first of them that are allowed, and in which order is
@@ -59,6 +69,34 @@ pub fn drawing(packet: &Packet<'_>, memory: &Memory) -> Result<Vec<Store>, Refus
         stores.push(Store::Place(block.number + 1));
     }
     Ok(stores)
+}
+
+/// A drawing's stores of words from a place on, with front 0: the picture behind it is drawn on.
+pub fn word_drawing(packet: &maker::Packet, memory: &Memory) -> Result<Vec<Store>, Refusal> {
+    let maker::Packet { columns, rows, map, data } = packet;
+    let size = FrameSize::new(*columns, *rows)?;
+    let blocks = word_packet::word_blocks(*columns, *rows, map, data)?;
+    let [last, found, oldest] = &memory.words;
+    let mut new = found.clone();
+    let mut stores = Vec::new();
+    for block in &blocks[memory.place..] {
+        for i in 0..BLOCK_PIXELS {
+            let (index, value) = (block.target(size, i), block.value(size, i, last, oldest, &new));
+            new[index] = value;
+            stores.push(Store::Word { picture: 1, index, value });
+        }
+        stores.push(Store::Place(block.number + 1));
+    }
+    Ok(stores)
+}
+
+/// How many stores are due from a place on where a film's step at a state draws; none where it does not.
+pub fn due_at(film: &[u8], state: &State, place: usize) -> Option<usize> {
+    let packet = packet_at(film, state)?;
+    Some(match state.true_colour {
+        false => due(&packet, place),
+        true => 65 * (packet.columns * packet.rows - place),
+    })
 }
 
 /// How many stores are due from a place on, of a packet that is accepted.
@@ -97,12 +135,13 @@ pub fn packet_at<'a>(film: &'a [u8], state: &State) -> Option<Packet<'a>> {
 /// The stores of a film's step at a state, if none is left out for want of an allowance: the second
 /// decoder's list of them (02, W11).
 pub fn step(film: &[u8], state: &State, memory: &Memory) -> Vec<Store> {
-    let Memory { palette, pictures, place, .. } = memory.clone();
-    let kept = cuts::Memory { palette, pictures, place };
+    let Memory { palette, pictures, words, place, .. } = memory.clone();
+    let kept = cuts::Memory { palette, pictures, words, place };
     let stores = cuts::listed(CallForm::Default, film, state, &kept);
     let store = |store| match store {
         cuts::Store::Colour(palette::Store { index, value }) => Store::Palette { index, value },
         cuts::Store::Pixel { picture, index, value } => Store::Pixel { picture, index, value },
+        cuts::Store::Word { picture, index, value } => Store::Word { picture, index, value },
         cuts::Store::Place(place) => Store::Place(place),
     };
     let mut stores: Vec<Store> = stores.into_iter().map(store).collect();
@@ -140,16 +179,18 @@ impl Memory {
             Store::Palette { index, value } => self.palette[index] = value,
             Store::Black { index } => self.palette[index] = 0,
             Store::Pixel { picture, index, value } => self.pictures[picture][index] = value,
+            Store::Word { picture, index, value } => self.words[picture][index] = value,
             Store::Place(place) => self.place = place,
             Store::State(state) => self.state = state,
         }
     }
 
-    /// In how many bytes and numbers two memories differ.
+    /// In how many bytes, words and numbers two memories differ.
     fn differences(&self, other: &Memory) -> usize {
         differing(&self.palette, &other.palette)
             + differing(&self.pictures[0], &other.pictures[0])
             + differing(&self.pictures[1], &other.pictures[1])
+            + (0..3).map(|at| differing(&self.words[at], &other.words[at])).sum::<usize>()
             + usize::from(self.place != other.place)
             + usize::from(self.state != other.state)
     }
@@ -163,13 +204,16 @@ impl Memory {
             Store::Pixel { picture, index, .. } => {
                 usize::from(self.pictures[picture][index] != other.pictures[picture][index])
             }
+            Store::Word { picture, index, .. } => {
+                usize::from(self.words[picture][index] != other.words[picture][index])
+            }
             Store::Place(_) => usize::from(self.place != other.place),
             Store::State(_) => usize::from(self.state != other.state),
         }
     }
 }
 
-fn differing(one: &[u8], other: &[u8]) -> usize {
+fn differing<P: PartialEq>(one: &[P], other: &[P]) -> usize {
     one.iter().zip(other).filter(|(one, other)| one != other).count()
 }
 

@@ -5,12 +5,14 @@ use crate::kept::Memory;
 use crate::once::Once;
 use crate::opening::Opening;
 use crate::stopped::LENT;
+use crate::words::WordDrawing;
 use maker::calls::allowance;
 use maker::colours::Change;
 use maker::film::{init_video, packet_opcodes, Chunk, Film, Opcode};
 use maker::packet::Draft;
 use maker::sound::{Format, Track};
-use maker::{Form, Profile, Seeded, Size};
+use maker::words::LONG;
+use maker::{Form, Profile, Seeded, Size, WordDraft, WordForm, WordProfile};
 use mve::NO_STREAM;
 use reference::CallForm;
 
@@ -18,7 +20,9 @@ use reference::CallForm;
 pub fn memory(rng: &mut Seeded, lent: usize) -> Memory {
     let palette = (0..768).map(|_| rng.byte() % 64).collect();
     let pictures = [rng.bytes(lent), rng.bytes(lent)];
-    Memory { palette, pictures, place: 0, state: NO_STATE }
+    let rng = &mut rng.clone();
+    let words = [(); 3].map(|()| rng.words(lent));
+    Memory { palette, pictures, words, place: 0, state: NO_STATE }
 }
 
 /// Drawings of blocks of a form. The first draws four blocks at once, of a packet that is padded; the
@@ -49,6 +53,61 @@ pub fn drawing(rng: &mut Seeded) -> Drawing {
     let allowed = allowance(rng, size.blocks());
     Drawing::new(form, draft.packet(), memory(rng, LENT), earlier, allowed)
 }
+
+/// Drawings of blocks of a form with true colour, as [`of_form`] has them.
+pub fn of_word_form(rng: &mut Seeded, form: WordForm) -> [WordDrawing; 3] {
+    let sizes = [Size::new(2, 2), Size::new(2, 1), Size::new(1, 2)];
+    let stores = [(0, usize::MAX), (0, 29), (29, 65 + 29)];
+    let calls = [(CallForm::Default, 1), (CallForm::Default, 0), (CallForm::Strict, 0)];
+    std::array::from_fn(|i| {
+        let draft = WordDraft::make(rng, sizes[i], WordProfile::Only(form), LONG);
+        let packet = draft.with_over(rng, calls[i].1).packet();
+        WordDrawing::new(calls[i].0, packet, memory(rng, LENT), stores[i].0, stores[i].1)
+    })
+}
+
+/// A drawing of any blocks with true colour, place, form and allowance, in a frame of up to 3x3 blocks.
+pub fn word_drawing(rng: &mut Seeded) -> WordDrawing {
+    let size = Size::new(rng.between(1, 3), rng.between(1, 3));
+    let profile = rng.pick(&WordProfile::MANY);
+    let form = rng.pick(&CallForm::ALL);
+    let over = if form == CallForm::Default { rng.below(2) } else { 0 };
+    let draft = WordDraft::make(rng, size, profile, LONG).with_over(rng, over);
+    let earlier = if rng.one_in(2) { rng.below(draft.stores_from(0) + 1) } else { 0 };
+    let allowed = allowance(rng, size.blocks());
+    WordDrawing::new(form, draft.packet(), memory(rng, LENT), earlier, allowed)
+}
+
+/// A walk over a film with true colour of three frames, so that each picture is drawn on, with a palette
+/// between. In the default form the first frame's packet is padded.
+pub fn word_walk(rng: &mut Seeded, form: CallForm, profile: WordProfile, allowed: usize) -> Walk {
+    let size = rng.pick(&[Size::new(2, 1), Size::new(1, 2)]);
+    let over = usize::from(form == CallForm::Default);
+    let [first, second, third] =
+        [over, 0, 0].map(|over| Vec::from(word_frame(rng, size, profile, over)));
+    let first = [vec![init_words(size)], first].concat();
+    let second = [vec![set_palette(rng)], second, vec![Opcode::new(0x01, 0, Vec::new())]];
+    let third = [third, vec![Opcode::new(0x00, 0, Vec::new())]];
+    let chunks = vec![chunk(first), chunk(second.concat()), chunk(third.concat())];
+    let film = Film { size, stream: NO_STREAM, chunks, tail: Vec::new() };
+    Walk::new(form, film.bytes(), NO_STREAM, memory(rng, LENT), allowed)
+}
+
+/// Opcode 05 of a film with true colour.
+pub fn init_words(size: Size) -> Opcode {
+    let body = [init_video(size).body, vec![1, 0, 1, 0]].concat();
+    Opcode::new(0x05, 2, body)
+}
+
+/// Map, video data with true colour, which leaves so many bytes over, and send.
+pub fn word_frame(rng: &mut Seeded, size: Size, profile: WordProfile, over: usize) -> [Opcode; 3] {
+    let packet = WordDraft::make(rng, size, profile, FRAME).with_over(rng, over).packet();
+    let [map, video] = packet_opcodes(rng, packet);
+    [map, video, Opcode::new(0x07, 0, vec![0; 4])]
+}
+
+/// The bytes of such a frame's packet, about, so that it fits a chunk.
+const FRAME: usize = 40_000;
 
 /// A walk over a film of two frames, so that either picture is drawn on. In the default form the first
 /// frame's packet is padded.

@@ -1,11 +1,11 @@
-//! A long run by hand, `stops SEED COUNT`: steps so many drawings, walks over films, changes of the
-//! palette, openings and films with sound, and kills a player so often. With other arguments it is the
+//! A long run by hand, `stops SEED COUNT`: steps so many drawings and walks over films, of bytes and of words,
+//! changes of the palette, openings and films with sound, and kills a player so often. With other arguments it is the
 //! process that is stopped.
 
 use maker::calls::allowance;
 use maker::colours::Change;
 use maker::sound::Format;
-use maker::{Profile, Seeded};
+use maker::{Profile, Seeded, WordProfile};
 use reference::CallForm;
 use std::env;
 use std::io;
@@ -60,8 +60,11 @@ fn long(seed: u64, count: usize) -> io::Result<String> {
     for number in 0..count {
         let (profile, allowed) = (rng.pick(&Profile::MANY), allowance(rng, 2).max(65));
         drawings += stepped(&program, &made::drawing(rng), number)?;
+        drawings += stepped(&program, &made::word_drawing(rng), number)?;
         let form = rng.pick(&CallForm::ALL);
         walks += stepped(&program, &made::walk(rng, form, profile, allowed), number)?;
+        let words = rng.pick(&WordProfile::MANY);
+        walks += stepped(&program, &made::word_walk(rng, form, words, allowed), number)?;
         walks += stepped(&program, &made::palette_walk(rng), number)?;
         let (change, tenths) = (rng.pick(&Change::ALL), rng.below(12));
         walks += stepped(&program, &made::change(rng, change, tenths), number)?;
@@ -69,13 +72,13 @@ fn long(seed: u64, count: usize) -> io::Result<String> {
         let format = rng.pick(&Format::ALL);
         walks += stepped(&program, &made::sound_walk(rng, format), number)?;
     }
-    let killed = [Rich::Blocks, Rich::Palettes]
+    let killed = [Rich::Blocks, Rich::Palettes, Rich::Words]
         .map(|rich| kills::kill_in(&program, Player::Right, rich, seed, count));
-    let [blocks, palettes] = killed;
+    let [blocks, palettes, words] = killed;
     Ok(format!(
         "drawings: {drawings:?}\nwalks: {walks:?}\nopenings: {openings:?}\nkills: {:?}\n\
-         kills in palettes: {:?}\n",
-        blocks?, palettes?
+         kills in palettes: {:?}\nkills in words: {:?}\n",
+        blocks?, palettes?, words?
     ))
 }
 

@@ -1,7 +1,7 @@
 //! One step of a film, stopped, also where it is allowed too few stores: a palette or a map (02, W11).
 //! To go on is to take the step again.
 
-use crate::cases::{form_name, hex, own_form, rows, same, second_step, Case};
+use crate::cases::{form_name, hex, own_form, own_step, rows, same, second_step, Case};
 use crate::ffi;
 use crate::kept::{Kept, Lent, Memory};
 use crate::list::{self, Store};
@@ -72,8 +72,9 @@ pub fn run<const LENT: usize>(
     let form = own_form(form).number();
     ffi::stop();
     kept.enter();
-    let Lent { from, out, palette, a, b, place } = kept.lent();
-    let kind = numbers::step(film, from, out, palette, a, b, place, &mut [], allowed, form);
+    let Lent { from, out, palette, mut pictures, place } = kept.lent();
+    let kind =
+        numbers::step(film, from, out, palette, &mut pictures, place, &mut [], allowed, form);
     let made = out[3];
     kept.leave();
     ffi::stop();
@@ -105,11 +106,10 @@ impl Case for Once {
 
     fn go_on(&self, left: &Memory) -> Result<(), String> {
         let mut memory = left.clone();
-        let Memory { palette, pictures: [a, b], place, .. } = &mut memory;
         let given =
             mve::State::from_numbers(&left.state).ok_or("the saved numbers are no state")?;
         let (allowed, form) = (mve::ALL_STORES, own_form(self.form));
-        let step = mve::step(&self.film, given, palette, a, b, place, &mut [], allowed, form)
+        let step = own_step(form, &self.film, given, &mut memory, &mut [], allowed)
             .map_err(|refusal| format!("the new step is refused: {refusal}"))?;
         let next = match (self.undisturbed, step) {
             (Stepped::Taken(next, made, 0), Step::Taken { stores, bytes: 0, .. })

@@ -49,8 +49,9 @@ fn stores(film: &[u8], stream: usize, end: State, mut memory: Memory) -> Vec<Sto
     let (mut stores, mut room) = (Vec::new(), vec![0; ROOM_BYTES]);
     while state != end {
         let listed = list::step(film, &state, &memory);
-        let Memory { palette, pictures: [picture_a, picture_b], place, .. } = &mut memory;
-        let lent = Lent { palette, picture_a, picture_b, place, room: &mut room };
+        let Memory { palette, pictures: [picture_a, picture_b], words, place, .. } = &mut memory;
+        let words = words.each_mut().map(Vec::as_mut_slice);
+        let lent = Lent { palette, picture_a, picture_b, place, room: &mut room, words };
         state = match reference::film::step(film, state, lent, usize::MAX) {
             Stepped::Taken(next, ..) => next,
             other => panic!("a step up to the size is answered {other:?}"),

@@ -11,7 +11,7 @@ use mve::{Drawn, State, ROOM_BYTES};
 use reference::CallForm;
 use std::io;
 
-/// The bytes of each picture that are lent to a process that is stepped: more than the pixels of any
+/// The bytes or words of each picture that are lent to a process that is stepped: more than the pixels of any
 /// frame that is drawn there.
 pub const LENT: usize = 600;
 
@@ -33,6 +33,24 @@ pub fn run(arguments: &[String]) -> io::Result<String> {
             kept.enter();
             let Kept { a, b, place, .. } = &mut *kept;
             let drawn = draw(columns, rows, &map, &data, a, b, place, allowed);
+            kept.leave();
+            ffi::stop();
+            Ok(match drawn.map_err(io::Error::other)? {
+                Drawn::Whole { stores, .. } => format!("whole {stores}\n"),
+                Drawn::Unfinished { stores, .. } => format!("unfinished {stores}\n"),
+            })
+        }
+        ["--draw-words", form, columns, rows, allowed, map, data] => {
+            let [columns, rows, allowed] = [columns, rows, allowed].map(number);
+            let (map, data) = (hex_bytes(map), hex_bytes(data));
+            let draw = match form_named(form) {
+                CallForm::Default => mve::draw_words,
+                CallForm::Strict => mve::draw_words_strict,
+            };
+            ffi::stop();
+            kept.enter();
+            let Kept { words: [last, new, oldest], place, .. } = &mut *kept;
+            let drawn = draw(columns, rows, &map, &data, last, oldest, new, place, allowed);
             kept.leave();
             ffi::stop();
             Ok(match drawn.map_err(io::Error::other)? {
@@ -102,8 +120,9 @@ pub fn walk<const LENT: usize>(
     let form = own_form(form).number();
     for steps in 1.. {
         kept.enter();
-        let Lent { from, out, palette, a, b, place } = kept.lent();
-        let kind = numbers::step(film, from, out, palette, a, b, place, &mut room, allowed, form);
+        let Lent { from, out, palette, mut pictures, place } = kept.lent();
+        let (pictures, room) = (&mut pictures, &mut room);
+        let kind = numbers::step(film, from, out, palette, pictures, place, room, allowed, form);
         kept.leave();
         match kind {
             kind::UNFINISHED => {}

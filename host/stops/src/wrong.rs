@@ -54,7 +54,8 @@ pub fn stores<const LENT: usize>(
     data: &[u8],
 ) -> Vec<Store> {
     let pictures = [kept.a.to_vec(), kept.b.to_vec()];
-    let memory = Memory { palette: kept.palette.to_vec(), pictures, place: 0, state: NO_STATE };
+    let (palette, words) = (kept.palette.to_vec(), kept.words.map(|words| words.to_vec()));
+    let memory = Memory { palette, pictures, words, place: 0, state: NO_STATE };
     let packet = Packet { columns, rows, map, data, front: 0 };
     let mut stores = list::drawing(&packet, &memory).expect("a valid packet");
     let (index, value) = (LENT - 1, kept.b[LENT - 1]);
@@ -87,7 +88,7 @@ pub fn make<const LENT: usize>(stores: &[Store], kept: &mut Kept<LENT>) {
         match store {
             Store::Pixel { index, value, .. } => *hint::black_box(&mut kept.b[index]) = value,
             Store::Place(place) => *hint::black_box(&mut kept.place) = place,
-            Store::Palette { .. } | Store::Black { .. } | Store::State(_) => {
+            Store::Palette { .. } | Store::Black { .. } | Store::Word { .. } | Store::State(_) => {
                 panic!("a drawing does not store it")
             }
         }

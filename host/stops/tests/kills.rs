@@ -13,6 +13,17 @@ fn killed_players_go_on() {
     assert!(killed.inside * 2 > killed.kills && killed.drawing >= 100, "{killed:?}");
 }
 
+/// With true colour: each of the three pictures is drawn on and sent.
+#[test]
+fn killed_in_words() {
+    let program = Path::new(env!("CARGO_BIN_EXE_stops"));
+    let killed = kill_in(program, Player::Right, Rich::Words, 1, 300);
+    let killed = killed.unwrap_or_else(|error| panic!("{error}"));
+    println!("{killed:?}");
+    assert!(killed.kills >= 300 && killed.films >= 2 && killed.sent >= 16);
+    assert!(killed.inside * 2 > killed.kills && killed.drawing >= 100, "{killed:?}");
+}
+
 /// In palettes and in sends: what is sent has the palette of the second decoder, too.
 #[test]
 fn killed_in_palettes_and_sends() {

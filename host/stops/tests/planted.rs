@@ -3,7 +3,7 @@
 
 use maker::colours::Change;
 use maker::sound::Format;
-use maker::{Packet, Seeded};
+use maker::{Packet, Seeded, WordForm};
 use reference::CallForm;
 use std::path::Path;
 use stops::cases::{Case, Drawing, Walk};
@@ -160,6 +160,46 @@ fn gradients_of_one_entry() {
     }
     for made in [&[3][..], &[0, 3], &[1, 2, 3], &[3, 4, 5]] {
         assert!(!is_prefix(made), "{made:?}");
+    }
+}
+
+/// Stores of words in another order than the list's, one of them left out, or one of another value; and what a
+/// new call does not set right: a word of an older picture, or one beyond the frame.
+#[test]
+fn wrong_words_are_noticed() {
+    let raw = WordForm::of(0xB, &[]).expect("a form");
+    let [drawing, ..] = made::of_word_form(&mut Seeded::new(5), raw);
+    let (found, stores) = (drawing.found(), drawing.stores());
+    let is_prefix = |made: &[Store]| {
+        let mut seen = found.clone();
+        made.iter().for_each(|&store| seen.make(store));
+        Prefix::new(found.clone(), stores).reach(&seen).is_ok()
+    };
+    let changes = |store: &Store| match *store {
+        Store::Word { picture, index, value } => found.words[picture][index] != value,
+        _ => false,
+    };
+    let mut noticed = 0;
+    for at in 0..130 {
+        assert!(is_prefix(&stores[..at]), "{at}");
+        let Store::Word { picture, index, value } = stores[at] else { continue };
+        let other = Store::Word { picture, index, value: value ^ 0x8000 };
+        if found.words[picture][index] != value ^ 0x8000 {
+            assert!(!is_prefix(&[&stores[..at], &[other]].concat()), "another value, {at}");
+        }
+        if changes(&stores[at]) && stores.get(at + 1).is_some_and(changes) {
+            assert!(!is_prefix(&[&stores[..at], &stores[at + 1..at + 2]].concat()), "{at}");
+            noticed += 1;
+        }
+    }
+    assert!(noticed >= 60, "{noticed} of {}", stores.len());
+    assert_eq!(drawing.go_on(found), Ok(()));
+    let pixels = drawing.packet().pixels();
+    for (picture, at, name) in [(0, 0, "first"), (2, pixels - 1, "third"), (1, pixels, "second")] {
+        let mut left = found.clone();
+        left.words[picture][at] ^= 0x8000;
+        let fault = drawing.go_on(&left).expect_err("another picture");
+        assert!(fault.starts_with(&format!("the {name} picture of words is not")), "{fault}");
     }
 }
 

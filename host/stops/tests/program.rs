@@ -13,11 +13,12 @@ fn ends_with_the_counts() {
     let text = String::from_utf8(output.stdout).expect("text");
     assert!(output.status.success(), "{text}");
     let starts = [
-        "drawings: Counts { cases: 3, ",
-        "walks: Counts { cases: 12, ",
+        "drawings: Counts { cases: 6, ",
+        "walks: Counts { cases: 15, ",
         "openings: Counts { cases: 3, ",
         "kills: Killed { ",
         "kills in palettes: Killed { ",
+        "kills in words: Killed { ",
     ];
     assert!(text.lines().zip(starts).all(|(line, start)| line.starts_with(start)), "{text}");
     assert_eq!(text.lines().count(), starts.len(), "{text}");

@@ -3,8 +3,9 @@
 
 use maker::colours::Change;
 use maker::sound::Format;
-use maker::{Form, Profile, Seeded};
+use maker::{Form, Profile, Seeded, WordForm, WordProfile};
 use reference::packet::{blocks, left_over};
+use reference::word_packet::{parts, word_blocks};
 use reference::CallForm;
 use std::collections::BTreeSet;
 use std::path::Path;
@@ -12,6 +13,7 @@ use stops::cases::{Case, Drawing, Walk};
 use stops::list::Store;
 use stops::made;
 use stops::watch::{watch, Counts};
+use stops::words::WordDrawing;
 
 /// Steps a case. Nothing was looked at where no instruction was stepped.
 #[track_caller]
@@ -67,6 +69,77 @@ fn drawings_of_every_form() {
     }
     println!("{all:?}");
     assert!(all.cases == 69 && all.instructions >= 30_000 && all.changes >= 1000);
+}
+
+/// The forms of the blocks of a packet with true colour.
+fn word_forms(drawing: &WordDrawing) -> Vec<WordForm> {
+    let maker::Packet { columns, rows, map, data } = drawing.packet();
+    let blocks = word_blocks(*columns, *rows, map, data).expect("a valid packet");
+    let mut left = parts(data).expect("two parts");
+    let form = |code| {
+        let form = WordForm::of(code, left.first).expect("a form");
+        left.block(code).expect("all its bytes");
+        form
+    };
+    blocks.iter().map(|block| block.code).map(form).collect()
+}
+
+/// With true colour every block has 65 stores, code 1 too.
+#[test]
+fn drawings_of_every_word_form() {
+    let mut all = Counts::default();
+    for (seed, form) in (0..).zip(WordForm::ALL) {
+        let drawings = made::of_word_form(&mut Seeded::new(seed), form);
+        assert!(word_forms(&drawings[0]).contains(&form), "{form:?}");
+        let [default, strict] = CallForm::ALL;
+        assert_eq!(drawings.each_ref().map(WordDrawing::form), [default, default, strict]);
+        assert_eq!(drawings.each_ref().map(|drawing| drawing.stores().len()), [260, 29, 94]);
+        for (number, drawing) in drawings.iter().enumerate() {
+            let counts = stepped(&format!("{form:?}, {number}"), drawing);
+            // However wide the stores that the compiler merges into one: a few are seen.
+            let least = drawing.stores().len() / 32;
+            assert!(counts.changes >= least, "{form:?}, {number}: {counts:?}");
+            all += counts;
+        }
+    }
+    println!("{all:?}");
+    assert!(all.cases == 72 && all.instructions >= 30_000 && all.changes >= 1000);
+}
+
+#[test]
+fn drawings_of_any_words() {
+    let mut all = Counts::default();
+    let mut behind = 0;
+    for seed in 0..30 {
+        let drawing = made::word_drawing(&mut Seeded::new(seed));
+        behind += usize::from(drawing.found().place > 0);
+        all += stepped(&format!("seed {seed}"), &drawing);
+    }
+    println!("{all:?}, {behind} of them behind the first block");
+    assert!(all.instructions >= 20_000 && all.changes >= 300 && behind >= 5);
+}
+
+/// Three frames, so that each of the three pictures is drawn on, older and shown, by steps of either form.
+#[test]
+fn walks_with_true_colour() {
+    let mut all = Counts::default();
+    for (seed, profile) in (0..).zip(WordProfile::MANY) {
+        for (allowed, call) in [(usize::MAX, CallForm::Default), (70, CallForm::Strict)] {
+            let walk = made::word_walk(&mut Seeded::new(seed), call, profile, allowed);
+            let drawn: BTreeSet<usize> = walk
+                .stores()
+                .iter()
+                .filter_map(|store| match store {
+                    Store::Word { picture, .. } => Some(*picture),
+                    _ => None,
+                })
+                .collect();
+            assert_eq!(drawn, BTreeSet::from([0, 1, 2]), "{profile:?}");
+            all += stepped(&format!("{profile:?}, allowed {allowed}, {call:?}"), &walk);
+        }
+    }
+    println!("{all:?}");
+    assert!(all.instructions >= 30_000 && all.changes >= 500);
 }
 
 #[test]

@@ -2,6 +2,7 @@ use native.Mathlib.Omega.{arith}
 use Rattle.opcodes.proofs.Steps.{ends-film, gives-size, sends, passes}
 use Rattle.begin.specs.Begin.{allowance}
 use Rattle.begin.proofs.Before.{ample, judges-gradient, judges-entries, judges-groups, judges-map, judges-draw, judges-quiet, judges-low}
+use Rattle.begin.proofs.Possible.{early-flat}
 use borrow.Author.Needs.{needs}
 use Rattle.begin.proofs.act.Statement.{statement}
 use Rattle.begin.proofs.act.Tie as tie
@@ -98,7 +99,7 @@ returns-7 : tie.Need-returns-7
 returns-7 c = λ l g. judges-map _ _ _ _ _ _ _ allowance ample l _ (c .before .match .keys7) (c .mapped .ensures)
 
 returns-8 : tie.Need-returns-8
-returns-8 c = λ l g. judges-draw _ _ _ _ _ _ _ allowance ample l (c .match .keys8) (c .before .before .before .before .pre .1)
+returns-8 c = λ l g. let y = c .before .before .before .before .pre .1 in judges-draw _ _ _ _ _ _ _ allowance ample l (c .match .keys8) (y .unsized) (early-flat _ _ y)
 
 returns-9 : tie.Need-returns-9
 returns-9 c = λ l g. judges-quiet _ _ _ _ _ _ _ allowance ample l _ (c .before .match .rest .0 .0 .0 .0 .1) (c .before .match .rest .0 .0 .0 .1) (c .before .match .rest .0 .0 .1) (c .before .match .rest .0 .1) (c .before .match .rest .1) (passes _ _ _ _ _ _ _ (c .before .match .rest .0 .0 .0 .0 .0 .0 .0 .1) (c .before .match .rest .0 .0 .0 .0 .0 .0 .1) (c .before .match .rest .0 .0 .0 .0 .0 .1) (c .behind .ensures))

@@ -41,7 +41,7 @@ slice-aggregate-take : tie.Need-slice-aggregate-take
 slice-aggregate-take c = search needs
 
 take-requires : tie.Need-take-requires
-take-requires c κs = (early-ready _ (c .before .before .before .before .before .before .before .before .before .before .args .st) _ _ _ (c .before .before .before .before .before .before .before .before .before .before .pre) (c .before .before .before .before .before .is-chosen .ensures) (c .before .before .before .before .standing-at .ensures) (c .before .before .o .given .1), (c .before .before .before .before .before .before .before .before .before .before .pre .unsized, refl))
+take-requires c κs = (early-ready _ (c .before .before .before .before .before .before .before .before .before .before .args .st) _ _ _ (c .before .before .before .before .before .before .before .before .before .before .pre) (c .before .before .before .before .before .is-chosen .ensures) (c .before .before .before .before .standing-at .ensures) (c .before .before .o .given .1), (c .before .before .before .before .before .before .before .before .before .before .pre, refl))
 
 turn-of-requires : tie.Need-turn-of-requires
 turn-of-requires c κs = search needs

@@ -34,25 +34,25 @@ is-heard-requires : tie.Need-is-heard-requires
 is-heard-requires c κs = search needs
 
 returns : tie.Need-returns
-returns c = (λ a b room. keeps-sound _ _ (c .before .before .before .before .before .before .before .before .before .before .before .pre .0) _ (c .before .before .before .before .before .before .is-chosen .ensures) _ (c .before .before .before .before .before .standing-at .ensures) (lent (c .before .before .before .before .before .before .before .before .before .before .before .args .palette .now) a b (c .before .before .before .before .before .before .before .before .before .before .before .args .place .now) room) allowance (c .before .before .before .before .before .before .before .before .before .before .before .pre .1) _ (c .before .before .before .o .given .1) _ (c .before .is-heard .ensures) (c .if1 .taken) .0, λ a b room. keeps-sound _ _ (c .before .before .before .before .before .before .before .before .before .before .before .pre .0) _ (c .before .before .before .before .before .before .is-chosen .ensures) _ (c .before .before .before .before .before .standing-at .ensures) (lent (c .before .before .before .before .before .before .before .before .before .before .before .args .palette .now) a b (c .before .before .before .before .before .before .before .before .before .before .before .args .place .now) room) allowance (c .before .before .before .before .before .before .before .before .before .before .before .pre .1) _ (c .before .before .before .o .given .1) _ (c .before .is-heard .ensures) (c .if1 .taken) .1)
+returns c = (λ a b room w. keeps-sound _ _ (c .before .before .before .before .before .before .before .before .before .before .before .pre .0) _ (c .before .before .before .before .before .before .is-chosen .ensures) _ (c .before .before .before .before .before .standing-at .ensures) (lent (c .before .before .before .before .before .before .before .before .before .before .before .args .palette .now) a b (c .before .before .before .before .before .before .before .before .before .before .before .args .place .now) room w) allowance (c .before .before .before .before .before .before .before .before .before .before .before .pre .1) _ (c .before .before .before .o .given .1) _ (c .before .is-heard .ensures) (c .if1 .taken) .0, λ a b room w. keeps-sound _ _ (c .before .before .before .before .before .before .before .before .before .before .before .pre .0) _ (c .before .before .before .before .before .before .is-chosen .ensures) _ (c .before .before .before .before .before .standing-at .ensures) (lent (c .before .before .before .before .before .before .before .before .before .before .before .args .palette .now) a b (c .before .before .before .before .before .before .before .before .before .before .before .args .place .now) room w) allowance (c .before .before .before .before .before .before .before .before .before .before .before .pre .1) _ (c .before .before .before .o .given .1) _ (c .before .is-heard .ensures) (c .if1 .taken) .1)
 
 store-opcode-requires : tie.Need-store-opcode-requires
 store-opcode-requires c κs = (early-ready _ (c .before .before .before .before .before .before .before .before .before .before .before .before .before .args .st) _ _ _ (c .before .before .before .before .before .before .before .before .before .before .before .before .before .pre .0) (c .before .before .before .before .before .before .before .before .is-chosen .ensures) (c .before .before .before .before .before .before .before .standing-at .ensures) (c .before .before .before .before .before .o .given .1), c .before .before .before .before .before .before .before .before .before .before .before .before .before .pre .0 .unsized)
 
 returns-2 : tie.Need-returns-2
-returns-2 c = (λ a b room. keeps-refused _ _ (c .before .before .before .before .before .before .before .before .pre .0) _ (c .before .before .before .is-chosen .ensures) _ (c .before .before .standing-at .ensures) (lent (c .before .before .before .before .before .before .before .before .args .palette .now) a b (c .before .before .before .before .before .before .before .before .args .place .now) room) allowance (c .before .before .before .before .before .before .before .before .pre .1) _ (c .enum-told .given .1) .0, λ a b room. keeps-refused _ _ (c .before .before .before .before .before .before .before .before .pre .0) _ (c .before .before .before .is-chosen .ensures) _ (c .before .before .standing-at .ensures) (lent (c .before .before .before .before .before .before .before .before .args .palette .now) a b (c .before .before .before .before .before .before .before .before .args .place .now) room) allowance (c .before .before .before .before .before .before .before .before .pre .1) _ (c .enum-told .given .1) .1)
+returns-2 c = (λ a b room w. keeps-refused _ _ (c .before .before .before .before .before .before .before .before .pre .0) _ (c .before .before .before .is-chosen .ensures) _ (c .before .before .standing-at .ensures) (lent (c .before .before .before .before .before .before .before .before .args .palette .now) a b (c .before .before .before .before .before .before .before .before .args .place .now) room w) allowance (c .before .before .before .before .before .before .before .before .pre .1) _ (c .enum-told .given .1) .0, λ a b room w. keeps-refused _ _ (c .before .before .before .before .before .before .before .before .pre .0) _ (c .before .before .before .is-chosen .ensures) _ (c .before .before .standing-at .ensures) (lent (c .before .before .before .before .before .before .before .before .args .palette .now) a b (c .before .before .before .before .before .before .before .before .args .place .now) room w) allowance (c .before .before .before .before .before .before .before .before .pre .1) _ (c .enum-told .given .1) .1)
 
 returns-3 : tie.Need-returns-3
-returns-3 c = (λ a b room. keeps-ended _ _ (c .before .before .before .before .before .before .before .before .pre .0) _ (c .before .before .before .is-chosen .ensures) _ (c .before .before .standing-at .ensures) (lent (c .before .before .before .before .before .before .before .before .args .palette .now) a b (c .before .before .before .before .before .before .before .before .args .place .now) room) allowance (c .before .before .before .before .before .before .before .before .pre .1) (c .enum-told2 .given .1) .0, λ a b room. keeps-ended _ _ (c .before .before .before .before .before .before .before .before .pre .0) _ (c .before .before .before .is-chosen .ensures) _ (c .before .before .standing-at .ensures) (lent (c .before .before .before .before .before .before .before .before .args .palette .now) a b (c .before .before .before .before .before .before .before .before .args .place .now) room) allowance (c .before .before .before .before .before .before .before .before .pre .1) (c .enum-told2 .given .1) .1)
+returns-3 c = (λ a b room w. keeps-ended _ _ (c .before .before .before .before .before .before .before .before .pre .0) _ (c .before .before .before .is-chosen .ensures) _ (c .before .before .standing-at .ensures) (lent (c .before .before .before .before .before .before .before .before .args .palette .now) a b (c .before .before .before .before .before .before .before .before .args .place .now) room w) allowance (c .before .before .before .before .before .before .before .before .pre .1) (c .enum-told2 .given .1) .0, λ a b room w. keeps-ended _ _ (c .before .before .before .before .before .before .before .before .pre .0) _ (c .before .before .before .is-chosen .ensures) _ (c .before .before .standing-at .ensures) (lent (c .before .before .before .before .before .before .before .before .args .palette .now) a b (c .before .before .before .before .before .before .before .before .args .place .now) room w) allowance (c .before .before .before .before .before .before .before .before .pre .1) (c .enum-told2 .given .1) .1)
 
 returns-4 : tie.Need-returns-4
-returns-4 c = (λ a b room. keeps-chunk _ _ (c .before .before .before .before .before .before .before .before .pre .0) _ (c .before .before .before .is-chosen .ensures) _ (c .before .before .standing-at .ensures) (lent (c .before .before .before .before .before .before .before .before .args .palette .now) a b (c .before .before .before .before .before .before .before .before .args .place .now) room) allowance (c .before .before .before .before .before .before .before .before .pre .1) _ (c .enum-told3 .given .1) .0, λ a b room. keeps-chunk _ _ (c .before .before .before .before .before .before .before .before .pre .0) _ (c .before .before .before .is-chosen .ensures) _ (c .before .before .standing-at .ensures) (lent (c .before .before .before .before .before .before .before .before .args .palette .now) a b (c .before .before .before .before .before .before .before .before .args .place .now) room) allowance (c .before .before .before .before .before .before .before .before .pre .1) _ (c .enum-told3 .given .1) .1)
+returns-4 c = (λ a b room w. keeps-chunk _ _ (c .before .before .before .before .before .before .before .before .pre .0) _ (c .before .before .before .is-chosen .ensures) _ (c .before .before .standing-at .ensures) (lent (c .before .before .before .before .before .before .before .before .args .palette .now) a b (c .before .before .before .before .before .before .before .before .args .place .now) room w) allowance (c .before .before .before .before .before .before .before .before .pre .1) _ (c .enum-told3 .given .1) .0, λ a b room w. keeps-chunk _ _ (c .before .before .before .before .before .before .before .before .pre .0) _ (c .before .before .before .is-chosen .ensures) _ (c .before .before .standing-at .ensures) (lent (c .before .before .before .before .before .before .before .before .args .palette .now) a b (c .before .before .before .before .before .before .before .before .args .place .now) room w) allowance (c .before .before .before .before .before .before .before .before .pre .1) _ (c .enum-told3 .given .1) .1)
 
 same-length : tie.Need-same-length
 same-length c = search needs
 
 returns-5 : tie.Need-returns-5
-returns-5 c = (λ a b room. leaves-opcode _ _ (c .before .before .before .before .before .before .before .before .before .before .before .before .before .before .before .before .pre .0) _ (c .before .before .before .before .before .before .before .before .before .before .before .is-chosen .ensures) _ (c .before .before .before .before .before .before .before .before .before .before .standing-at .ensures) (lent (c .before .before .before .before .before .before .before .before .before .before .before .before .before .before .before .before .args .palette .now) a b (c .before .before .before .before .before .before .before .before .before .before .before .before .before .before .before .before .args .place .now) room) allowance (c .before .before .before .before .before .before .before .before .before .before .before .before .before .before .before .before .pre .1) _ (c .before .before .before .before .before .before .before .before .o .given .1) _ (c .before .before .before .before .before .before .is-heard .ensures) (c .before .before .before .before .before .if1 .left) _ _ (c .before .before .store-opcode .ensures .0 a b room) (c .before .before .store-opcode .ensures .1 a b room) .0, λ a b room. leaves-opcode _ _ (c .before .before .before .before .before .before .before .before .before .before .before .before .before .before .before .before .pre .0) _ (c .before .before .before .before .before .before .before .before .before .before .before .is-chosen .ensures) _ (c .before .before .before .before .before .before .before .before .before .before .standing-at .ensures) (lent (c .before .before .before .before .before .before .before .before .before .before .before .before .before .before .before .before .args .palette .now) a b (c .before .before .before .before .before .before .before .before .before .before .before .before .before .before .before .before .args .place .now) room) allowance (c .before .before .before .before .before .before .before .before .before .before .before .before .before .before .before .before .pre .1) _ (c .before .before .before .before .before .before .before .before .o .given .1) _ (c .before .before .before .before .before .before .is-heard .ensures) (c .before .before .before .before .before .if1 .left) _ _ (c .before .before .store-opcode .ensures .0 a b room) (c .before .before .store-opcode .ensures .1 a b room) .1)
+returns-5 c = (λ a b room w. leaves-opcode _ _ (c .before .before .before .before .before .before .before .before .before .before .before .before .before .before .before .before .pre .0) _ (c .before .before .before .before .before .before .before .before .before .before .before .is-chosen .ensures) _ (c .before .before .before .before .before .before .before .before .before .before .standing-at .ensures) (lent (c .before .before .before .before .before .before .before .before .before .before .before .before .before .before .before .before .args .palette .now) a b (c .before .before .before .before .before .before .before .before .before .before .before .before .before .before .before .before .args .place .now) room w) allowance (c .before .before .before .before .before .before .before .before .before .before .before .before .before .before .before .before .pre .1) _ (c .before .before .before .before .before .before .before .before .o .given .1) _ (c .before .before .before .before .before .before .is-heard .ensures) (c .before .before .before .before .before .if1 .left) _ _ (c .before .before .store-opcode .ensures .0 a b room w) (c .before .before .store-opcode .ensures .1 a b room w) .0, λ a b room w. leaves-opcode _ _ (c .before .before .before .before .before .before .before .before .before .before .before .before .before .before .before .before .pre .0) _ (c .before .before .before .before .before .before .before .before .before .before .before .is-chosen .ensures) _ (c .before .before .before .before .before .before .before .before .before .before .standing-at .ensures) (lent (c .before .before .before .before .before .before .before .before .before .before .before .before .before .before .before .before .args .palette .now) a b (c .before .before .before .before .before .before .before .before .before .before .before .before .before .before .before .before .args .place .now) room w) allowance (c .before .before .before .before .before .before .before .before .before .before .before .before .before .before .before .before .pre .1) _ (c .before .before .before .before .before .before .before .before .o .given .1) _ (c .before .before .before .before .before .before .is-heard .ensures) (c .before .before .before .before .before .if1 .left) _ _ (c .before .before .store-opcode .ensures .0 a b room w) (c .before .before .store-opcode .ensures .1 a b room w) .1)
 
 pub store-spec : {M : Type 1} → statement M
 store-spec =

@@ -39,25 +39,25 @@ same-length : tie.Need-same-length
 same-length c = search needs
 
 returns : tie.Need-returns
-returns c = (λ a b room. leaves-gradient _ _ _ _ _ _ _ allowance ample (lent (c .before .before .before .before .before .before .before .before .before .args .palette .now) a b (c .before .before .before .before .before .before .before .before .before .args .place .now) room) _ (c .before .before .before .before .match .keys1) (c .before .before .create-gradient .ensures .1) .0, λ a b room. leaves-gradient _ _ _ _ _ _ _ allowance ample (lent (c .before .before .before .before .before .before .before .before .before .args .palette .now) a b (c .before .before .before .before .before .before .before .before .before .args .place .now) room) _ (c .before .before .before .before .match .keys1) (c .before .before .create-gradient .ensures .1) .1)
+returns c = (λ a b room w. leaves-gradient _ _ _ _ _ _ _ allowance ample (lent (c .before .before .before .before .before .before .before .before .before .args .palette .now) a b (c .before .before .before .before .before .before .before .before .before .args .place .now) room w) _ (c .before .before .before .before .match .keys1) (c .before .before .create-gradient .ensures .1) .0, λ a b room w. leaves-gradient _ _ _ _ _ _ _ allowance ample (lent (c .before .before .before .before .before .before .before .before .before .args .palette .now) a b (c .before .before .before .before .before .before .before .before .before .args .place .now) room w) _ (c .before .before .before .before .match .keys1) (c .before .before .create-gradient .ensures .1) .1)
 
 same-length-2 : tie.Need-same-length-2
 same-length-2 c = search needs
 
 returns-2 : tie.Need-returns-2
-returns-2 c = (λ a b room. leaves-entries _ _ _ _ _ _ _ allowance ample (lent (c .before .before .before .before .before .before .before .before .before .args .palette .now) a b (c .before .before .before .before .before .before .before .before .before .args .place .now) room) _ (c .before .before .before .before .match .keys2) (c .before .before .set-palette .ensures .1) .0, λ a b room. leaves-entries _ _ _ _ _ _ _ allowance ample (lent (c .before .before .before .before .before .before .before .before .before .args .palette .now) a b (c .before .before .before .before .before .before .before .before .before .args .place .now) room) _ (c .before .before .before .before .match .keys2) (c .before .before .set-palette .ensures .1) .1)
+returns-2 c = (λ a b room w. leaves-entries _ _ _ _ _ _ _ allowance ample (lent (c .before .before .before .before .before .before .before .before .before .args .palette .now) a b (c .before .before .before .before .before .before .before .before .before .args .place .now) room w) _ (c .before .before .before .before .match .keys2) (c .before .before .set-palette .ensures .1) .0, λ a b room w. leaves-entries _ _ _ _ _ _ _ allowance ample (lent (c .before .before .before .before .before .before .before .before .before .args .palette .now) a b (c .before .before .before .before .before .before .before .before .before .args .place .now) room w) _ (c .before .before .before .before .match .keys2) (c .before .before .set-palette .ensures .1) .1)
 
 same-length-3 : tie.Need-same-length-3
 same-length-3 c = search needs
 
 returns-3 : tie.Need-returns-3
-returns-3 c = (λ a b room. leaves-groups _ _ _ _ _ _ _ allowance ample (lent (c .before .before .before .before .before .before .before .before .before .args .palette .now) a b (c .before .before .before .before .before .before .before .before .before .args .place .now) room) _ (c .before .before .before .before .match .keys3) (c .before .before .set-palette-compressed .ensures .1) .0, λ a b room. leaves-groups _ _ _ _ _ _ _ allowance ample (lent (c .before .before .before .before .before .before .before .before .before .args .palette .now) a b (c .before .before .before .before .before .before .before .before .before .args .place .now) room) _ (c .before .before .before .before .match .keys3) (c .before .before .set-palette-compressed .ensures .1) .1)
+returns-3 c = (λ a b room w. leaves-groups _ _ _ _ _ _ _ allowance ample (lent (c .before .before .before .before .before .before .before .before .before .args .palette .now) a b (c .before .before .before .before .before .before .before .before .before .args .place .now) room w) _ (c .before .before .before .before .match .keys3) (c .before .before .set-palette-compressed .ensures .1) .0, λ a b room w. leaves-groups _ _ _ _ _ _ _ allowance ample (lent (c .before .before .before .before .before .before .before .before .before .args .palette .now) a b (c .before .before .before .before .before .before .before .before .before .args .place .now) room w) _ (c .before .before .before .before .match .keys3) (c .before .before .set-palette-compressed .ensures .1) .1)
 
 returns-4 : tie.Need-returns-4
-returns-4 c = (λ a b room. leaves-map _ _ _ _ _ _ _ allowance ample (lent (c .before .before .before .before .before .before .before .args .palette .now) a b (c .before .before .before .before .before .before .before .args .place .now) room) _ (c .before .before .match .keys4) (c .set-place .ensures) .0, λ a b room. leaves-map _ _ _ _ _ _ _ allowance ample (lent (c .before .before .before .before .before .before .before .args .palette .now) a b (c .before .before .before .before .before .before .before .args .place .now) room) _ (c .before .before .match .keys4) (c .set-place .ensures) .1)
+returns-4 c = (λ a b room w. leaves-map _ _ _ _ _ _ _ allowance ample (lent (c .before .before .before .before .before .before .before .args .palette .now) a b (c .before .before .before .before .before .before .before .args .place .now) room w) _ (c .before .before .match .keys4) (c .set-place .ensures) .0, λ a b room w. leaves-map _ _ _ _ _ _ _ allowance ample (lent (c .before .before .before .before .before .before .before .args .palette .now) a b (c .before .before .before .before .before .before .before .args .place .now) room w) _ (c .before .before .match .keys4) (c .set-place .ensures) .1)
 
 returns-5 : tie.Need-returns-5
-returns-5 c = (λ a b room. leaves-others _ _ _ _ _ _ _ allowance ample (lent (c .before .before .before .before .before .args .palette .now) a b (c .before .before .before .before .before .args .place .now) room) (c .before .before .before .before .before .pre .1) (c .match .rest .0 .0 .0 .1) (c .match .rest .0 .0 .1) (c .match .rest .0 .1) (c .match .rest .1) .0, λ a b room. leaves-others _ _ _ _ _ _ _ allowance ample (lent (c .before .before .before .before .before .args .palette .now) a b (c .before .before .before .before .before .args .place .now) room) (c .before .before .before .before .before .pre .1) (c .match .rest .0 .0 .0 .1) (c .match .rest .0 .0 .1) (c .match .rest .0 .1) (c .match .rest .1) .1)
+returns-5 c = (λ a b room w. leaves-others _ _ _ _ _ _ _ allowance ample (lent (c .before .before .before .before .before .args .palette .now) a b (c .before .before .before .before .before .args .place .now) room w) (c .before .before .before .before .before .pre .1) (c .match .rest .0 .0 .0 .1) (c .match .rest .0 .0 .1) (c .match .rest .0 .1) (c .match .rest .1) .0, λ a b room w. leaves-others _ _ _ _ _ _ _ allowance ample (lent (c .before .before .before .before .before .args .palette .now) a b (c .before .before .before .before .before .args .place .now) room w) (c .before .before .before .before .before .pre .1) (c .match .rest .0 .0 .0 .1) (c .match .rest .0 .0 .1) (c .match .rest .0 .1) (c .match .rest .1) .1)
 
 pub store-opcode-spec : {M : Type 1} → statement M
 store-opcode-spec =

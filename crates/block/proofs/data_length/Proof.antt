@@ -4,20 +4,20 @@ use Rattle.block.proofs.data_length.Statement.{statement}
 use Rattle.block.proofs.data_length.Tie as tie
 use Rattle.block.proofs.data_length.Reads as reads
 use Rattle.block.proofs.data_length.Lts as lts
-use Rattle.block.proofs.fixed_length.Reads as fixed-length-reads
+use Rattle.block.proofs.byte_length.Reads as byte-length-reads
 use Rattle.block.proofs.pattern_length.Reads as pattern-length-reads
 
-fixed-length-requires : tie.Need-fixed-length-requires
-fixed-length-requires c κs = (c .before .before .pre, inl (c .if1 .taken))
+byte-length-requires : tie.Need-byte-length-requires
+byte-length-requires c κs = (c .before .before .pre, inl (c .if1 .taken))
 
 returns : tie.Need-returns
-returns c = search needs
+returns c = λ o. c .byte-length .ensures _ o
 
-fixed-length-requires-2 : tie.Need-fixed-length-requires-2
-fixed-length-requires-2 c κs = (c .before .before .before .pre, inr (c .if2 .taken))
+byte-length-requires-2 : tie.Need-byte-length-requires-2
+byte-length-requires-2 c κs = (c .before .before .before .pre, inr (c .if2 .taken))
 
 returns-2 : tie.Need-returns-2
-returns-2 c = search needs
+returns-2 c = λ o. c .byte-length2 .ensures _ o
 
 pattern-length-requires : tie.Need-pattern-length-requires
 pattern-length-requires c κs = search needs
@@ -29,9 +29,9 @@ pub data-length-spec : {M : Type 1} → statement M
 data-length-spec =
     tie.close
     (tie.spec
-    fixed-length-requires
+    byte-length-requires
     returns
-    fixed-length-requires-2
+    byte-length-requires-2
     returns-2
     pattern-length-requires
     returns-3)

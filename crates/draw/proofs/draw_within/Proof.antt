@@ -23,10 +23,10 @@ enum-known-t : tie.Need-enum-known-t
 enum-known-t c = search needs
 
 draw-blocks-requires : tie.Need-draw-blocks-requires
-draw-blocks-requires c κs = judged-call _ _ _ _ _ _ _ _ _ _ (c .before .before .before .before .before .judge .ensures) _ (c .before .before .before .t .given .1) .1
+draw-blocks-requires c κs = judged-call _ _ _ _ _ _ _ _ _ _ _ _ (c .before .before .before .before .before .judge .ensures) _ (c .before .before .before .t .given .1) .1
 
 mul-answer-of : tie.Need-mul-answer-of
-mul-answer-of c = omega (arith, few _ _ (judged-call _ _ _ _ _ _ _ _ _ _ (c .before .before .before .before .before .before .before .before .judge .ensures) _ (c .before .before .before .before .before .before .t .given .1) .0))
+mul-answer-of c = omega (arith, few _ _ (judged-call _ _ _ _ _ _ _ _ _ _ _ _ (c .before .before .before .before .before .before .before .before .judge .ensures) _ (c .before .before .before .before .before .before .t .given .1) .0))
 
 answer-of-requires : tie.Need-answer-of-requires
 answer-of-requires c κs = search needs

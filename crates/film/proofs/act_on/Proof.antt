@@ -50,14 +50,14 @@ returns c = λ room. act-map-short _ _ _ _ _ _ _ _ _ (c .before .match .keys4) (
 set-place-requires : tie.Need-set-place-requires
 set-place-requires c κs = search needs
 
-sub-t32 : tie.Need-sub-t32
-sub-t32 c = search needs
+sub-t35 : tie.Need-sub-t35
+sub-t35 c = search needs
 
 mapped-requires : tie.Need-mapped-requires
 mapped-requires c κs = search needs
 
 draw-by-requires : tie.Need-draw-by-requires
-draw-by-requires c κs = let q = c .before .before .before .before .before .before .before .before .before .before .pre .0 in (let h = q .packet (c .before .before .before .match .keys5) in let g = c .before .before .before .before .body .given in omega (arith, h, g), c .before .before .before .before .before .before .before .before .before .before .pre .1)
+draw-by-requires c κs = let q = c .before .before .before .before .before .before .before .before .before .before .before .before .before .before .before .before .pre .0 in (let h = q .packet (c .before .before .before .before .before .before .match .keys5) in let g = c .before .before .before .before .before .before .before .body .given in omega (arith, h, g), c .before .before .before .before .before .before .before .before .before .before .before .before .before .before .before .before .pre .1)
 
 quiet-step-requires : tie.Need-quiet-step-requires
 quiet-step-requires c κs = search needs
@@ -89,8 +89,17 @@ same-length-4 c = search needs
 same-length-5 : tie.Need-same-length-5
 same-length-5 c = search needs
 
+same-length-6 : tie.Need-same-length-6
+same-length-6 c = search needs
+
+same-length-7 : tie.Need-same-length-7
+same-length-7 c = search needs
+
+same-length-8 : tie.Need-same-length-8
+same-length-8 c = search needs
+
 returns-6 : tie.Need-returns-6
-returns-6 c = λ room. act-draw _ _ _ _ _ _ _ _ _ _ _ _ _ (c .before .before .before .before .before .before .before .before .match .keys5) (c .before .before .before .before .draw-by .ensures)
+returns-6 c = λ room. act-draw _ _ _ _ _ _ _ _ _ _ (c .before .before .before .before .before .before .before .before .before .before .before .before .before .before .before .before .before .match .keys5) (c .before .before .before .before .before .before .before .before .before .before .draw-by .ensures _ _)
 
 returns-7 : tie.Need-returns-7
 returns-7 c = λ room. act-quiet _ _ _ _ _ _ _ _ _ _ (c .before .match .rest .0 .0 .0 .0 .1) (c .before .match .rest .0 .0 .0 .1) (c .before .match .rest .0 .0 .1) (c .before .match .rest .0 .1) (c .before .match .rest .1) (c .quiet-step .ensures)
@@ -111,7 +120,7 @@ act-on-spec =
     palette-step-requires-3
     returns
     set-place-requires
-    sub-t32
+    sub-t35
     mapped-requires
     draw-by-requires
     quiet-step-requires
@@ -124,5 +133,8 @@ act-on-spec =
     returns-5
     same-length-4
     same-length-5
+    same-length-6
+    same-length-7
+    same-length-8
     returns-6
     returns-7)

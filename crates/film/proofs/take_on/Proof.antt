@@ -1,10 +1,14 @@
-use Rattle.film.specs.Film.{lent}
+use Rattle.film.specs.Film.{words, lent}
 use Rattle.film.proofs.Steps.{takes-sound, takes-other}
 use borrow.Author.Needs.{needs}
 use Rattle.film.proofs.take_on.Statement.{statement}
 use Rattle.film.proofs.take_on.Tie as tie
 use Rattle.film.proofs.take_on.Reads as reads
 use Rattle.film.proofs.take_on.Lts as lts
+use Rattle.film.proofs.act_on.Reads as act-on-reads
+use Rattle.film.proofs.hear_sound.Reads as hear-sound-reads
+use Rattle.heads.proofs.is_heard.Reads as is-heard-reads
+use Rattle.sound.proofs.is_chosen.Reads as is-chosen-reads
 
 is-chosen-requires : tie.Need-is-chosen-requires
 is-chosen-requires c κs = search needs
@@ -31,10 +35,10 @@ same-length : tie.Need-same-length
 same-length c = search needs
 
 returns : tie.Need-returns
-returns c = takes-sound _ _ _ _ _ _ _ (c .before .before .before .before .before .before .before .before .is-chosen .ensures) (c .before .before .before .before .before .before .before .is-heard .ensures) _ (c .before .before .before .before .before .before .if1 .taken) (c .before .before .hear-sound .ensures (lent (c .before .before .before .before .before .before .before .before .before .before .before .before .before .before .before .args .palette .now) (c .before .before .before .before .before .before .before .before .before .before .before .before .before .before .before .args .a .now) (c .before .before .before .before .before .before .before .before .before .before .before .before .before .before .before .args .b .now) (c .before .before .before .before .before .before .before .before .before .before .before .before .before .before .before .args .place .now) (c .before .before .before .before .before .before .before .before .before .before .before .before .before .before .before .args .room .now)))
+returns c = takes-sound _ _ _ _ _ _ _ (c .before .before .before .before .before .before .before .before .is-chosen .ensures) (c .before .before .before .before .before .before .before .is-heard .ensures) _ (c .before .before .before .before .before .before .if1 .taken) (c .before .before .hear-sound .ensures (lent (c .before .before .before .before .before .before .before .before .before .before .before .before .before .before .before .before .before .before .args .palette .now) (c .before .before .before .before .before .before .before .before .before .before .before .before .before .before .before .before .before .before .args .a .now) (c .before .before .before .before .before .before .before .before .before .before .before .before .before .before .before .before .before .before .args .b .now) (c .before .before .before .before .before .before .before .before .before .before .before .before .before .before .before .before .before .before .args .place .now) (c .before .before .before .before .before .before .before .before .before .before .before .before .before .before .before .before .before .before .args .room .now) (words (c .before .before .before .before .before .before .before .before .before .before .before .before .before .before .before .before .before .before .args .c .now) (c .before .before .before .before .before .before .before .before .before .before .before .before .before .before .before .before .before .before .args .d .now) (c .before .before .before .before .before .before .before .before .before .before .before .before .before .before .before .before .before .before .args .e .now))))
 
 act-on-requires : tie.Need-act-on-requires
-act-on-requires c κs = c .before .before .before .before .before .before .before .before .before .before .before .before .before .pre
+act-on-requires c κs = search needs
 
 same-length-2 : tie.Need-same-length-2
 same-length-2 c = search needs
@@ -45,8 +49,17 @@ same-length-3 c = search needs
 same-length-4 : tie.Need-same-length-4
 same-length-4 c = search needs
 
+same-length-5 : tie.Need-same-length-5
+same-length-5 c = search needs
+
+same-length-6 : tie.Need-same-length-6
+same-length-6 c = search needs
+
+same-length-7 : tie.Need-same-length-7
+same-length-7 c = search needs
+
 returns-2 : tie.Need-returns-2
-returns-2 c = takes-other _ _ _ _ _ _ _ (c .before .before .before .before .before .before .before .before .before .before .before .before .before .is-chosen .ensures) (c .before .before .before .before .before .before .before .before .before .before .before .before .is-heard .ensures) _ (c .before .before .before .before .before .before .before .before .before .before .before .if1 .left) (c .before .before .before .before .before .before .act-on .ensures (c .before .before .before .before .before .before .before .before .before .before .before .before .before .before .before .before .before .before .before .before .args .room .now))
+returns-2 c = takes-other _ _ _ _ _ _ _ (c .before .before .before .before .before .before .before .before .before .before .before .before .before .before .before .before .before .before .before .before .before .before .is-chosen .ensures) (c .before .before .before .before .before .before .before .before .before .before .before .before .before .before .before .before .before .before .before .before .before .is-heard .ensures) _ (c .before .before .before .before .before .before .before .before .before .before .before .before .before .before .before .before .before .before .before .before .if1 .left) (c .before .before .before .before .before .before .before .before .before .before .before .before .act-on .ensures (c .before .before .before .before .before .before .before .before .before .before .before .before .before .before .before .before .before .before .before .before .before .before .before .before .before .before .before .before .before .before .before .before .args .room .now))
 
 pub take-on-spec : {M : Type 1} → statement M
 take-on-spec =
@@ -65,4 +78,7 @@ take-on-spec =
     same-length-2
     same-length-3
     same-length-4
+    same-length-5
+    same-length-6
+    same-length-7
     returns-2)

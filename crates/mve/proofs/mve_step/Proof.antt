@@ -30,7 +30,7 @@ step-within-requires : tie.Need-step-within-requires
 step-within-requires c κs = search needs
 
 put-step-requires : tie.Need-put-step-requires
-put-step-requires c κs = (c .before .before .before .before .before .before .before .before .before .before .before .before .before .before .before .before .before .before .before .if1 .left, readable _ _ (c .before .before .before .before .before .before .before .before .before .before .before .before .before .before .before .before .before .before .is-state .ensures) (c .before .before .before .before .before .before .before .before .before .before .before .before .before .before .before .before .before .if2 .taken) .0)
+put-step-requires c κs = (c .before .before .before .before .before .before .before .before .before .before .before .before .before .before .before .before .before .before .before .before .before .before .before .before .before .before .before .before .if1 .left, readable _ _ (c .before .before .before .before .before .before .before .before .before .before .before .before .before .before .before .before .before .before .before .before .before .before .before .before .before .before .before .is-state .ensures) (c .before .before .before .before .before .before .before .before .before .before .before .before .before .before .before .before .before .before .before .before .before .before .before .before .before .before .if2 .taken) .0)
 
 same-length : tie.Need-same-length
 same-length c = search needs
@@ -47,14 +47,23 @@ same-length-4 c = search needs
 same-length-5 : tie.Need-same-length-5
 same-length-5 c = search needs
 
+same-length-6 : tie.Need-same-length-6
+same-length-6 c = search needs
+
+same-length-7 : tie.Need-same-length-7
+same-length-7 c = search needs
+
+same-length-8 : tie.Need-same-length-8
+same-length-8 c = search needs
+
 returns-2 : tie.Need-returns-2
-returns-2 c = step-told _ _ _ (c .before .before .before .before .before .before .before .before .before .before .before .before .before .before .before .before .before .before .before .before .before .before .if1 .left) _ _ _ _ _ _ _ (steppedAs (c .before .before .before .before .before .before .before .before .before .before .before .before .step-within .result)) _ (sym (c .before .before .before .before .before .before .before .before .before .before .before .before .before .before .before .before .before .before .before .before .before .is-state .ensures) ∙ c .before .before .before .before .before .before .before .before .before .before .before .before .before .before .before .before .before .before .before .before .if2 .taken) (c .before .before .before .before .before .before .before .before .before .before .before .before .before .before .before .before .before .before .before .state-of .ensures) (c .before .before .before .before .before .before .before .before .before .before .before .before .before .before .before .before .before .before .spare-of .ensures) (c .before .before .before .before .before .before .before .before .before .before .before .before .step-within .ensures) (c .before .before .put-step .ensures)
+returns-2 c = step-told _ _ _ (c .before .before .before .before .before .before .before .before .before .before .before .before .before .before .before .before .before .before .before .before .before .before .before .before .before .before .before .before .before .before .before .if1 .left) _ _ _ _ _ _ _ (steppedAs (c .before .before .before .before .before .before .before .before .before .before .before .before .before .before .before .before .before .before .step-within .result)) _ (sym (c .before .before .before .before .before .before .before .before .before .before .before .before .before .before .before .before .before .before .before .before .before .before .before .before .before .before .before .before .before .before .is-state .ensures) ∙ c .before .before .before .before .before .before .before .before .before .before .before .before .before .before .before .before .before .before .before .before .before .before .before .before .before .before .before .before .before .if2 .taken) (c .before .before .before .before .before .before .before .before .before .before .before .before .before .before .before .before .before .before .before .before .before .before .before .before .before .before .before .before .state-of .ensures) (c .before .before .before .before .before .before .before .before .before .before .before .before .before .before .before .before .before .before .before .before .before .before .before .before .before .before .before .spare-of .ensures) (c .before .before .before .before .before .before .before .before .before .before .before .before .before .before .before .before .before .before .step-within .ensures) (c .before .before .put-step .ensures)
 
 put-unread-requires : tie.Need-put-unread-requires
 put-unread-requires c κs = search needs
 
-same-length-6 : tie.Need-same-length-6
-same-length-6 c = search needs
+same-length-9 : tie.Need-same-length-9
+same-length-9 c = search needs
 
 returns-3 : tie.Need-returns-3
 returns-3 c = unread-told _ _ _ (c .before .before .before .before .before .before .if1 .left) _ _ _ _ _ (sym (c .before .before .before .before .before .is-state .ensures) ∙ c .before .before .before .before .if2 .left) (c .before .before .put-unread .ensures)
@@ -74,7 +83,10 @@ mve-step-spec =
     same-length-3
     same-length-4
     same-length-5
+    same-length-6
+    same-length-7
+    same-length-8
     returns-2
     put-unread-requires
-    same-length-6
+    same-length-9
     returns-3)

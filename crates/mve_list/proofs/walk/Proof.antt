@@ -1,3 +1,4 @@
+use native.Mathlib.Omega.{arith}
 use Prim.Native.Nat.{_≤_, _-_}
 use mathlib.Core.Path.{_≡_}
 use lib.ListN.{length}
@@ -13,11 +14,11 @@ use Rattle.mve_list.proofs.listed.Reads as listed-reads
 use Rattle.mve_list.proofs.refused.Reads as refused-reads
 
 abbrev Inv-loop : tie.InvT-loop
-Inv-loop film a₀ b₀ palette₀ room₀ place₀ st₀ turns₀ a b palette room place st turns =
-    (turns ≤ 24577) × (length a ≡ 16384) × (length b ≡ 16384) × (length palette ≡ 768) × (length room ≡ 1)
+Inv-loop film a₀ b₀ c₀ d₀ e₀ palette₀ room₀ place₀ st₀ turns₀ a b c d e palette room place st turns =
+    (turns ≤ 24577) × (length a ≡ 16384) × (length b ≡ 16384) × (length c ≡ 0) × (length d ≡ 0) × (length e ≡ 0) × (length palette ≡ 768) × (length room ≡ 1)
 
 abbrev μ-loop : tie.MeasureT-loop
-μ-loop film a₀ b₀ palette₀ room₀ place₀ st₀ turns₀ a b palette room place st turns = 24577 - turns
+μ-loop film a₀ b₀ c₀ d₀ e₀ palette₀ room₀ place₀ st₀ turns₀ a b c d e palette room place st turns = 24577 - turns
 
 loop-holds : tie.Need-loop-holds Inv-loop μ-loop
 loop-holds c = search needs
@@ -37,6 +38,15 @@ slice-aggregate-step-3 c = search needs
 slice-aggregate-step-4 : tie.Need-slice-aggregate-step-4 Inv-loop μ-loop
 slice-aggregate-step-4 c = search needs
 
+slice-aggregate-step-5 : tie.Need-slice-aggregate-step-5 Inv-loop μ-loop
+slice-aggregate-step-5 c = search needs
+
+slice-aggregate-step-6 : tie.Need-slice-aggregate-step-6 Inv-loop μ-loop
+slice-aggregate-step-6 c = search needs
+
+slice-aggregate-step-7 : tie.Need-slice-aggregate-step-7 Inv-loop μ-loop
+slice-aggregate-step-7 c = search needs
+
 step-requires : tie.Need-step-requires Inv-loop μ-loop
 step-requires c κs = search needs
 
@@ -50,19 +60,19 @@ returns : tie.Need-returns Inv-loop μ-loop
 returns c = search needs
 
 loop-less : tie.Need-loop-less Inv-loop μ-loop
-loop-less c = search needs
+loop-less c = omega (arith, c .before .before .before .before .before .before .before .before .before .before .before .before .before .before .before .before .before .before .before .before .before .before .before .loop-test .taken)
 
 loop-again : tie.Need-loop-again Inv-loop μ-loop
-loop-again c = search needs
+loop-again c = search (needs, c .before .before .before .before .before .before .before .before .before .before .before .before .before .before .before .before .before .before .before .before .before .before .before .loop-test .taken, c .before .before .before .before .before .before .before .before .before .before .before .before .before .before .before .before .before .before .before .before .before .before .before .before .loop .inv)
 
 enum-known-next-2 : tie.Need-enum-known-next-2 Inv-loop μ-loop
 enum-known-next-2 c = search needs
 
 loop-less-2 : tie.Need-loop-less-2 Inv-loop μ-loop
-loop-less-2 c = search needs
+loop-less-2 c = omega (arith, c .before .before .before .before .before .before .before .before .before .before .before .before .before .before .before .before .before .before .before .before .before .loop-test .taken)
 
 loop-again-2 : tie.Need-loop-again-2 Inv-loop μ-loop
-loop-again-2 c = search needs
+loop-again-2 c = search (needs, c .before .before .before .before .before .before .before .before .before .before .before .before .before .before .before .before .before .before .before .before .before .loop-test .taken, c .before .before .before .before .before .before .before .before .before .before .before .before .before .before .before .before .before .before .before .before .before .before .loop .inv)
 
 enum-known-next-3 : tie.Need-enum-known-next-3 Inv-loop μ-loop
 enum-known-next-3 c = search needs
@@ -71,19 +81,19 @@ line-requires : tie.Need-line-requires Inv-loop μ-loop
 line-requires c κs = search needs
 
 loop-less-3 : tie.Need-loop-less-3 Inv-loop μ-loop
-loop-less-3 c = search needs
+loop-less-3 c = omega (arith, c .before .before .before .before .before .before .before .before .before .before .before .before .before .before .before .before .before .before .before .before .before .before .loop-test .taken)
 
 loop-again-3 : tie.Need-loop-again-3 Inv-loop μ-loop
-loop-again-3 c = search needs
+loop-again-3 c = search (needs, c .before .before .before .before .before .before .before .before .before .before .before .before .before .before .before .before .before .before .before .before .before .before .loop-test .taken, c .before .before .before .before .before .before .before .before .before .before .before .before .before .before .before .before .before .before .before .before .before .before .before .loop .inv)
 
 enum-known-next-4 : tie.Need-enum-known-next-4 Inv-loop μ-loop
 enum-known-next-4 c = search needs
 
 loop-less-4 : tie.Need-loop-less-4 Inv-loop μ-loop
-loop-less-4 c = search needs
+loop-less-4 c = omega (arith, c .before .before .before .before .before .before .before .before .before .before .before .before .before .before .before .before .before .before .before .before .before .loop-test .taken)
 
 loop-again-4 : tie.Need-loop-again-4 Inv-loop μ-loop
-loop-again-4 c = search needs
+loop-again-4 c = search (needs, c .before .before .before .before .before .before .before .before .before .before .before .before .before .before .before .before .before .before .before .before .before .loop-test .taken, c .before .before .before .before .before .before .before .before .before .before .before .before .before .before .before .before .before .before .before .before .before .before .loop .inv)
 
 enum-told : tie.Need-enum-told Inv-loop μ-loop
 enum-told c = search needs
@@ -118,6 +128,9 @@ walk-spec =
     slice-aggregate-step-2
     slice-aggregate-step-3
     slice-aggregate-step-4
+    slice-aggregate-step-5
+    slice-aggregate-step-6
+    slice-aggregate-step-7
     step-requires
     enum-known-next
     listed-requires

@@ -12,7 +12,7 @@ abbrev Inv-loop : tie.InvT-loop
 Inv-loop out₀ i₀ out i = Copying out₀ noState out i
 
 abbrev μ-loop : tie.MeasureT-loop
-μ-loop out₀ i₀ out i = 17 - i
+μ-loop out₀ i₀ out i = 18 - i
 
 loop-holds : tie.Need-loop-holds Inv-loop μ-loop
 loop-holds c = copying-start _ _

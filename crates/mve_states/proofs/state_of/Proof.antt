@@ -29,23 +29,29 @@ flag-requires c κs = search needs
 sound-of-requires : tie.Need-sound-of-requires
 sound-of-requires c κs = search needs
 
-shared-slice-read-t10 : tie.Need-shared-slice-read-t10
-shared-slice-read-t10 c = search needs
+shared-slice-read-flag-2 : tie.Need-shared-slice-read-flag-2
+shared-slice-read-flag-2 c = search needs
 
-shared-slice-read-t6 : tie.Need-shared-slice-read-t6
-shared-slice-read-t6 c = search needs
+flag-requires-2 : tie.Need-flag-requires-2
+flag-requires-2 c κs = search needs
 
-shared-slice-read-t8 : tie.Need-shared-slice-read-t8
-shared-slice-read-t8 c = search needs
+shared-slice-read-t7 : tie.Need-shared-slice-read-t7
+shared-slice-read-t7 c = search needs
 
-shared-slice-read-t17 : tie.Need-shared-slice-read-t17
-shared-slice-read-t17 c = search needs
+shared-slice-read-t11 : tie.Need-shared-slice-read-t11
+shared-slice-read-t11 c = search needs
+
+shared-slice-read-t9 : tie.Need-shared-slice-read-t9
+shared-slice-read-t9 c = search needs
 
 shared-slice-read-t19 : tie.Need-shared-slice-read-t19
 shared-slice-read-t19 c = search needs
 
+shared-slice-read-t21 : tie.Need-shared-slice-read-t21
+shared-slice-read-t21 c = search needs
+
 returns : tie.Need-returns
-returns c = state-is _ _ _ _ (c .before .before .before .before .before .before .before .before .map-of .ensures) (c .before .before .before .before .before .before .flag .ensures) (c .before .before .before .before .before .sound-of .ensures)
+returns c = state-is _ _ _ _ _ (c .before .before .before .before .before .before .before .before .before .before .map-of .ensures) (c .before .before .before .before .before .before .before .before .flag .ensures) (c .before .before .before .before .before .before .before .sound-of .ensures) (c .before .before .before .before .before .flag2 .ensures)
 
 pub state-of-spec : {M : Type 1} → statement M
 state-of-spec =
@@ -58,9 +64,11 @@ state-of-spec =
     shared-slice-read-flag
     flag-requires
     sound-of-requires
-    shared-slice-read-t10
-    shared-slice-read-t6
-    shared-slice-read-t8
-    shared-slice-read-t17
+    shared-slice-read-flag-2
+    flag-requires-2
+    shared-slice-read-t7
+    shared-slice-read-t11
+    shared-slice-read-t9
     shared-slice-read-t19
+    shared-slice-read-t21
     returns)

@@ -20,10 +20,10 @@ enum-known-r : tie.Need-enum-known-r
 enum-known-r c = search needs
 
 returns : tie.Need-returns
-returns c = found-here _ _ _ _ _ _ (c .before .before .before .judge-state .ensures) _ (c .before .enum-told .given .1) (c .next-with-lent .ensures)
+returns c = found-here _ _ _ _ _ (c .before .before .before .judge-state .ensures) _ (c .before .enum-told .given .1) (c .next-with-lent .ensures)
 
 returns-2 : tie.Need-returns-2
-returns-2 c = no-state _ _ _ _ _ _ (c .before .before .before .judge-state .ensures) _ (c .before .r .given .1)
+returns-2 c = no-state _ _ _ _ _ (c .before .before .before .judge-state .ensures) _ (c .before .r .given .1)
 
 pub find-spec : {M : Type 1} → statement M
 find-spec =

@@ -28,10 +28,10 @@ enum-known-r : tie.Need-enum-known-r
 enum-known-r c = search needs
 
 returns : tie.Need-returns
-returns c = judged-lent _ _ _ _ _ _ _ _ _ (c .before .before .before .before .before .before .before .area-of .ensures) (c .before .before .before .before .before .before .judge-lent .ensures) (c .before .before .before .before .enum-told .given .1) (by-chosen _ (c .before .before .before .before .before .before .before .before .before .args .st .sound .stream) (c .before .before .before .before .before .before .before .before .before .args .film .now) (c .before .before .before .before .before .before .before .before .before .args .st .cursor) _ (c .before .is-chosen .ensures) (c .standing-at .ensures))
+returns c = judged-lent _ _ _ _ _ _ _ _ (c .before .before .before .before .before .before .before .area-of .ensures) (c .before .before .before .before .before .before .judge-lent .ensures) (c .before .before .before .before .enum-told .given .1) (by-chosen _ (c .before .before .before .before .before .before .before .before .before .args .st .sound .stream) (c .before .before .before .before .before .before .before .before .before .args .film .now) (c .before .before .before .before .before .before .before .before .before .args .st .cursor) _ (c .before .is-chosen .ensures) (c .standing-at .ensures))
 
 returns-2 : tie.Need-returns-2
-returns-2 c = short-lent _ _ _ _ _ _ _ _ _ (c .before .before .before .before .area-of .ensures) (c .before .before .before .judge-lent .ensures) (c .before .r .given .1)
+returns-2 c = short-lent _ _ _ _ _ _ _ _ (c .before .before .before .before .area-of .ensures) (c .before .before .before .judge-lent .ensures) (c .before .r .given .1)
 
 pub next-with-lent-spec : {M : Type 1} → statement M
 next-with-lent-spec =

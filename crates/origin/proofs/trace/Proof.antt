@@ -21,13 +21,13 @@ enum-told : tie.Need-enum-told
 enum-told c = search needs
 
 mul-if1 : tie.Need-mul-if1
-mul-if1 c = omega (arith, accepted-call _ _ _ _ _ _ _ _ (sym (found-accepted _ _ _ (c .before .before .inspect .ensures) _ (c .enum-told .given .1) .0)) .1 .sized)
+mul-if1 c = omega (arith, accepted-call _ _ _ _ _ _ _ _ _ _ (sym (found-accepted _ _ _ (c .before .before .inspect .ensures) _ (c .enum-told .given .1) .0)) .1 .sized)
 
 returns : tie.Need-returns
 returns c = right-of _ _ _ _ _ _ _ _ (found-accepted _ _ _ (c .before .before .before .inspect .ensures) _ (c .before .enum-told .given .1) .0) (c .if1 .taken)
 
 mul-if2 : tie.Need-mul-if2
-mul-if2 c = omega (arith, accepted-call _ _ _ _ _ _ _ _ (sym (found-accepted _ _ _ (c .before .before .before .inspect .ensures) _ (c .before .enum-told .given .1) .0)) .1 .sized)
+mul-if2 c = omega (arith, accepted-call _ _ _ _ _ _ _ _ _ _ (sym (found-accepted _ _ _ (c .before .before .before .inspect .ensures) _ (c .before .enum-told .given .1) .0)) .1 .sized)
 
 returns-2 : tie.Need-returns-2
 returns-2 c = below-of _ _ _ _ _ _ _ _ (found-accepted _ _ _ (c .before .before .before .before .inspect .ensures) _ (c .before .before .enum-told .given .1) .0) (c .before .if1 .left) (c .if2 .taken)

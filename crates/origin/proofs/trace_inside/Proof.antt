@@ -2,14 +2,14 @@ use native.Mathlib.Omega.{arith}
 use Rattle.packet.proofs.Walk.{mapped}
 use Rattle.origin.specs.Trace.{blockAt, pixelAt}
 use Rattle.origin.proofs.Inside.{inside, block-few, readable, source-is, byte-there}
-use Rattle.origin.proofs.Answers.{found-byte, found-front, found-back}
+use Rattle.origin.proofs.Answers.{found-byte, found-pixel}
 use borrow.Author.Needs.{needs}
 use Rattle.origin.proofs.trace_inside.Statement.{statement}
 use Rattle.origin.proofs.trace_inside.Tie as tie
 use Rattle.origin.proofs.trace_inside.Reads as reads
 use Rattle.origin.proofs.trace_inside.Lts as lts
 use Rattle.block.proofs.code_at.Reads as code-at-reads
-use Rattle.origin.proofs.back_origin.Reads as back-origin-reads
+use Rattle.origin.proofs.picture_origin.Reads as picture-origin-reads
 use Rattle.packet.proofs.data_position.Reads as data-position-reads
 use Rattle.pixel.proofs.source_of.Reads as source-of-reads
 use Rattle.words.proofs.part_from.Reads as part-from-reads
@@ -53,47 +53,34 @@ add-source-of c = search needs
 
 source-of-requires : tie.Need-source-of-requires
 unfolding blockAt pixelAt
-source-of-requires c κs = readable _ _ _ (c .before .before .before .before .before .pre) _ _ _ (c .before .before .code-at .ensures .0) (c .before .data-position .ensures) (c .part-from .ensures)
+source-of-requires c κs = readable _ _ _ (c .before .before .before .before .before .pre) _ _ _ _ (c .before .before .code-at .ensures .0) (c .before .data-position .ensures) (c .part-from .ensures)
 
 enum-known-from : tie.Need-enum-known-from
 enum-known-from c = search needs
 
 add-t26 : tie.Need-add-t26
 unfolding blockAt pixelAt
-add-t26 c = omega (arith, byte-there _ _ _ (c .before .before .before .before .before .before .before .before .before .pre) _ _ _ (c .before .before .before .before .before .before .code-at .ensures .0) (c .before .before .before .before .before .data-position .ensures) (c .before .before .before .before .part-from .ensures) _ (c .before .before .before .source-of .ensures) _ (c .before .from .given .1), c .before .before .before .before .before .before .before .before .before .good .1 .1 .1 .0)
+add-t26 c = omega (arith, byte-there _ _ _ (c .before .before .before .before .before .before .before .before .before .pre) _ _ _ _ (c .before .before .before .before .before .before .code-at .ensures .0) (c .before .before .before .before .before .data-position .ensures) (c .before .before .before .before .part-from .ensures) _ (c .before .before .before .source-of .ensures) _ (c .before .from .given .1), c .before .before .before .before .before .before .before .before .before .good .1 .1 .1 .0)
 
 enum-known-from-2 : tie.Need-enum-known-from-2
 enum-known-from-2 c = search needs
 
-rem-t28 : tie.Need-rem-t28
-rem-t28 c = search needs
+rem-picture-origin : tie.Need-rem-picture-origin
+rem-picture-origin c = search needs
 
-div-t29 : tie.Need-div-t29
-div-t29 c = search needs
+div-picture-origin : tie.Need-div-picture-origin
+div-picture-origin c = search needs
 
-enum-known-from-3 : tie.Need-enum-known-from-3
-enum-known-from-3 c = search needs
-
-rem-back-origin : tie.Need-rem-back-origin
-rem-back-origin c = search needs
-
-div-back-origin : tie.Need-div-back-origin
-div-back-origin c = search needs
-
-back-origin-requires : tie.Need-back-origin-requires
-back-origin-requires c κs = search needs
+picture-origin-requires : tie.Need-picture-origin-requires
+picture-origin-requires c κs = search needs
 
 returns : tie.Need-returns
 unfolding blockAt pixelAt
-returns c = found-byte _ _ _ _ _ _ _ (c .before .before .before .before .before .before .code-at .ensures .0) (c .before .before .before .before .before .data-position .ensures) (source-is _ _ _ (c .before .before .before .before .before .before .before .before .before .pre) _ _ _ (c .before .before .before .before .before .before .code-at .ensures .0) (c .before .before .before .before .before .data-position .ensures) (c .before .before .before .before .part-from .ensures) _ (c .before .before .before .source-of .ensures)) (c .before .from .given .1)
+returns c = found-byte _ _ _ _ _ _ _ (c .before .before .before .before .before .before .code-at .ensures .0) (c .before .before .before .before .before .data-position .ensures) (source-is _ _ _ (c .before .before .before .before .before .before .before .before .before .pre) _ _ _ _ (c .before .before .before .before .before .before .code-at .ensures .0) (c .before .before .before .before .before .data-position .ensures) (c .before .before .before .before .part-from .ensures) _ (c .before .before .before .source-of .ensures)) (c .before .from .given .1)
 
 returns-2 : tie.Need-returns-2
 unfolding blockAt pixelAt
-returns-2 c = found-front _ _ _ _ _ _ _ (c .before .before .before .before .before .before .code-at .ensures .0) (c .before .before .before .before .before .data-position .ensures) (source-is _ _ _ (c .before .before .before .before .before .before .before .before .before .pre) _ _ _ (c .before .before .before .before .before .before .code-at .ensures .0) (c .before .before .before .before .before .data-position .ensures) (c .before .before .before .before .part-from .ensures) _ (c .before .before .before .source-of .ensures)) (c .before .from2 .given .1)
-
-returns-3 : tie.Need-returns-3
-unfolding blockAt pixelAt
-returns-3 c = found-back _ _ _ _ _ _ _ (c .before .before .before .before .before .before .before .code-at .ensures .0) (c .before .before .before .before .before .before .data-position .ensures) (source-is _ _ _ (c .before .before .before .before .before .before .before .before .before .before .pre) _ _ _ (c .before .before .before .before .before .before .before .code-at .ensures .0) (c .before .before .before .before .before .before .data-position .ensures) (c .before .before .before .before .before .part-from .ensures) _ (c .before .before .before .before .source-of .ensures)) _ (c .before .before .from3 .given .1) (c .back-origin .ensures)
+returns-2 c = found-pixel _ _ _ _ _ _ _ (c .before .before .before .before .before .before .before .code-at .ensures .0) (c .before .before .before .before .before .before .data-position .ensures) (source-is _ _ _ (c .before .before .before .before .before .before .before .before .before .before .pre) _ _ _ _ (c .before .before .before .before .before .before .before .code-at .ensures .0) (c .before .before .before .before .before .before .data-position .ensures) (c .before .before .before .before .before .part-from .ensures) _ (c .before .before .before .before .source-of .ensures)) _ _ (c .before .before .from2 .given .1) (c .picture-origin .ensures)
 
 pub trace-inside-spec : {M : Type 1} → statement M
 trace-inside-spec =
@@ -114,12 +101,8 @@ trace-inside-spec =
     enum-known-from
     add-t26
     enum-known-from-2
-    rem-t28
-    div-t29
-    enum-known-from-3
-    rem-back-origin
-    div-back-origin
-    back-origin-requires
+    rem-picture-origin
+    div-picture-origin
+    picture-origin-requires
     returns
-    returns-2
-    returns-3)
+    returns-2)

@@ -1,11 +1,11 @@
 use mathlib.Core.Path.{refl, sym, _∙_}
 use mathlib.Core.List.{[]}
-use Prim.Native.Nat.{_*_, _-_, _≤_}
+use Prim.Native.Nat.{_*_, _-_, _≤_, zero-le}
 use native.Mathlib.Nat.{div-le-self}
 use native.Mathlib.Omega.{arith}
 use Rattle.packet.proofs.Grid.{column-below}
 use Rattle.packet.specs.Packet.{packet}
-use Rattle.packet.proofs.Walk.{Walked, moved, walked-ones, mapped, blocks-few, corner, length-is, refuses-12, refuses-13, refuses-14, walked-right, walked-down, used-up, left-over}
+use Rattle.packet.proofs.Walk.{Walked, moved, walked-ones, mapped, blocks-few, corner, length-is, refuses-12, refuses-13, refuses-14, walked-right, walked-down, used-up, left-over, seen-flat, refused-flat, known-flat, copy-flat}
 use Rattle.packet.proofs.Strip.{Ends, finds-refused, finds-accepted, touched-is, first-most, first-clear, ends, inside, ones-behind}
 use Rattle.packet.proofs.check_blocks.Statement.{statement}
 use Rattle.packet.proofs.check_blocks.Tie as tie
@@ -19,7 +19,7 @@ use Rattle.block.proofs.copy_inside.Reads as copy-inside-reads
 use Rattle.block.proofs.data_length.Reads as data-length-reads
 
 abbrev Inv-loop : tie.InvT-loop
-Inv-loop spare columns rows map «data» w h first past k₀ at₀ right₀ y₀ k at right y = Ends (packet columns rows map «data») first past × (right ≤ 8 * columns) × Walked spare (packet columns rows map «data») k at (8 * columns - right) y
+Inv-loop spare columns rows map «data» w h first past k₀ at₀ right₀ y₀ k at right y = Ends (packet columns rows map «data») first past × (right ≤ 8 * columns) × Walked spare (packet columns rows map «data») k at 0 (8 * columns - right) y
 
 abbrev μ-loop : tie.MeasureT-loop
 μ-loop spare columns rows map «data» w h first past k₀ at₀ right₀ y₀ k at right y = past - k
@@ -55,16 +55,16 @@ div-y : tie.Need-div-y Inv-loop μ-loop
 div-y c = c .before .before .before .before .pre .some-columns
 
 mul-y : tie.Need-mul-y Inv-loop μ-loop
-mul-y c = omega (arith, div-le-self (c .before .first-touched .result) (c .before .before .before .before .args .columns), first-most _ _ _ (c .before .first-touched .ensures), blocks-few _ (c .before .before .before .before .pre))
+mul-y c = omega (arith, div-le-self (c .before .first-touched .result) (c .before .before .before .before .args .columns), first-most _ _ _ _ (c .before .first-touched .ensures), blocks-few _ (c .before .before .before .before .pre))
 
 loop-holds : tie.Need-loop-holds Inv-loop μ-loop
-loop-holds c = let l = column-below _ (c .before .first-touched .result) (c .before .before .before .before .pre .some-columns) in (ends _ _ _ (c .before .first-touched .ensures) (c .past-touched .ensures), omega arith, moved _ _ _ _ _ _ _ (omega (arith, l)) (walked-ones _ _ _ (first-most _ _ _ (c .before .first-touched .ensures)) (first-clear _ _ _ (c .before .first-touched .ensures))))
+loop-holds c = let l = column-below _ (c .before .first-touched .result) (c .before .before .before .before .pre .some-columns) in (ends _ _ _ (c .before .first-touched .ensures) (c .past-touched .ensures), omega arith, moved _ _ _ _ _ _ _ _ (omega (arith, l)) (walked-ones _ _ _ (first-most _ _ _ _ (c .before .first-touched .ensures)) (first-clear _ _ _ _ (c .before .first-touched .ensures))))
 
 code-at-requires : tie.Need-code-at-requires Inv-loop μ-loop
 code-at-requires c κs = mapped _ _ (c .before .before .before .before .before .before .pre) (inside _ _ _ (c .before .loop .inv .0) _ (c .loop-test .taken))
 
 returns : tie.Need-returns Inv-loop μ-loop
-returns c = finds-refused _ _ _ _ (refuses-12 _ _ _ _ _ _ _ _ _ (c .before .before .before .before .before .before .before .before .pre) (c .before .before .before .loop .inv .2) (inside _ _ _ (c .before .before .before .loop .inv .0) _ (c .before .before .loop-test .taken)) (record { code = c .before .code-at .ensures .0; part = refl; long = refl }) (c .if1 .taken))
+returns c = finds-refused _ _ _ _ (refuses-12 _ _ _ _ _ _ _ _ _ _ _ _ (c .before .before .before .before .before .before .before .before .pre) (c .before .before .before .loop .inv .2) (inside _ _ _ (c .before .before .before .loop .inv .0) _ (c .before .before .loop-test .taken)) (seen-flat _ _ _ _ _ _ _ _ _ (c .before .code-at .ensures .0) refl refl) (refused-flat _ _ (c .if1 .taken)))
 
 sub-s : tie.Need-sub-s Inv-loop μ-loop
 sub-s c = omega (arith, c .before .before .before .loop .inv .2 .within)
@@ -79,40 +79,40 @@ data-length-requires : tie.Need-data-length-requires Inv-loop μ-loop
 data-length-requires c κs = c .before .before .code-at .ensures .1
 
 returns-2 : tie.Need-returns-2 Inv-loop μ-loop
-returns-2 c = finds-refused _ _ _ _ (refuses-13 _ _ _ _ _ _ _ _ _ (c .before .before .before .before .before .before .before .before .before .before .before .pre) (c .before .before .before .before .before .before .loop .inv .2) (inside _ _ _ (c .before .before .before .before .before .before .loop .inv .0) _ (c .before .before .before .before .before .loop-test .taken)) (record { code = c .before .before .before .before .code-at .ensures .0; part = refl; long = c .before .data-length .ensures }) (c .before .before .before .if1 .left) (c .if2 .taken))
+returns-2 c = finds-refused _ _ _ _ (refuses-13 _ _ _ _ _ _ _ _ _ _ _ _ (c .before .before .before .before .before .before .before .before .before .before .before .pre) (c .before .before .before .before .before .before .loop .inv .2) (inside _ _ _ (c .before .before .before .before .before .before .loop .inv .0) _ (c .before .before .before .before .before .loop-test .taken)) (seen-flat _ _ _ _ _ _ _ _ _ (c .before .before .before .before .code-at .ensures .0) refl (c .before .data-length .ensures [])) (known-flat _ _ (c .before .before .before .before .code-at .ensures .1) (c .before .before .before .if1 .left)) (c .if2 .taken))
 
 sub-copy-inside : tie.Need-sub-copy-inside Inv-loop μ-loop
 sub-copy-inside c = c .before .before .before .before .before .before .loop .inv .1
 
 copy-inside-requires : tie.Need-copy-inside-requires Inv-loop μ-loop
-copy-inside-requires c κs = let l = corner _ _ _ _ _ _ 0 0 [] (c .before .before .before .before .before .before .before .before .before .before .before .pre) (c .before .before .before .before .before .before .loop .inv .2) (inside _ _ _ (c .before .before .before .before .before .before .loop .inv .0) _ (c .before .before .before .before .before .loop-test .taken)) in (c .before .before .before .before .code-at .ensures .1, omega (arith, c .before .before .before .before .before .before .before .before .before .before .before .pre), omega (arith, c .before .before .before .before .before .before .before .before .before .before .before .pre), omega (arith, l, c .before .before .before .before .before .before .before .before .before .before .before .pre), omega (arith, l, c .before .before .before .before .before .before .before .before .before .before .before .pre))
+copy-inside-requires c κs = let l = corner _ _ _ _ _ _ _ 0 0 0 [] [] (c .before .before .before .before .before .before .before .before .before .before .before .pre) (c .before .before .before .before .before .before .loop .inv .2) (inside _ _ _ (c .before .before .before .before .before .before .loop .inv .0) _ (c .before .before .before .before .before .loop-test .taken)) in (c .before .before .before .before .code-at .ensures .1, omega (arith, c .before .before .before .before .before .before .before .before .before .before .before .pre), omega (arith, c .before .before .before .before .before .before .before .before .before .before .before .pre), omega (arith, l, c .before .before .before .before .before .before .before .before .before .before .before .pre), omega (arith, l, c .before .before .before .before .before .before .before .before .before .before .before .pre))
 
 add-k : tie.Need-add-k Inv-loop μ-loop
 add-k c = omega (arith, blocks-few _ (c .before .before .before .before .before .before .before .before .before .before .before .before .before .pre), (inside _ _ _ (c .before .before .before .before .before .before .before .before .loop .inv .0) _ (c .before .before .before .before .before .before .before .loop-test .taken)))
 
 add-at : tie.Need-add-at Inv-loop μ-loop
-add-at c = let q = length-is _ _ _ _ _ _ _ _ _ (c .before .before .before .before .before .before .before .before .before .before .before .before .before .pre) (c .before .before .before .before .before .before .before .before .loop .inv .2) (inside _ _ _ (c .before .before .before .before .before .before .before .before .loop .inv .0) _ (c .before .before .before .before .before .before .before .loop-test .taken)) (record { code = c .before .before .before .before .before .before .code-at .ensures .0; part = refl; long = c .before .before .before .data-length .ensures }) in omega (arith, q, c .before .before .if2 .left, c .before .before .before .before .before .before .before .before .loop .inv .2 .within)
+add-at c = let q = length-is _ _ _ _ _ _ _ _ _ _ _ _ (c .before .before .before .before .before .before .before .before .before .before .before .before .before .pre) (c .before .before .before .before .before .before .before .before .loop .inv .2) (inside _ _ _ (c .before .before .before .before .before .before .before .before .loop .inv .0) _ (c .before .before .before .before .before .before .before .loop-test .taken)) (seen-flat _ _ _ _ _ _ _ _ _ (c .before .before .before .before .before .before .code-at .ensures .0) refl (c .before .before .before .data-length .ensures [])) in omega (arith, q, c .before .before .if2 .left, c .before .before .before .before .before .before .before .before .loop .inv .2 .within)
 
 sub-right-2 : tie.Need-sub-right-2 Inv-loop μ-loop
-sub-right-2 c = let l = corner _ _ _ _ _ _ 0 0 [] (c .before .before .before .before .before .before .before .before .before .before .before .before .before .pre) (c .before .before .before .before .before .before .before .before .loop .inv .2) (inside _ _ _ (c .before .before .before .before .before .before .before .before .loop .inv .0) _ (c .before .before .before .before .before .before .before .loop-test .taken)) in omega (arith, l, c .before .before .before .before .before .before .before .before .loop .inv .1)
+sub-right-2 c = let l = corner _ _ _ _ _ _ _ 0 0 0 [] [] (c .before .before .before .before .before .before .before .before .before .before .before .before .before .pre) (c .before .before .before .before .before .before .before .before .loop .inv .2) (inside _ _ _ (c .before .before .before .before .before .before .before .before .loop .inv .0) _ (c .before .before .before .before .before .before .before .loop-test .taken)) in omega (arith, l, c .before .before .before .before .before .before .before .before .loop .inv .1)
 
 add-y : tie.Need-add-y Inv-loop μ-loop
-add-y c = let l = corner _ _ _ _ _ _ 0 0 [] (c .before .before .before .before .before .before .before .before .before .before .before .before .before .before .pre) (c .before .before .before .before .before .before .before .before .before .loop .inv .2) (inside _ _ _ (c .before .before .before .before .before .before .before .before .before .loop .inv .0) _ (c .before .before .before .before .before .before .before .before .loop-test .taken)) in omega (arith, l, c .before .before .before .before .before .before .before .before .before .before .before .before .before .before .pre)
+add-y c = let l = corner _ _ _ _ _ _ _ 0 0 0 [] [] (c .before .before .before .before .before .before .before .before .before .before .before .before .before .before .pre) (c .before .before .before .before .before .before .before .before .before .loop .inv .2) (inside _ _ _ (c .before .before .before .before .before .before .before .before .before .loop .inv .0) _ (c .before .before .before .before .before .before .before .before .loop-test .taken)) in omega (arith, l, c .before .before .before .before .before .before .before .before .before .before .before .before .before .before .pre)
 
 loop-less : tie.Need-loop-less Inv-loop μ-loop
 loop-less c = omega (arith, c .before .before .before .before .before .before .before .before .loop-test .taken)
 
 loop-again : tie.Need-loop-again Inv-loop μ-loop
-loop-again c = let l = corner _ _ _ _ _ _ 0 0 [] (c .before .before .before .before .before .before .before .before .before .before .before .before .before .before .pre) (c .before .before .before .before .before .before .before .before .before .loop .inv .2) (inside _ _ _ (c .before .before .before .before .before .before .before .before .before .loop .inv .0) _ (c .before .before .before .before .before .before .before .before .loop-test .taken)) in (c .before .before .before .before .before .before .before .before .before .loop .inv .0, omega arith, moved _ _ _ _ _ _ _ (omega (arith, l, c .before .before .before .before .before .before .before .before .before .loop .inv .1)) (walked-down _ _ _ _ _ _ _ _ _ (c .before .before .before .before .before .before .before .before .before .before .before .before .before .before .pre) (c .before .before .before .before .before .before .before .before .before .loop .inv .2) (inside _ _ _ (c .before .before .before .before .before .before .before .before .before .loop .inv .0) _ (c .before .before .before .before .before .before .before .before .loop-test .taken)) (record { code = c .before .before .before .before .before .before .before .code-at .ensures .0; part = refl; long = c .before .before .before .before .data-length .ensures }) (c .before .before .before .before .before .before .if1 .left) (c .before .before .before .if2 .left) (sym (c .before .if3 .taken) ∙ c .before .before .copy-inside .ensures) (omega (arith, l, c .before .before .before .before .before .before .before .before .before .loop .inv .1, c .if4 .taken))))
+loop-again c = let l = corner _ _ _ _ _ _ _ 0 0 0 [] [] (c .before .before .before .before .before .before .before .before .before .before .before .before .before .before .pre) (c .before .before .before .before .before .before .before .before .before .loop .inv .2) (inside _ _ _ (c .before .before .before .before .before .before .before .before .before .loop .inv .0) _ (c .before .before .before .before .before .before .before .before .loop-test .taken)) in (c .before .before .before .before .before .before .before .before .before .loop .inv .0, omega arith, moved _ _ _ _ _ _ _ _ (omega (arith, l, c .before .before .before .before .before .before .before .before .before .loop .inv .1)) (walked-down _ _ _ _ _ _ _ _ _ _ _ _ (c .before .before .before .before .before .before .before .before .before .before .before .before .before .before .pre) (c .before .before .before .before .before .before .before .before .before .loop .inv .2) (inside _ _ _ (c .before .before .before .before .before .before .before .before .before .loop .inv .0) _ (c .before .before .before .before .before .before .before .before .loop-test .taken)) (seen-flat _ _ _ _ _ _ _ _ _ (c .before .before .before .before .before .before .before .code-at .ensures .0) refl (c .before .before .before .before .data-length .ensures [])) (known-flat _ _ (c .before .before .before .before .before .before .before .code-at .ensures .1) (c .before .before .before .before .before .before .if1 .left)) (c .before .before .before .if2 .left) zero-le (sym (c .before .if3 .taken) ∙ copy-flat _ _ _ _ _ _ _ (c .before .before .copy-inside .ensures)) (omega (arith, l, c .before .before .before .before .before .before .before .before .before .loop .inv .1, c .if4 .taken))))
 
 loop-less-2 : tie.Need-loop-less-2 Inv-loop μ-loop
 loop-less-2 c = omega (arith, c .before .before .before .before .before .before .before .before .loop-test .taken)
 
 loop-again-2 : tie.Need-loop-again-2 Inv-loop μ-loop
-loop-again-2 c = let l = corner _ _ _ _ _ _ 0 0 [] (c .before .before .before .before .before .before .before .before .before .before .before .before .before .before .pre) (c .before .before .before .before .before .before .before .before .before .loop .inv .2) (inside _ _ _ (c .before .before .before .before .before .before .before .before .before .loop .inv .0) _ (c .before .before .before .before .before .before .before .before .loop-test .taken)) in (c .before .before .before .before .before .before .before .before .before .loop .inv .0, omega (arith, c .before .before .before .before .before .before .before .before .before .loop .inv .1), moved _ _ _ _ _ _ _ (omega (arith, l, c .before .before .before .before .before .before .before .before .before .loop .inv .1)) (walked-right _ _ _ _ _ _ _ _ _ (c .before .before .before .before .before .before .before .before .before .before .before .before .before .before .pre) (c .before .before .before .before .before .before .before .before .before .loop .inv .2) (inside _ _ _ (c .before .before .before .before .before .before .before .before .before .loop .inv .0) _ (c .before .before .before .before .before .before .before .before .loop-test .taken)) (record { code = c .before .before .before .before .before .before .before .code-at .ensures .0; part = refl; long = c .before .before .before .before .data-length .ensures }) (c .before .before .before .before .before .before .if1 .left) (c .before .before .before .if2 .left) (sym (c .before .if3 .taken) ∙ c .before .before .copy-inside .ensures) (λ q. c .if4 .left (omega (arith, l, q, c .before .before .before .before .before .before .before .before .before .loop .inv .1)))))
+loop-again-2 c = let l = corner _ _ _ _ _ _ _ 0 0 0 [] [] (c .before .before .before .before .before .before .before .before .before .before .before .before .before .before .pre) (c .before .before .before .before .before .before .before .before .before .loop .inv .2) (inside _ _ _ (c .before .before .before .before .before .before .before .before .before .loop .inv .0) _ (c .before .before .before .before .before .before .before .before .loop-test .taken)) in (c .before .before .before .before .before .before .before .before .before .loop .inv .0, omega (arith, c .before .before .before .before .before .before .before .before .before .loop .inv .1), moved _ _ _ _ _ _ _ _ (omega (arith, l, c .before .before .before .before .before .before .before .before .before .loop .inv .1)) (walked-right _ _ _ _ _ _ _ _ _ _ _ _ (c .before .before .before .before .before .before .before .before .before .before .before .before .before .before .pre) (c .before .before .before .before .before .before .before .before .before .loop .inv .2) (inside _ _ _ (c .before .before .before .before .before .before .before .before .before .loop .inv .0) _ (c .before .before .before .before .before .before .before .before .loop-test .taken)) (seen-flat _ _ _ _ _ _ _ _ _ (c .before .before .before .before .before .before .before .code-at .ensures .0) refl (c .before .before .before .before .data-length .ensures [])) (known-flat _ _ (c .before .before .before .before .before .before .before .code-at .ensures .1) (c .before .before .before .before .before .before .if1 .left)) (c .before .before .before .if2 .left) zero-le (sym (c .before .if3 .taken) ∙ copy-flat _ _ _ _ _ _ _ (c .before .before .copy-inside .ensures)) (λ q. c .if4 .left (omega (arith, l, q, c .before .before .before .before .before .before .before .before .before .loop .inv .1)))))
 
 returns-3 : tie.Need-returns-3 Inv-loop μ-loop
-returns-3 c = finds-refused _ _ _ _ (refuses-14 _ _ _ _ _ _ _ _ _ (c .before .before .before .before .before .before .before .before .before .before .before .before .before .pre) (c .before .before .before .before .before .before .before .before .loop .inv .2) (inside _ _ _ (c .before .before .before .before .before .before .before .before .loop .inv .0) _ (c .before .before .before .before .before .before .before .loop-test .taken)) (record { code = c .before .before .before .before .before .before .code-at .ensures .0; part = refl; long = c .before .before .before .data-length .ensures }) (c .before .before .before .before .before .if1 .left) (c .before .before .if2 .left) (sym (c .if3 .left) ∙ c .before .copy-inside .ensures))
+returns-3 c = finds-refused _ _ _ _ (refuses-14 _ _ _ _ _ _ _ _ _ _ _ _ (c .before .before .before .before .before .before .before .before .before .before .before .before .before .pre) (c .before .before .before .before .before .before .before .before .loop .inv .2) (inside _ _ _ (c .before .before .before .before .before .before .before .before .loop .inv .0) _ (c .before .before .before .before .before .before .before .loop-test .taken)) (seen-flat _ _ _ _ _ _ _ _ _ (c .before .before .before .before .before .before .code-at .ensures .0) refl (c .before .before .before .data-length .ensures [])) (known-flat _ _ (c .before .before .before .before .before .before .code-at .ensures .1) (c .before .before .before .before .before .if1 .left)) (c .before .before .if2 .left) zero-le (sym (c .if3 .left) ∙ copy-flat _ _ _ _ _ _ _ (c .before .copy-inside .ensures)))
 
 sub-over : tie.Need-sub-over Inv-loop μ-loop
 sub-over c = omega (arith, c .before .loop .inv .2 .within)
@@ -121,10 +121,10 @@ rows-from-requires : tie.Need-rows-from-requires Inv-loop μ-loop
 rows-from-requires c κs = c .before .before .before .before .before .before .before .pre .some-columns
 
 returns-4 : tie.Need-returns-4 Inv-loop μ-loop
-returns-4 c = finds-accepted _ _ _ (used-up _ _ _ _ _ _ (c .before .before .before .loop .inv .2) (λ i l h. ones-behind _ _ _ (c .before .before .before .loop .inv .0) i (omega (arith, l, c .before .before .loop-test .left)) h) (omega (arith, c .before .if5 .taken))) (touched-is _ _ _ (c .before .before .before .loop .inv .0) _ (c .rows-from .ensures))
+returns-4 c = finds-accepted _ _ _ (used-up _ _ _ _ _ _ _ (c .before .before .before .loop .inv .2) (λ i l h. ones-behind _ _ _ (c .before .before .before .loop .inv .0) i (omega (arith, l, c .before .before .loop-test .left)) h) (omega (arith, c .before .if5 .taken)) zero-le) (touched-is _ _ _ (c .before .before .before .loop .inv .0) _ (c .rows-from .ensures))
 
 returns-5 : tie.Need-returns-5 Inv-loop μ-loop
-returns-5 c = finds-refused _ _ _ _ (left-over _ _ _ _ _ _ (c .before .before .loop .inv .2) (λ i l h. ones-behind _ _ _ (c .before .before .loop .inv .0) i (omega (arith, l, c .before .loop-test .left)) h) (omega (arith, c .if5 .left)))
+returns-5 c = finds-refused _ _ _ _ (left-over _ _ _ _ _ _ _ (c .before .before .loop .inv .2) (λ i l h. ones-behind _ _ _ (c .before .before .loop .inv .0) i (omega (arith, l, c .before .loop-test .left)) h) (omega (arith, c .if5 .left)))
 
 pub check-blocks-spec : {M : Type 1} → statement M
 check-blocks-spec =

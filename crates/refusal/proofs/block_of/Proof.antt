@@ -82,6 +82,9 @@ enum-told-21 c = search needs
 enum-told-22 : tie.Need-enum-told-22
 enum-told-22 c = search needs
 
+enum-told-23 : tie.Need-enum-told-23
+enum-told-23 c = search needs
+
 returns : tie.Need-returns
 returns c = sym (ap block (c .before .r .given .1))
 
@@ -157,6 +160,9 @@ returns-24 c = sym (ap block (c .enum-told21 .given .1))
 returns-25 : tie.Need-returns-25
 returns-25 c = sym (ap block (c .enum-told22 .given .1))
 
+returns-26 : tie.Need-returns-26
+returns-26 c = sym (ap block (c .enum-told23 .given .1))
+
 pub block-of-spec : {M : Type 1} → statement M
 block-of-spec =
     tie.close
@@ -186,6 +192,7 @@ block-of-spec =
     enum-told-20
     enum-told-21
     enum-told-22
+    enum-told-23
     returns
     returns-2
     returns-3
@@ -210,4 +217,5 @@ block-of-spec =
     returns-22
     returns-23
     returns-24
-    returns-25)
+    returns-25
+    returns-26)

@@ -1,12 +1,13 @@
 use Prim.Native.Nat.{_-_, _*_}
 use native.Mathlib.Omega.{arith}
+use Rattle.paint.specs.Value.{flat, planOf}
 use Rattle.paint.proofs.Painting.{painting-end, painting-length}
 use Rattle.rows.proofs.Colours.{band-room, Banded, banded-start, banded-low, banded-beside, banded-more}
 use Rattle.rows.proofs.cells_band.Statement.{statement}
 use Rattle.rows.proofs.cells_band.Tie as tie
 
 abbrev Inv-loop : tie.InvT-loop
-Inv-loop code s front back₀ w x y p side to a b c d at₀ r₀ back at r = Banded code s front w x y p side back₀ back at r
+Inv-loop code s front back₀ w x y p side to a b c d at₀ r₀ back at r = Banded (planOf code s front w x y) w x y p side back₀ back at r
 
 abbrev μ-loop : tie.MeasureT-loop
 μ-loop code s front back₀ w x y p side to a b c d at₀ r₀ back at r = 8 * side - r
@@ -33,7 +34,7 @@ cell-colour-requires-4 : tie.Need-cell-colour-requires-4 Inv-loop μ-loop
 cell-colour-requires-4 c κs = ((c .before .before .before .before .before .before .pre .1 .sided), (c .before .before .before .before .before .before .pre .2), omega (arith, band-room (c .before .before .before .before .before .before .pre .1) .room, (c .before .before .before .before .before .before .pre .1 .wide)))
 
 loop-holds : tie.Need-loop-holds Inv-loop μ-loop
-loop-holds c = banded-start _ _ _ _ _ _ _ _ _ _ (c .before .before .before .before .before .before .before .pre .5)
+loop-holds c = banded-start _ _ _ _ _ _ _ _ (c .before .before .before .before .before .before .before .pre .5)
 
 mul-loop : tie.Need-mul-loop Inv-loop μ-loop
 mul-loop c = omega (arith, band-room (c .before .before .before .before .before .before .before .before .pre .1) .room)
@@ -42,7 +43,7 @@ add-colours-row : tie.Need-add-colours-row Inv-loop μ-loop
 add-colours-row c = omega (arith, band-room (c .before .before .before .before .before .before .before .before .before .before .pre .1) .room, (c .before .loop-test .taken))
 
 colours-row-requires : tie.Need-colours-row-requires Inv-loop μ-loop
-colours-row-requires c κs = (omega arith, banded-beside (c .before .before .loop .inv) (c .before .before .before .before .before .before .before .before .before .before .pre .1) (c .before .before .before .before .before .before .before .before .before .before .pre .3) (c .before .loop-test .taken) (c .before .before .before .before .before .before .before .before .before .before .pre .0) (c .before .before .before .before .before .before .before .before .before .before .pre .4) (record { first = (c .before .before .before .before .before .before .cell-colour .ensures); second = (c .before .before .before .before .before .cell-colour2 .ensures); third = (c .before .before .before .before .cell-colour3 .ensures); fourth = (c .before .before .before .cell-colour4 .ensures) }))
+colours-row-requires c κs = (omega arith, banded-beside (flat (c .before .before .before .before .before .before .before .before .before .before .args .front .now)) (c .before .before .loop .inv) (c .before .before .before .before .before .before .before .before .before .before .pre .1) (c .before .before .before .before .before .before .before .before .before .before .pre .3) (c .before .loop-test .taken) (c .before .before .before .before .before .before .before .before .before .before .pre .0) (c .before .before .before .before .before .before .before .before .before .before .pre .4) (record { first = (c .before .before .before .before .before .before .cell-colour .ensures); second = (c .before .before .before .before .before .cell-colour2 .ensures); third = (c .before .before .before .before .cell-colour3 .ensures); fourth = (c .before .before .before .cell-colour4 .ensures) }))
 
 add-at : tie.Need-add-at Inv-loop μ-loop
 add-at c = omega (arith, banded-low (c .before .before .before .before .before .loop .inv) (c .before .before .before .before .before .before .before .before .before .before .before .before .before .pre .1) (c .before .before .before .before .before .before .before .before .before .before .before .before .before .pre .3) (c .before .before .before .before .loop-test .taken))

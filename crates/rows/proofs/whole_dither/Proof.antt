@@ -3,7 +3,7 @@ use Prim.Native.Nat.{ℕ, _-_, _/_, _%_}
 use native.Mathlib.Omega.{arith}
 use lib.ListN.{getD}
 use Rattle.motion.specs.Motion.{rasterIndex}
-use Rattle.paint.specs.Value.{planOf}
+use Rattle.paint.specs.Value.{flat, planOf}
 use Rattle.paint.proofs.Painting.{square-inside}
 use Rattle.rows.specs.Row.{colours}
 use Rattle.rows.proofs.Rows.{Rows, rows-start, rows-begun, rows-more, rows-end, rows-length, row-below, row-low, square-kept, data-beside}
@@ -30,7 +30,7 @@ loop-holds : tie.Need-loop-holds Inv-loop μ-loop
 loop-holds c = (turned-start _, (c .raster-index .ensures), rows-start _ _)
 
 colours-row-requires : tie.Need-colours-row-requires Inv-loop μ-loop
-colours-row-requires c κs = (omega arith, data-beside _ (c .before .before .before .before .before .before .before .before .before .pre .0) (c .before .before .loop .inv .2 .whole) (c .before .loop-test .taken) (c .before .before .loop .inv .1) (square-kept (c .before .before .before .before .before .before .before .before .before .pre .2) (rows-length (c .before .before .loop .inv .2))) (rows-begun (c .before .before .loop .inv .2)) (λ (i : ℕ). getD (colours (c .before .before .loop .a) (c .before .before .loop .b) (c .before .before .loop .a) (c .before .before .loop .b)) (i / 1 % 4) 0) (turned-value (c .before .before .loop .inv .0) (c .before .before .loop .inv .2 .whole)))
+colours-row-requires c κs = (omega arith, data-beside (flat (c .before .before .before .before .before .before .before .before .before .args .front .now)) (c .before .before .before .before .before .before .before .before .before .pre .0) (c .before .before .loop .inv .2 .whole) (c .before .loop-test .taken) (c .before .before .loop .inv .1) (square-kept (c .before .before .before .before .before .before .before .before .before .pre .2) (rows-length (c .before .before .loop .inv .2))) (rows-begun (c .before .before .loop .inv .2)) (λ (i : ℕ). getD (colours (c .before .before .loop .a) (c .before .before .loop .b) (c .before .before .loop .a) (c .before .before .loop .b)) (i / 1 % 4) 0) (turned-value (c .before .before .loop .inv .0) (c .before .before .loop .inv .2 .whole)))
 
 add-to : tie.Need-add-to Inv-loop μ-loop
 add-to c = omega (arith, row-low _ _ _ _ _ (c .before .before .before .before .before .loop .inv .1) (c .before .before .before .before .before .before .before .before .before .before .before .before .pre .2) (c .before .before .before .before .loop-test .taken))

@@ -2,7 +2,7 @@ use mathlib.Core.Path.{_≡_, refl}
 use Prim.Native.Nat.{_-_}
 use native.Mathlib.Omega.{arith}
 use Rattle.motion.specs.Motion.{rasterIndex}
-use Rattle.paint.specs.Value.{planOf}
+use Rattle.paint.specs.Value.{flat, planOf}
 use Rattle.paint.proofs.Painting.{square-inside}
 use Rattle.rows.proofs.Rows.{Rows, rows-start, rows-begun, rows-more, rows-end, rows-length, row-below, row-low, square-kept, data-beside}
 use Rattle.rows.proofs.whole_pattern.Statement.{statement}
@@ -21,7 +21,7 @@ loop-holds : tie.Need-loop-holds Inv-loop μ-loop
 loop-holds c = ((c .raster-index .ensures), rows-start _ _)
 
 pattern-row-requires : tie.Need-pattern-row-requires Inv-loop μ-loop
-pattern-row-requires c κs = ((c .before .before .before .before .before .before .before .pre .1), (c .before .before .before .before .before .before .before .pre .2), data-beside _ (c .before .before .before .before .before .before .before .pre .0) (c .before .before .loop .inv .1 .whole) (c .before .loop-test .taken) (c .before .before .loop .inv .0) (square-kept (c .before .before .before .before .before .before .before .pre .3) (rows-length (c .before .before .loop .inv .1))) (rows-begun (c .before .before .loop .inv .1)) _ (λ i h. refl))
+pattern-row-requires c κs = ((c .before .before .before .before .before .before .before .pre .1), (c .before .before .before .before .before .before .before .pre .2), data-beside (flat (c .before .before .before .before .before .before .before .args .front .now)) (c .before .before .before .before .before .before .before .pre .0) (c .before .before .loop .inv .1 .whole) (c .before .loop-test .taken) (c .before .before .loop .inv .0) (square-kept (c .before .before .before .before .before .before .before .pre .3) (rows-length (c .before .before .loop .inv .1))) (rows-begun (c .before .before .loop .inv .1)) _ (λ i h. refl))
 
 add-to : tie.Need-add-to Inv-loop μ-loop
 add-to c = omega (arith, row-low _ _ _ _ _ (c .before .before .before .before .before .loop .inv .0) (c .before .before .before .before .before .before .before .before .before .before .pre .3) (c .before .before .before .before .loop-test .taken))

@@ -3,7 +3,7 @@ use Prim.Native.Nat.{ℕ, _+_, _-_}
 use native.Mathlib.Omega.{arith}
 use lib.ListN.{getD}
 use Rattle.motion.specs.Motion.{rasterIndex}
-use Rattle.paint.specs.Value.{planOf}
+use Rattle.paint.specs.Value.{flat, planOf}
 use Rattle.paint.proofs.Painting.{square-inside}
 use Rattle.rows.proofs.Rows.{Rows, rows-start, rows-room, rows-begun, rows-more, rows-end, rows-length, row-below, row-low, square-kept, data-beside}
 use Rattle.rows.proofs.Colours.{raw-source}
@@ -23,7 +23,7 @@ loop-holds : tie.Need-loop-holds Inv-loop μ-loop
 loop-holds c = ((c .raster-index .ensures), rows-start _ _)
 
 copied-row-requires : tie.Need-copied-row-requires Inv-loop μ-loop
-copied-row-requires c κs = (omega (arith, (c .before .before .before .before .before .before .before .pre .1), rows-room (c .before .before .loop .inv .1) (c .before .loop-test .taken)), data-beside _ (c .before .before .before .before .before .before .before .pre .0) (c .before .before .loop .inv .1 .whole) (c .before .loop-test .taken) (c .before .before .loop .inv .0) (square-kept (c .before .before .before .before .before .before .before .pre .2) (rows-length (c .before .before .loop .inv .1))) (rows-begun (c .before .before .loop .inv .1)) (λ (i : ℕ). getD (c .before .before .before .before .before .before .before .args .s .now) ((c .before .before .loop .p) + i) 0) (λ i h. ap (λ (n : ℕ). getD (c .before .before .before .before .before .before .before .args .s .now) n 0) (raw-source ((c .before .before .loop .p) + i))))
+copied-row-requires c κs = (omega (arith, (c .before .before .before .before .before .before .before .pre .1), rows-room (c .before .before .loop .inv .1) (c .before .loop-test .taken)), data-beside (flat (c .before .before .before .before .before .before .before .args .front .now)) (c .before .before .before .before .before .before .before .pre .0) (c .before .before .loop .inv .1 .whole) (c .before .loop-test .taken) (c .before .before .loop .inv .0) (square-kept (c .before .before .before .before .before .before .before .pre .2) (rows-length (c .before .before .loop .inv .1))) (rows-begun (c .before .before .loop .inv .1)) (λ (i : ℕ). getD (c .before .before .before .before .before .before .before .args .s .now) ((c .before .before .loop .p) + i) 0) (λ i h. ap (λ (n : ℕ). getD (c .before .before .before .before .before .before .before .args .s .now) n 0) (raw-source ((c .before .before .loop .p) + i))))
 
 add-to : tie.Need-add-to Inv-loop μ-loop
 add-to c = omega (arith, row-low _ _ _ _ _ (c .before .before .before .before .before .loop .inv .0) (c .before .before .before .before .before .before .before .before .before .before .pre .2) (c .before .before .before .before .loop-test .taken))

@@ -17,9 +17,5 @@ returns-3 : tie.Need-returns-3
 unfolding lentVerdict
 returns-3 c = search decide
 
-returns-4 : tie.Need-returns-4
-unfolding lentVerdict
-returns-4 c = search decide
-
 pub judge-lent-spec : {M : Type 1} → statement M
-judge-lent-spec = tie.close (tie.spec returns returns-2 returns-3 returns-4)
+judge-lent-spec = tie.close (tie.spec returns returns-2 returns-3)

@@ -1,4 +1,4 @@
-use Rattle.whole.proofs.Families.{starts, pointed-front, back-square, front-pointed}
+use Rattle.whole.proofs.Families.{starts, pointed-front, back-square, copied-pointed}
 use borrow.Author.Needs.{needs}
 use Rattle.whole.proofs.front_by.Statement.{statement}
 use Rattle.whole.proofs.front_by.Tie as tie
@@ -16,7 +16,7 @@ sub-whole-front-2 : tie.Need-sub-whole-front-2
 sub-whole-front-2 c = starts _ _ _ _ _ _ (c .before .before .before .before .before .before .before .before .pre .2) _ (c .before .before .before .before .before .before .before .before .pre .1) .1
 
 whole-front-requires : tie.Need-whole-front-requires
-whole-front-requires c κs = (front-pointed _ _ _ _ _ _ (c .before .before .before .before .before .before .before .before .pre .0), pointed-front _ _ _ _ _ _ (c .before .before .before .before .before .before .before .before .pre .2) _ (c .before .before .before .before .before .before .before .before .pre .1), back-square _ _ _ _ _ _ (c .before .before .before .before .before .before .before .before .pre .2))
+whole-front-requires c κs = (copied-pointed _ _ (c .before .before .before .before .before .before .before .before .pre .0), pointed-front _ _ _ _ _ _ (c .before .before .before .before .before .before .before .before .pre .2) _ (c .before .before .before .before .before .before .before .before .pre .1), back-square _ _ _ _ _ _ (c .before .before .before .before .before .before .before .before .pre .2))
 
 same-length : tie.Need-same-length
 same-length c = search needs

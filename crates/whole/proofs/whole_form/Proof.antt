@@ -9,73 +9,73 @@ enum-told : tie.Need-enum-told
 enum-told c = search needs
 
 whole-pattern-requires : tie.Need-whole-pattern-requires
-whole-pattern-requires c κs = let n = numbers-shaped _ _ _ _ (c .before .enum-told .given .1) refl (c .before .before .before .before .before .before .pre .1) in (form-shaped _ _ _ _ _ _ _ _ (c .before .enum-told .given .1) refl (c .before .before .before .before .before .before .pre .0), n .0, n .1, (c .before .before .before .before .before .before .pre .2))
+whole-pattern-requires c κs = let n = numbers-shaped _ _ _ _ _ (c .before .enum-told .given .1) refl (c .before .before .before .before .before .before .pre .1) in (form-shaped _ _ _ (c .before .enum-told .given .1) refl (c .before .before .before .before .before .before .pre .0), n .0, n .1, (c .before .before .before .before .before .before .pre .2))
 
 enum-told-2 : tie.Need-enum-told-2
 enum-told-2 c = search needs
 
 whole-pattern-requires-2 : tie.Need-whole-pattern-requires-2
-whole-pattern-requires-2 c κs = let n = numbers-shaped _ _ _ _ (c .before .enum-told2 .given .1) refl (c .before .before .before .before .before .before .pre .1) in (form-shaped _ _ _ _ _ _ _ _ (c .before .enum-told2 .given .1) refl (c .before .before .before .before .before .before .pre .0), n .0, n .1, (c .before .before .before .before .before .before .pre .2))
+whole-pattern-requires-2 c κs = let n = numbers-shaped _ _ _ _ _ (c .before .enum-told2 .given .1) refl (c .before .before .before .before .before .before .pre .1) in (form-shaped _ _ _ (c .before .enum-told2 .given .1) refl (c .before .before .before .before .before .before .pre .0), n .0, n .1, (c .before .before .before .before .before .before .pre .2))
 
 enum-told-3 : tie.Need-enum-told-3
 enum-told-3 c = search needs
 
 whole-pattern-requires-3 : tie.Need-whole-pattern-requires-3
-whole-pattern-requires-3 c κs = let n = numbers-shaped _ _ _ _ (c .before .enum-told3 .given .1) refl (c .before .before .before .before .before .before .pre .1) in (form-shaped _ _ _ _ _ _ _ _ (c .before .enum-told3 .given .1) refl (c .before .before .before .before .before .before .pre .0), n .0, n .1, (c .before .before .before .before .before .before .pre .2))
+whole-pattern-requires-3 c κs = let n = numbers-shaped _ _ _ _ _ (c .before .enum-told3 .given .1) refl (c .before .before .before .before .before .before .pre .1) in (form-shaped _ _ _ (c .before .enum-told3 .given .1) refl (c .before .before .before .before .before .before .pre .0), n .0, n .1, (c .before .before .before .before .before .before .pre .2))
 
 enum-told-4 : tie.Need-enum-told-4
 enum-told-4 c = search needs
 
 whole-pattern-requires-4 : tie.Need-whole-pattern-requires-4
-whole-pattern-requires-4 c κs = let n = numbers-shaped _ _ _ _ (c .before .enum-told4 .given .1) refl (c .before .before .before .before .before .before .pre .1) in (form-shaped _ _ _ _ _ _ _ _ (c .before .enum-told4 .given .1) refl (c .before .before .before .before .before .before .pre .0), n .0, n .1, (c .before .before .before .before .before .before .pre .2))
+whole-pattern-requires-4 c κs = let n = numbers-shaped _ _ _ _ _ (c .before .enum-told4 .given .1) refl (c .before .before .before .before .before .before .pre .1) in (form-shaped _ _ _ (c .before .enum-told4 .given .1) refl (c .before .before .before .before .before .before .pre .0), n .0, n .1, (c .before .before .before .before .before .before .pre .2))
 
 enum-told-5 : tie.Need-enum-told-5
 enum-told-5 c = search needs
 
 whole-pattern-requires-5 : tie.Need-whole-pattern-requires-5
-whole-pattern-requires-5 c κs = let n = numbers-shaped _ _ _ _ (c .before .enum-told5 .given .1) refl (c .before .before .before .before .before .before .pre .1) in (form-shaped _ _ _ _ _ _ _ _ (c .before .enum-told5 .given .1) refl (c .before .before .before .before .before .before .pre .0), n .0, n .1, (c .before .before .before .before .before .before .pre .2))
+whole-pattern-requires-5 c κs = let n = numbers-shaped _ _ _ _ _ (c .before .enum-told5 .given .1) refl (c .before .before .before .before .before .before .pre .1) in (form-shaped _ _ _ (c .before .enum-told5 .given .1) refl (c .before .before .before .before .before .before .pre .0), n .0, n .1, (c .before .before .before .before .before .before .pre .2))
 
 enum-told-6 : tie.Need-enum-told-6
 enum-told-6 c = search needs
 
 whole-pattern-requires-6 : tie.Need-whole-pattern-requires-6
-whole-pattern-requires-6 c κs = let n = numbers-shaped _ _ _ _ (c .before .enum-told6 .given .1) refl (c .before .before .before .before .before .before .pre .1) in (form-shaped _ _ _ _ _ _ _ _ (c .before .enum-told6 .given .1) refl (c .before .before .before .before .before .before .pre .0), n .0, n .1, (c .before .before .before .before .before .before .pre .2))
+whole-pattern-requires-6 c κs = let n = numbers-shaped _ _ _ _ _ (c .before .enum-told6 .given .1) refl (c .before .before .before .before .before .before .pre .1) in (form-shaped _ _ _ (c .before .enum-told6 .given .1) refl (c .before .before .before .before .before .before .pre .0), n .0, n .1, (c .before .before .before .before .before .before .pre .2))
 
 enum-told-7 : tie.Need-enum-told-7
 enum-told-7 c = search needs
 
 whole-pattern-requires-7 : tie.Need-whole-pattern-requires-7
-whole-pattern-requires-7 c κs = let n = numbers-shaped _ _ _ _ (c .before .enum-told7 .given .1) refl (c .before .before .before .before .before .before .pre .1) in (form-shaped _ _ _ _ _ _ _ _ (c .before .enum-told7 .given .1) refl (c .before .before .before .before .before .before .pre .0), n .0, n .1, (c .before .before .before .before .before .before .pre .2))
+whole-pattern-requires-7 c κs = let n = numbers-shaped _ _ _ _ _ (c .before .enum-told7 .given .1) refl (c .before .before .before .before .before .before .pre .1) in (form-shaped _ _ _ (c .before .enum-told7 .given .1) refl (c .before .before .before .before .before .before .pre .0), n .0, n .1, (c .before .before .before .before .before .before .pre .2))
 
 enum-told-8 : tie.Need-enum-told-8
 enum-told-8 c = search needs
 
 whole-pattern-requires-8 : tie.Need-whole-pattern-requires-8
-whole-pattern-requires-8 c κs = let n = numbers-shaped _ _ _ _ (c .before .enum-told8 .given .1) refl (c .before .before .before .before .before .before .pre .1) in (form-shaped _ _ _ _ _ _ _ _ (c .before .enum-told8 .given .1) refl (c .before .before .before .before .before .before .pre .0), n .0, n .1, (c .before .before .before .before .before .before .pre .2))
+whole-pattern-requires-8 c κs = let n = numbers-shaped _ _ _ _ _ (c .before .enum-told8 .given .1) refl (c .before .before .before .before .before .before .pre .1) in (form-shaped _ _ _ (c .before .enum-told8 .given .1) refl (c .before .before .before .before .before .before .pre .0), n .0, n .1, (c .before .before .before .before .before .before .pre .2))
 
 enum-told-9 : tie.Need-enum-told-9
 enum-told-9 c = search needs
 
 whole-pattern-requires-9 : tie.Need-whole-pattern-requires-9
-whole-pattern-requires-9 c κs = let n = numbers-shaped _ _ _ _ (c .before .enum-told9 .given .1) refl (c .before .before .before .before .before .before .pre .1) in (form-shaped _ _ _ _ _ _ _ _ (c .before .enum-told9 .given .1) refl (c .before .before .before .before .before .before .pre .0), n .0, n .1, (c .before .before .before .before .before .before .pre .2))
+whole-pattern-requires-9 c κs = let n = numbers-shaped _ _ _ _ _ (c .before .enum-told9 .given .1) refl (c .before .before .before .before .before .before .pre .1) in (form-shaped _ _ _ (c .before .enum-told9 .given .1) refl (c .before .before .before .before .before .before .pre .0), n .0, n .1, (c .before .before .before .before .before .before .pre .2))
 
 enum-told-10 : tie.Need-enum-told-10
 enum-told-10 c = search needs
 
 whole-pattern-requires-10 : tie.Need-whole-pattern-requires-10
-whole-pattern-requires-10 c κs = let n = numbers-shaped _ _ _ _ (c .before .enum-told10 .given .1) refl (c .before .before .before .before .before .before .pre .1) in (form-shaped _ _ _ _ _ _ _ _ (c .before .enum-told10 .given .1) refl (c .before .before .before .before .before .before .pre .0), n .0, n .1, (c .before .before .before .before .before .before .pre .2))
+whole-pattern-requires-10 c κs = let n = numbers-shaped _ _ _ _ _ (c .before .enum-told10 .given .1) refl (c .before .before .before .before .before .before .pre .1) in (form-shaped _ _ _ (c .before .enum-told10 .given .1) refl (c .before .before .before .before .before .before .pre .0), n .0, n .1, (c .before .before .before .before .before .before .pre .2))
 
 enum-told-11 : tie.Need-enum-told-11
 enum-told-11 c = search needs
 
 whole-pattern-requires-11 : tie.Need-whole-pattern-requires-11
-whole-pattern-requires-11 c κs = let n = numbers-shaped _ _ _ _ (c .before .enum-told11 .given .1) refl (c .before .before .before .before .before .before .pre .1) in (form-shaped _ _ _ _ _ _ _ _ (c .before .enum-told11 .given .1) refl (c .before .before .before .before .before .before .pre .0), n .0, n .1, (c .before .before .before .before .before .before .pre .2))
+whole-pattern-requires-11 c κs = let n = numbers-shaped _ _ _ _ _ (c .before .enum-told11 .given .1) refl (c .before .before .before .before .before .before .pre .1) in (form-shaped _ _ _ (c .before .enum-told11 .given .1) refl (c .before .before .before .before .before .before .pre .0), n .0, n .1, (c .before .before .before .before .before .before .pre .2))
 
 enum-told-12 : tie.Need-enum-told-12
 enum-told-12 c = search needs
 
 whole-pattern-requires-12 : tie.Need-whole-pattern-requires-12
-whole-pattern-requires-12 c κs = let n = numbers-shaped _ _ _ _ (c .before .enum-told12 .given .1) refl (c .before .before .before .before .before .before .pre .1) in (form-shaped _ _ _ _ _ _ _ _ (c .before .enum-told12 .given .1) refl (c .before .before .before .before .before .before .pre .0), n .0, n .1, (c .before .before .before .before .before .before .pre .2))
+whole-pattern-requires-12 c κs = let n = numbers-shaped _ _ _ _ _ (c .before .enum-told12 .given .1) refl (c .before .before .before .before .before .before .pre .1) in (form-shaped _ _ _ (c .before .enum-told12 .given .1) refl (c .before .before .before .before .before .before .pre .0), n .0, n .1, (c .before .before .before .before .before .before .pre .2))
 
 same-length : tie.Need-same-length
 same-length c = search needs

@@ -3,7 +3,7 @@
 #![allow(dead_code)] // each test file uses a part of it
 
 use compare::{Decoder, Event, FromDefault, Proved, Second, Tally};
-use maker::{Form, Packet};
+use maker::{Form, Packet, WordForm};
 use reference::CallForm::{self, Default, Strict};
 use reference::Rows;
 use std::fmt::Debug;
@@ -21,6 +21,24 @@ pub const LEFT_OVER: [Event; 8] = [
     Event::RefusedOver(Strict, 1),
     Event::RefusedOver(Strict, 2),
     Event::RefusedOver(Strict, 3),
+];
+
+/// What packets with true colour leave over, in each form: of the first part, and of the second.
+pub const WORDS_OVER: [Event; 14] = [
+    Event::TakenWords(Default, 0),
+    Event::TakenWords(Default, 1),
+    Event::RefusedWords(Default, 0, 2),
+    Event::RefusedWords(Default, 0, 3),
+    Event::RefusedWords(Default, 1, 0),
+    Event::RefusedWords(Default, 1, 1),
+    Event::RefusedWords(Default, 2, 0),
+    Event::TakenWords(Strict, 0),
+    Event::RefusedWords(Strict, 0, 1),
+    Event::RefusedWords(Strict, 0, 2),
+    Event::RefusedWords(Strict, 0, 3),
+    Event::RefusedWords(Strict, 1, 0),
+    Event::RefusedWords(Strict, 1, 1),
+    Event::RefusedWords(Strict, 2, 0),
 ];
 
 /// Wrong rows for an accepted packet and a call that finds this place, by a name.
@@ -60,8 +78,19 @@ fn rows_with(packet: &Packet, counts: impl Fn(usize, u8) -> bool) -> Option<Rows
 /// The comparison was made on something: each of these was reached, and a block of every form.
 #[track_caller]
 pub fn assert_reached(tally: &Tally, wanted: &[Event]) {
+    assert_often(tally, &[wanted, &Form::ALL.map(Event::Form)].concat());
+}
+
+/// The same of packets or films with true colour.
+#[track_caller]
+pub fn assert_reached_words(tally: &Tally, wanted: &[Event]) {
+    assert_often(tally, &[wanted, &WordForm::ALL.map(Event::WordForm)].concat());
+}
+
+#[track_caller]
+fn assert_often(tally: &Tally, wanted: &[Event]) {
     println!("{tally}");
-    for &event in wanted.iter().chain(&Form::ALL.map(Event::Form)) {
+    for &event in wanted {
         let times = tally.times(event);
         println!("{event:?} reached {times} times");
         assert!(times >= OFTEN, "{event:?} reached {times} times, wanted {OFTEN}");

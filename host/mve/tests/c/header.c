@@ -1,8 +1,8 @@
 /* The film of document 01's listing, opened and stepped over through the C header, with a call that leaves a block begun;
    states of any numbers; numbers of any count; a film with sound, in rooms that are too small at first; packets with bytes
    left over, by the default and the strict forms; the rows that packets touch; where pixels come from; what is left of a
-   scratched film; a film that is stripped; map and packet of a picture; and a frame of Video 1. Exits with 0 where every answer
-   is the one that the documents give. */
+   scratched film; a film that is stripped; map and packet of a picture; a frame of Video 1; a film and a packet with true
+   colour. Exits with 0 where every answer is the one that the documents give. */
 #include "mve.h"
 
 #include <stddef.h>
@@ -47,6 +47,7 @@ static const uint8_t samples[] = {
 /* What is lent to a film's steps. */
 struct lent {
     uint8_t palette[768], a[64], b[64], room[16];
+    uint16_t c[64], d[64], e[64];
     size_t palette_length, room_length, place;
 };
 
@@ -91,8 +92,8 @@ static struct mve_stepped stepped(const uint8_t *bytes, size_t length, struct mv
     struct mve_stepped out;
     memset(&out, 0x77, sizeof out);
     same_kind(mve_step(bytes, length, &from, MVE_STATE_NUMBERS, &out, MVE_STEPPED_NUMBERS, lent->palette,
-                       lent->palette_length, lent->a, sizeof lent->a, lent->b, sizeof lent->b, &lent->place, lent->room,
-                       lent->room_length, allowed, form), &out);
+                       lent->palette_length, lent->a, sizeof lent->a, lent->b, sizeof lent->b, lent->c, 64, lent->d, 64,
+                       lent->e, 64, &lent->place, lent->room, lent->room_length, allowed, form), &out);
     if (!is_same(from, state)) {
         fprintf(stderr, "the state that went in was written\n");
         exit(1);
@@ -275,7 +276,7 @@ static const size_t state_places[] = {
     offsetof(struct mve_state, map_start),  offsetof(struct mve_state, map_length), offsetof(struct mve_state, unsent),
     offsetof(struct mve_state, stream),     offsetof(struct mve_state, has_format), offsetof(struct mve_state, stereo),
     offsetof(struct mve_state, wide),       offsetof(struct mve_state, compressed), offsetof(struct mve_state, begun),
-    offsetof(struct mve_state, left),       offsetof(struct mve_state, right),
+    offsetof(struct mve_state, left),       offsetof(struct mve_state, right),      offsetof(struct mve_state, true_colour),
 };
 static const size_t stepped_places[] = {
     offsetof(struct mve_stepped, kind),      offsetof(struct mve_stepped, number),   offsetof(struct mve_stepped, block),
@@ -292,17 +293,18 @@ static int places(void) {
         EXPECT(state_places[i] == 8 * i && (i > 8 || stepped_places[i] == 8 * i));
     }
 
-    static const size_t flags[] = {5, 8, 10, 11, 12, 13, 14};
+    static const size_t flags[] = {5, 8, 10, 11, 12, 13, 14, 17};
     struct lent lent = all_lent();
     for (size_t i = 0; i < sizeof flags / sizeof *flags; i += 1) {
-        /* position and chunk end at the second chunk's head; then columns, rows, front, .., stream, .., left, right */
-        size_t from[17] = {42, 42, 1, 1, 1, 0, 0, 0, 0, 77, 0, 0, 0, 0, 0, 0, 0}, next[17];
+        /* position and chunk end at the second chunk's head; then columns, rows, front, .., stream, .., left, right,
+           true_colour */
+        size_t from[18] = {42, 42, 1, 1, 1, 0, 0, 0, 0, 77, 0, 0, 0, 0, 0, 0, 0, 0}, next[18];
         from[flags[i]] = 1;
         if (flags[i] == 5) {
             from[6] = 6;
             from[7] = 7;
         }
-        if (flags[i] > 10) {
+        if (flags[i] > 10 && flags[i] < 15) {
             from[10] = 1;
             from[12] |= flags[i] == 13; /* compressed sound has 16 bits */
             from[15] = 65534;
@@ -321,7 +323,7 @@ static int places(void) {
 
 /* Memory for numbers of any count, and what is lent beside. */
 struct counted {
-    size_t from[18], out[26];
+    size_t from[19], out[27];
     struct lent lent;
 };
 
@@ -330,7 +332,7 @@ static size_t counted_step(struct counted *c, size_t from_numbers, size_t out_nu
     struct lent *lent = &c->lent;
     return mve_step(film, sizeof film, (const struct mve_state *)c->from, from_numbers, (struct mve_stepped *)c->out,
                     out_numbers, lent->palette, lent->palette_length, lent->a, sizeof lent->a, lent->b, sizeof lent->b,
-                    &lent->place, lent->room, lent->room_length, 70, MVE_DEFAULT);
+                    lent->c, 0, lent->d, 0, lent->e, 0, &lent->place, lent->room, lent->room_length, 70, MVE_DEFAULT);
 }
 
 /* As found but for the answer: refused by 16, and a state of zeros. */
@@ -343,8 +345,8 @@ static int is_no_state(const struct counted *c, const struct counted *found) {
 }
 
 static int counts(void) {
-    static const size_t first[18] = {42, 42, 1, 1, 0, 0, 0, 0, 1, 16, 0, 0, 0, 0, 0, 0, 0, 0x77};
-    static const size_t wrong[] = {0, 1, 16, 18};
+    static const size_t first[19] = {42, 42, 1, 1, 0, 0, 0, 0, 1, 16, 0, 0, 0, 0, 0, 0, 0, 0, 0x77};
+    static const size_t wrong[] = {0, 1, 17, 19};
     struct counted found, c;
     memset(&found, 0x77, sizeof found);
     memcpy(found.from, first, sizeof first);
@@ -368,14 +370,14 @@ static int counts(void) {
     for (size_t out = MVE_STEPPED_NUMBERS; out <= MVE_STEPPED_NUMBERS + 1; out += 1) {
         c = found;
         EXPECT(counted_step(&c, MVE_STATE_NUMBERS, out) == MVE_TAKEN && c.out[0] == MVE_TAKEN && c.out[8] == 46);
-        EXPECT(memcmp(c.from, found.from, sizeof c.from) == 0 && c.out[25] == found.out[25]);
+        EXPECT(memcmp(c.from, found.from, sizeof c.from) == 0 && c.out[26] == found.out[26]);
         c = found;
         EXPECT(mve_open(film, sizeof film, 3, (struct mve_stepped *)c.out, out) == MVE_TAKEN);
-        EXPECT(c.out[8] == 26 && c.out[17] == 3 && c.out[25] == found.out[25]);
+        EXPECT(c.out[8] == 26 && c.out[17] == 3 && c.out[26] == found.out[26]);
         c = found;
         EXPECT(mve_begin(film, sizeof film, 3, (struct mve_stepped *)c.out, out, c.lent.palette, 768, &c.lent.place) ==
                MVE_TAKEN);
-        EXPECT(c.out[8] == 38 && c.out[10] == 1 && c.out[17] == 3 && c.out[25] == found.out[25]);
+        EXPECT(c.out[8] == 38 && c.out[10] == 1 && c.out[17] == 3 && c.out[26] == found.out[26]);
     }
 
     /* Numbers that are no state's: refused by 16 before anything else is looked at, here a palette that is too short. */
@@ -387,6 +389,8 @@ static int counts(void) {
             found.lent.palette_length = 768;
         }
         EXPECT(mve_shown((const struct mve_state *)found.from, wrong[i], c.lent.a, 64, c.lent.b, 64) == 0);
+        EXPECT(mve_shown_words((const struct mve_state *)found.from, wrong[i], c.lent.c, 64, c.lent.d, 64, c.lent.e, 64) ==
+               0);
     }
     EXPECT(mve_shown((const struct mve_state *)found.from, MVE_STATE_NUMBERS, c.lent.a, 64, c.lent.b, 64) == 64);
 
@@ -476,16 +480,20 @@ static int padded_film(void) {
 /* The constants, from the rules: 256 entries of three bytes; 80 by 60 blocks of 64 pixels; as many blocks of 65 stores; a
    word of samples, two bytes each. */
 static int constants(void) {
-    EXPECT(MVE_VERSION == 15 && MVE_PALETTE_BYTES == 256 * 3 && MVE_PICTURE_BYTES == 80 * 60 * 64);
+    EXPECT(MVE_VERSION == 16 && MVE_PALETTE_BYTES == 256 * 3 && MVE_PICTURE_BYTES == 80 * 60 * 64);
+    EXPECT(MVE_PICTURE_WORDS == 80 * 60 * 64);
     EXPECT(MVE_BLOCK_STORES == 64 + 1 && MVE_ALL_STORES == 80 * 60 * MVE_BLOCK_STORES);
     EXPECT(MVE_PALETTE_STORES == 2 * 256 * 3);
     EXPECT(MVE_ROOM_BYTES == 2 * 65535 && MVE_NO_STREAM == 16);
     EXPECT(MVE_MAP_BYTES == 80 * 60 / 2 && MVE_BODY_BYTES == 65535 - 4);
-    EXPECT(MVE_DEFAULT == 0 && MVE_STRICT == 1 && MVE_STATE_NUMBERS == 17 && MVE_STEPPED_NUMBERS == 8 + 17);
-    EXPECT(sizeof(struct mve_state) == 17 * sizeof(size_t) && sizeof(struct mve_stepped) == 25 * sizeof(size_t));
+    EXPECT(MVE_DEFAULT == 0 && MVE_STRICT == 1 && MVE_STATE_NUMBERS == 18 && MVE_STEPPED_NUMBERS == 8 + 18);
+    EXPECT(sizeof(struct mve_state) == 18 * sizeof(size_t) && sizeof(struct mve_stepped) == 26 * sizeof(size_t));
     /* What a player lends for writing, at most: palette, pictures, room, place and two answers. */
     EXPECT(MVE_PALETTE_BYTES + 2 * MVE_PICTURE_BYTES + MVE_ROOM_BYTES + sizeof(size_t) + 2 * sizeof(struct mve_stepped) ==
-           746646);
+           746662);
+    EXPECT(MVE_PALETTE_BYTES + 3 * 2 * MVE_PICTURE_WORDS + MVE_ROOM_BYTES + sizeof(size_t) +
+               2 * sizeof(struct mve_stepped) ==
+           1975462);
     return 0;
 }
 
@@ -493,7 +501,7 @@ static int constants(void) {
 static int texts(void) {
     const char *none = mve_refusal_text(0);
     for (size_t number = 0; number <= 30; number += 1) {
-        int known = (number >= 1 && number <= 19) || (number >= 21 && number <= 26);
+        int known = number >= 1 && number <= 26;
         EXPECT((strcmp(mve_refusal_text(number), none) != 0) == known);
         EXPECT((mve_is_of_block(number) != 0) == (number >= 12 && number <= 14));
         for (size_t other = 1; other < number && known; other += 1) {
@@ -540,6 +548,10 @@ static int colours(void) {
     for (unsigned component = 0; component < 64; component += 1) {
         EXPECT(mve_widened((uint8_t)component) == component * 4 + component / 16);
     }
+    for (unsigned component = 0; component < 32; component += 1) {
+        EXPECT(mve_widened_5((uint8_t)component) == component * 8 + component / 4);
+    }
+    EXPECT(mve_widened_5(0) == 0 && mve_widened_5(31) == 255 && mve_widened_5(32) == 255 && mve_widened_5(255) == 255);
     return 0;
 }
 
@@ -721,7 +733,121 @@ static int video1_frame(void) {
     return 0;
 }
 
+/* 05 of version 2 with true-colour word 1, a block of colour fc1f and one that copies the oldest picture, each sent. */
+static const uint8_t words_film[] = {
+    'I', 'n', 't', 'e', 'r', 'p', 'l', 'a', 'y', ' ', 'M', 'V', 'E', ' ', 'F', 'i', 'l', 'e', 0x1a, 0x00,
+    0x1a, 0x00, 0x00, 0x01, 0x33, 0x11,
+    0x0c, 0x00, 0x02, 0x00, 0x08, 0x00, 0x05, 0x02, 0x01, 0x00, 0x01, 0x00, 0x00, 0x00, 0x01, 0x00,
+    0x23, 0x00, 0x03, 0x00, 0x01, 0x00, 0x0f, 0x00, 0x0e, 0x12, 0x00, 0x11, 0x00,
+    0, 0, 0, 0, 0, 0, 0, 0, 0, 0, 0, 0, 0, 0,
+    0x04, 0x00, 0x1f, 0xfc, 0x04, 0x00, 0x07, 0x00, 0x00, 0x00, 0x00, 0x00,
+    0x21, 0x00, 0x03, 0x00, 0x01, 0x00, 0x0f, 0x00, 0x0f, 0x10, 0x00, 0x11, 0x00,
+    0, 0, 0, 0, 0, 0, 0, 0, 0, 0, 0, 0, 0, 0,
+    0x02, 0x00, 0x04, 0x00, 0x07, 0x00, 0x00, 0x00, 0x00, 0x00,
+};
+
+static int are(const uint16_t *words, uint16_t word) {
+    for (size_t i = 0; i < 64; i += 1) {
+        if (words[i] != word) {
+            return 0;
+        }
+    }
+    return 1;
+}
+
+static size_t words_shown(const struct mve_state *state, const struct lent *lent) {
+    return mve_shown_words(state, MVE_STATE_NUMBERS, lent->c, 64, lent->d, 64, lent->e, 64);
+}
+
+/* A film with true colour: three pictures in turn; the pictures of bytes stay, and are not shown. */
+static int true_colour_film(void) {
+    struct lent lent = all_lent();
+    memset(lent.a, 7, sizeof lent.a);
+    for (size_t i = 0; i < 64; i += 1) {
+        lent.c[i] = 0x8001;
+        lent.d[i] = 0x8002;
+        lent.e[i] = 0x8003;
+    }
+    struct mve_stepped s = begun(words_film, sizeof words_film, 0, &lent);
+    EXPECT(s.kind == MVE_TAKEN && s.state.true_colour == 1 && s.state.front == 0);
+    EXPECT(words_shown(&s.state, &lent) == 64 && shown(&s.state, &lent) == 0);
+    struct mve_stepped other = begun(film, sizeof film, 0, &lent);
+    EXPECT(other.state.true_colour == 0 && words_shown(&other.state, &lent) == 0 && shown(&other.state, &lent) == 64);
+    size_t sent = 0, drawn = 0;
+    while (s.kind != MVE_ENDED) {
+        struct mve_state before = s.state;
+        s = stepped(words_film, sizeof words_film, before, &lent, drawn == 0 ? 40 : 65, MVE_STRICT);
+        EXPECT(s.kind != MVE_REFUSED && shown(&s.state, &lent) == 0 && words_shown(&s.state, &lent) == 64);
+        if (s.kind == MVE_WHOLE || s.kind == MVE_UNFINISHED) {
+            EXPECT(s.touched == 1 && s.first_row == 0 && s.last_row == 0 && s.stores == (drawn == 0 ? 40 : 65));
+            drawn += 1;
+        }
+        if (mve_is_sent(&before, &s.state)) {
+            sent += 1;
+            EXPECT(s.state.front == sent);
+        }
+    }
+    EXPECT(sent == 2 && drawn == 3 && are(lent.c, 0x8001) && are(lent.d, 0x7c1f) && are(lent.e, 1) && lent.a[0] == 7);
+
+    /* 8 tests the film's own kind; front 2 is taken of true colour alone, and true colour not without a size. */
+    static uint16_t none[1];
+    static const size_t lengths[][3] = {{63, 64, 64}, {64, 63, 64}, {64, 64, 63}, {0, 0, 0}};
+    struct mve_stepped begin = begun(words_film, sizeof words_film, 0, &lent);
+    for (size_t i = 0; i < 4; i += 1) {
+        const size_t *length = lengths[i];
+        uint16_t *c = i == 3 ? none : lent.c, *d = i == 3 ? none : lent.d, *e = i == 3 ? none : lent.e;
+        EXPECT(mve_step(words_film, sizeof words_film, &begin.state, MVE_STATE_NUMBERS, &s, MVE_STEPPED_NUMBERS,
+                        lent.palette, 768, lent.a, 64, lent.b, 64, c, length[0], d, length[1], e, length[2], &lent.place,
+                        lent.room, 0, 65, MVE_DEFAULT) == MVE_REFUSED);
+        EXPECT(s.number == MVE_ERROR_LENT_LENGTH);
+    }
+    struct mve_state state = begin.state;
+    state.front = 2;
+    EXPECT(stepped(words_film, sizeof words_film, state, &lent, 65, MVE_DEFAULT).kind == MVE_TAKEN);
+    EXPECT(words_shown(&state, &lent) == 64);
+    state.true_colour = 0;
+    EXPECT(stepped(words_film, sizeof words_film, state, &lent, 65, MVE_DEFAULT).number == MVE_ERROR_STATE);
+    state.front = 3;
+    state.true_colour = 1;
+    EXPECT(stepped(words_film, sizeof words_film, state, &lent, 65, MVE_DEFAULT).number == MVE_ERROR_STATE);
+    EXPECT(words_shown(&state, &lent) == 0);
+    state.front = state.columns = state.rows = 0;
+    EXPECT(stepped(words_film, sizeof words_film, state, &lent, 65, MVE_DEFAULT).number == MVE_ERROR_STATE);
+    return 0;
+}
+
+/* Two blocks: the left one copies the oldest picture, 8 pixels to its right, the right one has a colour; then a padding
+   byte. */
+static int true_colour_packet(void) {
+    static const uint8_t map[] = {0xe2}, data[] = {0x04, 0x00, 0x1f, 0xfc, 0x00, 0x99};
+    uint16_t last[128], oldest[128], drawn[128];
+    size_t place = 0;
+    for (size_t i = 0; i < 128; i += 1) {
+        last[i] = 0x8001;
+        oldest[i] = (uint16_t)(0x8000 + i);
+        drawn[i] = 0xffff;
+    }
+    struct mve_answer a = mve_check_words(2, 1, map, 1, data, 6);
+    EXPECT(a.kind == MVE_ACCEPTED && has_rows(a, 1, 0, 0) && a.stores == 0);
+    EXPECT(mve_check_words_strict(2, 1, map, 1, data, 5).kind == MVE_ACCEPTED);
+    EXPECT(mve_check_words_strict(2, 1, map, 1, data, 6).number == MVE_ERROR_DATA_LEFT);
+    EXPECT(mve_check_words(2, 1, map, 1, data, 4).number == MVE_ERROR_DATA_SHORT);
+    EXPECT(mve_check_words(2, 1, map, 1, data, 3).number == MVE_ERROR_PARTS);
+    EXPECT(mve_check_words(2, 1, map, 1, data, 1).number == MVE_ERROR_PARTS);
+    a = mve_draw_words_strict(2, 1, map, 1, data, 6, last, 128, oldest, 128, drawn, 128, &place, 130);
+    EXPECT(a.number == MVE_ERROR_DATA_LEFT && place == 0 && drawn[0] == 0xffff);
+    a = mve_draw_words(2, 1, map, 1, data, 6, last, 128, oldest, 127, drawn, 128, &place, 130);
+    EXPECT(a.number == MVE_ERROR_LENT_LENGTH && place == 0);
+    a = mve_draw_words(2, 1, map, 1, data, 6, last, 128, oldest, 128, drawn, 128, &place, 70);
+    EXPECT(a.kind == MVE_UNFINISHED && a.stores == 70 && place == 1 && has_rows(a, 1, 0, 0));
+    EXPECT(drawn[0] == 8 && drawn[16] == 24 && drawn[12] == 0x7c1f && drawn[13] == 0xffff);
+    a = mve_draw_words_strict(2, 1, map, 1, data, 5, last, 128, oldest, 128, drawn, 128, &place, 70);
+    EXPECT(a.kind == MVE_WHOLE && a.stores == 65 && place == 2 && drawn[119] == 127 && drawn[127] == 0x7c1f);
+    return 0;
+}
+
 int main(void) {
     return constants() | texts() | timers() | colours() | pictures() | states() | places() | counts() | sound() |
-           padded_packet() | padded_film() | rows() | origins() | salvages() | strips() | encodes() | video1_frame();
+           padded_packet() | padded_film() | rows() | origins() | salvages() | strips() | encodes() | video1_frame() |
+           true_colour_film() | true_colour_packet();
 }

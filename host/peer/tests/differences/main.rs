@@ -14,6 +14,8 @@ mod pictures;
 mod sounds;
 #[cfg(libav)]
 mod trailers;
+#[cfg(libav)]
+mod words;
 
 #[cfg(not(libav))]
 #[path = "../common/mod.rs"]

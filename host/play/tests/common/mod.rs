@@ -105,6 +105,7 @@ pub fn play(program: &Path, name: &str, film: &[u8], options: &Options) -> Left 
 pub fn stops(film: &[u8], options: &Options) -> usize {
     let (mut palette, mut place, mut room) = ([0; 768], 0, vec![0; 131_070]);
     let (mut a, mut b) = (vec![0; MAX_PIXELS], vec![0; MAX_PIXELS]);
+    let mut words = [(); 3].map(|()| vec![0; MAX_PIXELS]);
     // By the separate calls: a palette or an opcode of sound before the size may stop a player, too.
     let Ok(mut state) = open(film, options.stream) else { return 0 };
     let (mut stops, mut sounds, mut allowed) = (0, 0, options.allowance);
@@ -116,6 +117,7 @@ pub fn stops(film: &[u8], options: &Options) -> usize {
             picture_b: &mut b,
             place: &mut place,
             room: &mut room,
+            words: words.each_mut().map(Vec::as_mut_slice),
         };
         match step(film, state, lent, allowed) {
             Stepped::Taken(next, _, bytes) => {

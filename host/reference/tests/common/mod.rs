@@ -23,6 +23,11 @@ pub fn word(value: usize) -> [u8; 2] {
     u16::try_from(value).expect("a word").to_le_bytes()
 }
 
+/// A packet with true colour: the offset word and both parts.
+pub fn parted(first: &[u8], second: &[u8]) -> Vec<u8> {
+    [&word(2 + first.len())[..], first, second].concat()
+}
+
 /// An opcode: head and body.
 pub fn opcode(kind: u8, version: u8, body: &[u8]) -> Vec<u8> {
     [&word(body.len())[..], &[kind, version], body].concat()
@@ -49,6 +54,11 @@ pub fn size(columns: usize, rows: usize) -> Vec<u8> {
     opcode(0x05, 0, &[word(columns), word(rows)].concat())
 }
 
+/// Opcode 05, version 2, of a film with true colour.
+pub fn deep_size(columns: usize, rows: usize) -> Vec<u8> {
+    opcode(0x05, 2, &[word(columns), word(rows), word(0), word(1)].concat())
+}
+
 /// Opcode 11: fourteen bytes that are skipped, then the packet.
 pub fn video(packet: &[u8]) -> Vec<u8> {
     opcode(0x11, 0, &[&[0xEE; 14], packet].concat())
@@ -67,14 +77,20 @@ pub struct Lent {
     pub b: Vec<u8>,
     pub place: usize,
     pub room: Vec<u8>,
+    pub words: [Vec<u16>; 3],
 }
 
 impl Lent {
-    /// Zero palette, two zero pictures of this length, place 0, no room.
+    /// Zero palette, two zero pictures of this length, place 0, no room, no words.
     pub fn zero(pixels: usize) -> Lent {
         let picture = vec![0; pixels];
-        let (palette, room) = (vec![0; 768], Vec::new());
-        Lent { palette, a: picture.clone(), b: picture, place: 0, room }
+        let (palette, room, words) = (vec![0; 768], Vec::new(), Default::default());
+        Lent { palette, a: picture.clone(), b: picture, place: 0, room, words }
+    }
+
+    /// Zero palette, no bytes, three zero pictures of so many words, place 0, no room.
+    pub fn zero_words(pixels: usize) -> Lent {
+        Lent { words: [(); 3].map(|()| vec![0; pixels]), ..Lent::zero(0) }
     }
 
     pub fn step(&mut self, film: &[u8], state: State, allowed: usize) -> Stepped {
@@ -94,6 +110,7 @@ impl Lent {
             picture_b: &mut self.b,
             place: &mut self.place,
             room: &mut self.room,
+            words: self.words.each_mut().map(Vec::as_mut_slice),
         };
         film::step_as(form, film, state, lent, allowed)
     }

@@ -10,7 +10,7 @@ behind-requires : tie.Need-behind-requires
 behind-requires c κs = search needs
 
 returns : tie.Need-returns
-returns c = sized-is _ _ _ (c .before .behind .ensures) _ _
+returns c = sized-is _ _ _ (c .before .behind .ensures) _ _ _
 
 pub sized-spec : {M : Type 1} → statement M
 sized-spec = tie.close (tie.spec behind-requires returns)
