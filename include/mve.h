@@ -195,29 +195,29 @@ libmve.a is one object for x86-64 and the System V ABI. It needs no operating sy
 undefined below. Every function has a section of its own, so that the linker's --gc-sections leaves out those that are not
 called. All relocations are relative: code and constants may be loaded at any address, as long as they stay together.
 
-    code                            64,443 bytes
-    constants                       1,515 bytes
+    code                            62,682 bytes
+    constants                       1,675 bytes
     memory of its own               0 bytes
     undefined symbols               memset
     relocations                     R_X86_64_PC32, R_X86_64_PLT32
-    vector registers                xmm0 to xmm4
+    vector registers                xmm0 to xmm12
     below the stack pointer         88 bytes
     stack of mve_begin              696 bytes
-    stack of mve_check              248 bytes
-    stack of mve_check_strict       248 bytes
+    stack of mve_check              192 bytes
+    stack of mve_check_strict       192 bytes
     stack of mve_check_words        224 bytes
     stack of mve_check_words_strict 224 bytes
-    stack of mve_draw               632 bytes
-    stack of mve_draw_strict        632 bytes
-    stack of mve_draw_words         768 bytes
-    stack of mve_draw_words_strict  768 bytes
+    stack of mve_draw               680 bytes
+    stack of mve_draw_strict        680 bytes
+    stack of mve_draw_words         760 bytes
+    stack of mve_draw_words_strict  760 bytes
     stack of mve_encode             424 bytes
     stack of mve_open               8 bytes
-    stack of mve_origin             328 bytes
+    stack of mve_origin             304 bytes
     stack of mve_salvage            536 bytes
     stack of mve_shown              8 bytes
     stack of mve_shown_words        8 bytes
-    stack of mve_step               816 bytes
+    stack of mve_step               808 bytes
     stack of mve_strip              648 bytes
     stack of mve_video1             72 bytes
 
@@ -231,21 +231,21 @@ A boot stage has one stack for all of this. A whole stage is a least caller in C
 
     compiler of the stages                gcc 12.2.0
     whole stage of mve_begin              728 bytes
-    whole stage of mve_check              344 bytes
-    whole stage of mve_check_strict       344 bytes
+    whole stage of mve_check              288 bytes
+    whole stage of mve_check_strict       288 bytes
     whole stage of mve_check_words        320 bytes
     whole stage of mve_check_words_strict 320 bytes
-    whole stage of mve_draw               840 bytes
-    whole stage of mve_draw_strict        840 bytes
-    whole stage of mve_draw_words         992 bytes
-    whole stage of mve_draw_words_strict  992 bytes
+    whole stage of mve_draw               888 bytes
+    whole stage of mve_draw_strict        888 bytes
+    whole stage of mve_draw_words         984 bytes
+    whole stage of mve_draw_words_strict  984 bytes
     whole stage of mve_encode             536 bytes
     whole stage of mve_open               24 bytes
-    whole stage of mve_origin             472 bytes
+    whole stage of mve_origin             448 bytes
     whole stage of mve_salvage            632 bytes
     whole stage of mve_shown              24 bytes
     whole stage of mve_shown_words        40 bytes
-    whole stage of mve_step               1,024 bytes
+    whole stage of mve_step               1,016 bytes
     whole stage of mve_strip              664 bytes
     whole stage of mve_video1             88 bytes
 

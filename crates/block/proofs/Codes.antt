@@ -231,19 +231,22 @@ module _ (deep : Bool) (s o : List ℕ) where
   unfolding kindOf kinds dataLength formA
   length-A = halves-A deep (falling deep s 0) (falling deep s (4 * bytes deep + 8))
 
-  -- the same by the bytes of a pixel and the tests that code found
-  module _ (n r : ℕ) (a : Bool) (e : n ≡ bytes deep) (f : a ≡ falling deep s 0) where
-    pub found-7 : r ≡ cond a (2 * n + 2) (2 * n + 8) → r ≡ dataLength deep (kindOf deep 7 s o)
-    found-7 q = q ∙ rw (e, f) length-7
+  -- the same by the tests that code found; where deep is known, each sum computes to the number that code has
+  module _ (r : ℕ) (a : Bool) (f : a ≡ falling deep s 0) where
+    pub found-7 : r ≡ cond a (2 * bytes deep + 2) (2 * bytes deep + 8) → r ≡ dataLength deep (kindOf deep 7 s o)
+    found-7 q = q ∙ rw f length-7
 
-    pub found-8 : r ≡ cond a (4 * n + 8) (8 * n + 8) → r ≡ dataLength deep (kindOf deep 8 s o)
-    found-8 q = q ∙ rw (e, f) length-8
+    pub found-8 : r ≡ cond a (4 * bytes deep + 8) (8 * bytes deep + 8) → r ≡ dataLength deep (kindOf deep 8 s o)
+    found-8 q = q ∙ rw f length-8
 
-    pub found-A : r ≡ cond a (8 * n + 16) (16 * n + 16) → r ≡ dataLength deep (kindOf deep 10 s o)
-    found-A q = q ∙ rw (e, f) length-A
+    pub found-9 : (b : Bool) (t : ℕ) → b ≡ falling deep s (2 * bytes deep) → t ≡ cond b (4 * bytes deep + 4) (4 * bytes deep + 16) → r ≡ cond a (4 * bytes deep + 8) t
+        → r ≡ dataLength deep (kindOf deep 9 s o)
+    found-9 b t g p q = q ∙ ap (cond a (4 * bytes deep + 8)) p ∙ rw (f, g) length-9
 
-    pub found-9 : (b : Bool) (t : ℕ) → b ≡ falling deep s (2 * n) → t ≡ cond b (4 * n + 4) (4 * n + 16) → r ≡ cond a (4 * n + 8) t → r ≡ dataLength deep (kindOf deep 9 s o)
-    found-9 b t g p q = q ∙ ap (cond a (4 * n + 8)) p ∙ rw (f, g, e) length-9
+    -- of the codes 7 to A the one that is none of 7 to 9
+    pub found-A : (c : ℕ) → (6 < c) × (c < 11) → (c ≡ 7 → ⊥) → (c ≡ 8 → ⊥) → (c ≡ 9 → ⊥) → r ≡ cond a (8 * bytes deep + 16) (16 * bytes deep + 16)
+        → r ≡ dataLength deep (kindOf deep c s o)
+    found-A c l n7 n8 n9 q = rw (let e : c ≡ 10 = omega arith in e) (q ∙ rw f length-A)
 
 -- none of codes 7 to A is fixed
 pub not-fixed : {A : Type 0} (c : ℕ) → Fixed c → 6 < c → c < 11 → A

@@ -5,7 +5,6 @@ use motion::behind_vector;
 use motion::far_vector;
 use motion::near_vector;
 use motion::points_inside;
-use pattern::bytes_of;
 use pattern::is_falling;
 use words::byte_at;
 ghost use mathlib.Core.Path.{_≡_};
@@ -98,30 +97,45 @@ fn word_length(code: u8) -> usize
     }
 }
 
-// Code 9. Both pairs are compared before either result is tested, so that the compiler needs no branch.
-fn length_of_9(deep: bool, s: &[u8]) -> usize
-    ensures { λ r. ⌜ ((o : List ℕ) → r ≡ dataLength deep (kindOf deep 9 (now (s .entry)) o)) ⌝ }
+// Code 9 of an 8-bit film. Both pairs are compared before either result is tested, so that the compiler needs no branch.
+fn byte_length_of_9(s: &[u8]) -> usize
+    ensures { λ r. ⌜ ((o : List ℕ) → r ≡ dataLength false (kindOf false 9 (now (s .entry)) o)) ⌝ }
 {
-    let bytes = bytes_of(deep);
-    let second = is_falling(deep, s, 2 * bytes);
-    choose(
-        is_falling(deep, s, 0),
-        4 * bytes + 8,
-        choose(second, 4 * bytes + 4, 4 * bytes + 16),
-    )
+    let second = is_falling(false, s, 2);
+    choose(is_falling(false, s, 0), 12, choose(second, 8, 20))
 }
 
-// Codes 7 to A, whose data begins with s.
-fn pattern_length(deep: bool, code: u8, s: &[u8]) -> usize
-    requires { ⌜ (6 < code) × (code < 11) ⌝ }
-    ensures { λ r. ⌜ ((o : List ℕ) → r ≡ dataLength deep (kindOf deep code (now (s .entry)) o)) ⌝ }
+// The same in a film with true colour.
+fn word_length_of_9(s: &[u8]) -> usize
+    ensures { λ r. ⌜ ((o : List ℕ) → r ≡ dataLength true (kindOf true 9 (now (s .entry)) o)) ⌝ }
 {
-    let bytes = bytes_of(deep);
+    let second = is_falling(true, s, 4);
+    choose(is_falling(true, s, 0), 16, choose(second, 12, 24))
+}
+
+// Codes 7 to A of an 8-bit film, whose data begins with s.
+fn byte_pattern_length(code: u8, s: &[u8]) -> usize
+    requires { ⌜ (6 < code) × (code < 11) ⌝ }
+    ensures { λ r. ⌜ ((o : List ℕ) → r ≡ dataLength false (kindOf false code (now (s .entry)) o)) ⌝ }
+{
     match code {
-        7 => choose(is_falling(deep, s, 0), 2 * bytes + 2, 2 * bytes + 8),
-        8 => choose(is_falling(deep, s, 0), 4 * bytes + 8, 8 * bytes + 8),
-        9 => length_of_9(deep, s),
-        _ => choose(is_falling(deep, s, 0), 8 * bytes + 16, 16 * bytes + 16),
+        7 => choose(is_falling(false, s, 0), 4, 10),
+        8 => choose(is_falling(false, s, 0), 12, 16),
+        9 => byte_length_of_9(s),
+        _ => choose(is_falling(false, s, 0), 24, 32),
+    }
+}
+
+// The same in a film with true colour.
+fn word_pattern_length(code: u8, s: &[u8]) -> usize
+    requires { ⌜ (6 < code) × (code < 11) ⌝ }
+    ensures { λ r. ⌜ ((o : List ℕ) → r ≡ dataLength true (kindOf true code (now (s .entry)) o)) ⌝ }
+{
+    match code {
+        7 => choose(is_falling(true, s, 0), 6, 12),
+        8 => choose(is_falling(true, s, 0), 16, 24),
+        9 => word_length_of_9(s),
+        _ => choose(is_falling(true, s, 0), 32, 48),
     }
 }
 
@@ -169,7 +183,7 @@ pub fn data_length(code: u8, s: &[u8]) -> usize
     if 10 < code {
         return byte_length(code);
     }
-    pattern_length(false, code, s)
+    byte_pattern_length(code, s)
 }
 
 // The same in a film with true colour.
@@ -183,7 +197,7 @@ pub fn word_data_length(code: u8, s: &[u8]) -> usize
     if 10 < code {
         return word_length(code);
     }
-    pattern_length(true, code, s)
+    word_pattern_length(code, s)
 }
 
 // One of two vectors, chosen number by number: conditional moves instead of a branch.

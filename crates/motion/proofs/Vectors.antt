@@ -14,13 +14,26 @@ use Rattle.motion.specs.Motion.{vector, aheadVector, negated, nearVector
 
 -- ---- the vectors
 
-pub ahead-low : (b v : ℕ) → v ≡ b → v < 56 → vector (8 + v % 7) 0 (v / 7) 0 ≡ aheadVector b
-unfolding aheadVector
-ahead-low b v e h = rw (← e, lt-ltb v 56 h)
+-- the quotients by 7 and by 29, and what they leave, from products
+by-7 : (v : ℕ) → v < 56 → v * 37 / 256 ≡ v / 7
+by-7 v h = omega arith
 
-pub ahead-high : (b v : ℕ) → v ≡ b → 56 ≤ v → vector ((v - 56) % 29) 14 (8 + (v - 56) / 29) 0 ≡ aheadVector b
+over-7 : (v : ℕ) → v - 7 * (v / 7) ≡ v % 7
+over-7 v = omega arith
+
+by-29 : (u : ℕ) → u < 200 → u * 283 / 8192 ≡ u / 29
+by-29 u h = omega arith
+
+over-29 : (u : ℕ) → u - 29 * (u / 29) ≡ u % 29
+over-29 u = omega arith
+
+pub ahead-low : (b v : ℕ) → v ≡ b → v < 56 → vector (8 + (v - 7 * (v * 37 / 256))) 0 (v * 37 / 256) 0 ≡ aheadVector b
 unfolding aheadVector
-ahead-high b v e h = rw (← e, le-ltb v 56 h)
+ahead-low b v e h = rw (by-7 v h, over-7 v, ← e, lt-ltb v 56 h)
+
+pub ahead-high : (b v : ℕ) → v ≡ b → v < 256 → 56 ≤ v → vector (v - 56 - 29 * ((v - 56) * 283 / 8192)) 14 (8 + (v - 56) * 283 / 8192) 0 ≡ aheadVector b
+unfolding aheadVector
+ahead-high b v e l h = rw (by-29 (v - 56) (omega arith), over-29 (v - 56), ← e, le-ltb v 56 h)
 
 pub near-is : (b v : ℕ) → v ≡ b → vector (v % 16) 8 (v / 16) 8 ≡ nearVector b
 unfolding nearVector

@@ -13,23 +13,26 @@ pub struct Vector {
     pub up: usize,
 }
 
-// Code 2.
+// Code 2. Products and shifts in place of quotients by 7 and 29: the compiler takes more steps for those.
 pub fn ahead_vector(b: u8) -> Vector
     ensures { λ r. ⌜ r ≡ aheadVector b ⌝ }
 {
     let v = wide(b);
     if v < 56 {
+        let q = v * 37 / 256;
         return Vector {
-            right: 8 + v % 7,
+            right: 8 + (v - 7 * q),
             left: 0,
-            down: v / 7,
+            down: q,
             up: 0,
         };
     }
+    let u = v - 56;
+    let q = u * 283 / 8192;
     Vector {
-        right: (v - 56) % 29,
+        right: u - 29 * q,
         left: 14,
-        down: 8 + (v - 56) / 29,
+        down: 8 + q,
         up: 0,
     }
 }

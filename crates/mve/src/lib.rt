@@ -135,13 +135,13 @@ pub extern "C" fn mve_draw_strict(
 
 // The drawing call of films with true colour.
 #[no_mangle]
-pub extern "C" fn mve_draw_words(
+pub extern "C" fn mve_draw_words<'a>(
     columns: usize,
     rows: usize,
     map: &[u8],
     data: &[u8],
-    last: &[u16],
-    oldest: &[u16],
+    last: &'a [u16],
+    oldest: &'a [u16],
     new: &mut [u16],
     place: &mut usize,
     allowed: usize,
@@ -155,13 +155,13 @@ pub extern "C" fn mve_draw_words(
 
 // The strict form: no byte may be left over.
 #[no_mangle]
-pub extern "C" fn mve_draw_words_strict(
+pub extern "C" fn mve_draw_words_strict<'a>(
     columns: usize,
     rows: usize,
     map: &[u8],
     data: &[u8],
-    last: &[u16],
-    oldest: &[u16],
+    last: &'a [u16],
+    oldest: &'a [u16],
     new: &mut [u16],
     place: &mut usize,
     allowed: usize,

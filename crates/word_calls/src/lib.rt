@@ -60,13 +60,13 @@ pub fn judge_words(
 
 // The first stores due from the place on, at most as many as are allowed; their number is returned. Whoever calls it has judged, and the frame of the tests is
 // gone while it draws.
-pub fn draw_word_packet(
+pub fn draw_word_packet<'a>(
     columns: usize,
     rows: usize,
     map: &[u8],
     data: &[u8],
-    last: &[u16],
-    oldest: &[u16],
+    last: &'a [u16],
+    oldest: &'a [u16],
     new: &mut [u16],
     place: &mut usize,
     allowed: usize,
@@ -89,13 +89,13 @@ pub fn draw_word_packet(
 }
 
 // The tests, then the first stores due from the place on, at most as many as are allowed; a refused call changes nothing.
-fn draw_words_within(
+fn draw_words_within<'a>(
     columns: usize,
     rows: usize,
     map: &[u8],
     data: &[u8],
-    last: &[u16],
-    oldest: &[u16],
+    last: &'a [u16],
+    oldest: &'a [u16],
     new: &mut [u16],
     place: &mut usize,
     allowed: Allowed,
@@ -135,13 +135,13 @@ fn draw_words_within(
 }
 
 // The drawing call: one byte of the second part may be left over.
-pub fn draw_words(
+pub fn draw_words<'a>(
     columns: usize,
     rows: usize,
     map: &[u8],
     data: &[u8],
-    last: &[u16],
-    oldest: &[u16],
+    last: &'a [u16],
+    oldest: &'a [u16],
     new: &mut [u16],
     place: &mut usize,
     allowed: usize,
@@ -166,13 +166,13 @@ pub fn draw_words(
 }
 
 // The strict drawing call: no byte may be left over.
-pub fn draw_words_strict(
+pub fn draw_words_strict<'a>(
     columns: usize,
     rows: usize,
     map: &[u8],
     data: &[u8],
-    last: &[u16],
-    oldest: &[u16],
+    last: &'a [u16],
+    oldest: &'a [u16],
     new: &mut [u16],
     place: &mut usize,
     allowed: usize,

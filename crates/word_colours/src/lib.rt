@@ -1,17 +1,14 @@
-// A whole block of a film with true colour whose colours stand in its data, row by row: as quick as stores of one word allow. The copied ones are in `word_rows`.
+// A whole block of codes B to E of a film with true colour, whose colours stand in its data, row by row: as quick as stores of one word allow. The copied ones are in
+// `word_rows`, the patterned ones in `word_patterns`.
 // Parameters that no code reads name the list of the block's stores, for the contracts. The compiler leaves them out.
 use block::cell_source;
 use motion::raster_index;
-use pattern::pattern_source;
 use word_paint::colour_at;
-use word_paint::put_word;
 use word_rows::put_eight_words;
 ghost use mathlib.Core.Path.{_≡_};
 ghost use mathlib.Core.Bool.{true};
 ghost use Prim.Native.Nat.{_+_, _*_, _/_, _≤_, _<_};
 ghost use lib.ListN.{length};
-ghost use Rattle.pattern.specs.Form.{numbers};
-ghost use Rattle.pattern.specs.Pattern.{Shaped, patternLength, patternSource};
 ghost use Rattle.motion.specs.Motion.{rasterIndex};
 ghost use Rattle.block.specs.declared.Source.the-variants.{Data};
 ghost use Rattle.block.specs.Block.{colourBytes, cellSource, colourAt, stored};
@@ -177,104 +174,5 @@ pub fn word_cells(
         word_band(code, s, o, last, oldest, new, w, x, y, p, side, to);
         to += side * w;
         p += 8 * side;
-    }
-}
-
-// Codes 7 to A: the colour of pixel i.
-fn pattern_word(
-    bits: usize,
-    across: usize,
-    down: usize,
-    wide: usize,
-    high: usize,
-    s: &[u8],
-    i: usize,
-) -> u16
-    requires { ⌜ Shaped (numbers 2 bits across down wide high) × (patternLength (numbers 2 bits across down wide high) ≤ length (now s)) × (i < 64) ⌝ }
-    ensures { λ r. ⌜ r ≡ stored true (colourAt true (now (s .entry)) (patternSource (numbers 2 bits across down wide high) (now (s .entry)) i)) ⌝ }
-{
-    colour_at(s, pattern_source(2, bits, across, down, wide, high, s, i))
-}
-
-// Codes 7 to A: eight pixels side by side, from pixel p on. Two are read before they are stored, so that the compiler reads their fields once. The trip count is computed, as
-// in `rows`, so that the loop is unrolled only once that is a constant.
-fn pattern_words(
-    code: u8,
-    s: &[u8],
-    o: &[u8],
-    last: &[u16],
-    oldest: &[u16],
-    new: &mut [u16],
-    w: usize,
-    x: usize,
-    y: usize,
-    p: usize,
-    bits: usize,
-    across: usize,
-    down: usize,
-    wide: usize,
-    high: usize,
-    to: usize,
-)
-    requires { ⌜ Shaped (numbers 2 bits across down wide high) × (patternLength (numbers 2 bits across down wide high) ≤ length (now s)) × Beside (wordPlan code (now s) (now o) (now last) (now oldest) w x y) p 8 (now new) to (λ i. stored true (colourAt true (now s) (patternSource (numbers 2 bits across down wide high) (now s) (p + i)))) ⌝ }
-    ensures { λ _. ⌜ now (new .exit) ≡ further (wordPlan code (now (s .entry)) (now (o .entry)) (now (last .entry)) (now (oldest .entry)) w x y) 0 (now (new .entry)) p 8 ⌝ }
-{
-    let pairs = across * (8 / across) / 2;
-    let mut k = 0;
-    while k < pairs {
-        let i = p + 2 * k;
-        let at = to + 2 * k;
-        let beside = at + 1;
-        let u = pattern_word(bits, across, down, wide, high, s, i);
-        let v = pattern_word(bits, across, down, wide, high, s, i + 1);
-        put_word(code, s, o, last, oldest, new, w, x, y, i, at, u);
-        put_word(code, s, o, last, oldest, new, w, x, y, i + 1, beside, v);
-        k += 1;
-    }
-}
-
-// Codes 7 to A: the colours that the fields of s choose.
-pub fn word_pattern(
-    code: u8,
-    s: &[u8],
-    o: &[u8],
-    last: &[u16],
-    oldest: &[u16],
-    new: &mut [u16],
-    w: usize,
-    x: usize,
-    y: usize,
-    bits: usize,
-    across: usize,
-    down: usize,
-    wide: usize,
-    high: usize,
-)
-    requires { ⌜ WordSources code (now s) (now o) w x y (λ i. Data (patternSource (numbers 2 bits across down wide high) (now s) i)) × Shaped (numbers 2 bits across down wide high) × (patternLength (numbers 2 bits across down wide high) ≤ length (now s)) × Square w x y (length (now new)) ⌝ }
-    ensures { λ _. ⌜ now (new .exit) ≡ firstPixels (wordPlan code (now (s .entry)) (now (o .entry)) (now (last .entry)) (now (oldest .entry)) w x y) 0 (now (new .entry)) 64 ⌝ }
-{
-    let mut to = raster_index(w, x, y, 0);
-    let mut p = 0;
-    while p < 64 {
-        pattern_words(
-            code,
-            s,
-            o,
-            last,
-            oldest,
-            new,
-            w,
-            x,
-            y,
-            p,
-            bits,
-            across,
-            down,
-            wide,
-            high,
-            to,
-        );
-        to += w;
-        p += 8;
     }
 }

@@ -17,14 +17,14 @@ ghost use Rattle.word_draw.specs.Asked.{WordAccepted};
 
 // The first stores due from the place on, at most as many as are allowed; their number is returned. Whoever calls it has judged. Every block stores 64 pixels, and then
 // the place.
-pub fn draw_word_blocks(
+pub fn draw_word_blocks<'a>(
     columns: usize,
     rows: usize,
     map: &[u8],
     data: &[u8],
     offsets: &[u8],
-    last: &[u16],
-    oldest: &[u16],
+    last: &'a [u16],
+    oldest: &'a [u16],
     new: &mut [u16],
     place: &mut usize,
     allowed: usize,

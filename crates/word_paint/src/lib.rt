@@ -26,7 +26,7 @@ pub fn word_in(t: &[u16], j: usize) -> u16
 }
 
 // The number that a byte is.
-fn widened(b: u8) -> u16
+pub fn widened(b: u8) -> u16
     ensures { λ r. ⌜ (r ≡ b) × (r < 256) ⌝ }
 {
     b as u16

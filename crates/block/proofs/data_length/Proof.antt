@@ -5,7 +5,7 @@ use Rattle.block.proofs.data_length.Tie as tie
 use Rattle.block.proofs.data_length.Reads as reads
 use Rattle.block.proofs.data_length.Lts as lts
 use Rattle.block.proofs.byte_length.Reads as byte-length-reads
-use Rattle.block.proofs.pattern_length.Reads as pattern-length-reads
+use Rattle.block.proofs.byte_pattern_length.Reads as byte-pattern-length-reads
 
 byte-length-requires : tie.Need-byte-length-requires
 byte-length-requires c κs = (c .before .before .pre, inl (c .if1 .taken))
@@ -19,8 +19,8 @@ byte-length-requires-2 c κs = (c .before .before .before .pre, inr (c .if2 .tak
 returns-2 : tie.Need-returns-2
 returns-2 c = λ o. c .byte-length2 .ensures _ o
 
-pattern-length-requires : tie.Need-pattern-length-requires
-pattern-length-requires c κs = search needs
+byte-pattern-length-requires : tie.Need-byte-pattern-length-requires
+byte-pattern-length-requires c κs = search needs
 
 returns-3 : tie.Need-returns-3
 returns-3 c = search needs
@@ -33,5 +33,5 @@ data-length-spec =
     returns
     byte-length-requires-2
     returns-2
-    pattern-length-requires
+    byte-pattern-length-requires
     returns-3)

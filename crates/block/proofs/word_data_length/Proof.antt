@@ -5,7 +5,7 @@ use Rattle.block.proofs.word_data_length.Tie as tie
 use Rattle.block.proofs.word_data_length.Reads as reads
 use Rattle.block.proofs.word_data_length.Lts as lts
 use Rattle.block.proofs.word_length.Reads as word-length-reads
-use Rattle.block.proofs.pattern_length.Reads as pattern-length-reads
+use Rattle.block.proofs.word_pattern_length.Reads as word-pattern-length-reads
 
 word-length-requires : tie.Need-word-length-requires
 word-length-requires c κs = (c .before .before .pre, inl (c .if1 .taken))
@@ -19,8 +19,8 @@ word-length-requires-2 c κs = (c .before .before .before .pre, inr (c .if2 .tak
 returns-2 : tie.Need-returns-2
 returns-2 c = λ o. c .word-length2 .ensures _ o
 
-pattern-length-requires : tie.Need-pattern-length-requires
-pattern-length-requires c κs = search needs
+word-pattern-length-requires : tie.Need-word-pattern-length-requires
+word-pattern-length-requires c κs = search needs
 
 returns-3 : tie.Need-returns-3
 returns-3 c = search needs
@@ -33,5 +33,5 @@ word-data-length-spec =
     returns
     word-length-requires-2
     returns-2
-    pattern-length-requires
+    word-pattern-length-requires
     returns-3)

@@ -1,0 +1,36 @@
+use Rattle.word_fields.proofs.Numbers.{eight-is}
+use borrow.Author.Needs.{needs}
+use Rattle.word_fields.proofs.eight_bytes.Statement.{statement}
+use Rattle.word_fields.proofs.eight_bytes.Tie as tie
+use Rattle.word_fields.proofs.eight_bytes.Reads as reads
+use Rattle.word_fields.proofs.eight_bytes.Lts as lts
+use Rattle.word_fields.proofs.four_bytes.Reads as four-bytes-reads
+
+four-bytes-requires : tie.Need-four-bytes-requires
+four-bytes-requires c κs = search needs
+
+add-four-bytes : tie.Need-add-four-bytes
+add-four-bytes c = search needs
+
+four-bytes-requires-2 : tie.Need-four-bytes-requires-2
+four-bytes-requires-2 c κs = search needs
+
+mul-result : tie.Need-mul-result
+mul-result c = search needs
+
+add-result : tie.Need-add-result
+add-result c = search needs
+
+returns : tie.Need-returns
+returns c = eight-is _ _ _ _ (c .before .four-bytes .ensures) (c .four-bytes2 .ensures)
+
+pub eight-bytes-spec : {M : Type 1} → statement M
+eight-bytes-spec =
+    tie.close
+    (tie.spec
+    four-bytes-requires
+    add-four-bytes
+    four-bytes-requires-2
+    mul-result
+    add-result
+    returns)
