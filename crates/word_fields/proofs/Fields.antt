@@ -8,7 +8,7 @@ use native.Mathlib.Nat.{pow-succ', one-le-pow, mul-assoc, mod-add-div, div-div-e
 use native.Mathlib.Omega.{arith}
 use lib.ListN.{getD}
 use Rattle.pattern.specs.Pattern.{fieldAt}
-use Rattle.word_fields.specs.Layout.{number, Bytes}
+use Rattle.word_fields.specs.Layout.{littleEndian, AreBytes}
 
 -- ---- powers of two
 
@@ -37,26 +37,26 @@ low-bits v bit t b h =
 -- ---- bytes
 
 -- b bits from bit t of byte k on
-byte-bits : (s : List ℕ) (n k q t b : ℕ) → Bytes s q n → k < n → t + b ≤ 8 → number s q n / 2 ^ (8 * k + t) % 2 ^ b ≡ getD s (q + k) 0 / 2 ^ t % 2 ^ b
-unfolding number
+byte-bits : (s : List ℕ) (n k q t b : ℕ) → AreBytes s q n → k < n → t + b ≤ 8 → littleEndian s q n / 2 ^ (8 * k + t) % 2 ^ b ≡ getD s (q + k) 0 / 2 ^ t % 2 ^ b
+unfolding littleEndian
 byte-bits s zero k q t b h l r = absurd (let z : ⊥ = omega arith in z)
 byte-bits s (suc n) zero q t b h l r =
     let e : q + 0 ≡ q = omega arith in
     let f : 8 * 0 + t ≡ t = omega arith in
-    rw (e, f) (above (getD s q 0) (number s (q + 1) n) 8 t b r)
+    rw (e, f) (above (getD s q 0) (littleEndian s (q + 1) n) 8 t b r)
 byte-bits s (suc n) (suc k) q t b h l r =
     let e : (q + 1) + k ≡ q + suc k = omega arith in
     let f : 8 * suc k + t ≡ 8 + (8 * k + t) = omega arith in
     let d : q + 0 ≡ q = omega arith in
     let a : getD s q 0 < 256 = rw d at (h 0 (omega arith)) in
-    let g : (getD s q 0 + 256 * number s (q + 1) n) / 256 ≡ number s (q + 1) n = omega arith in
-    let i : (getD s q 0 + 256 * number s (q + 1) n) / 2 ^ (8 * suc k + t) ≡ number s (q + 1) n / 2 ^ (8 * k + t) =
-    ap (λ (z : ℕ). (getD s q 0 + 256 * number s (q + 1) n) / z) (ap (λ (z : ℕ). 2 ^ z) f ∙ pow-add 8 (8 * k + t))
+    let g : (getD s q 0 + 256 * littleEndian s (q + 1) n) / 256 ≡ littleEndian s (q + 1) n = omega arith in
+    let i : (getD s q 0 + 256 * littleEndian s (q + 1) n) / 2 ^ (8 * suc k + t) ≡ littleEndian s (q + 1) n / 2 ^ (8 * k + t) =
+    ap (λ (z : ℕ). (getD s q 0 + 256 * littleEndian s (q + 1) n) / z) (ap (λ (z : ℕ). 2 ^ z) f ∙ pow-add 8 (8 * k + t))
     ∙ sym (div-div-eq-div-mul _ 256 (2 ^ (8 * k + t))) ∙ ap (λ (z : ℕ). z / 2 ^ (8 * k + t)) g
     in
     ap (λ (z : ℕ). z % 2 ^ b) i ∙ byte-bits s n k (q + 1) t b (behind h) (omega arith) r ∙ ap (λ (z : ℕ). getD s z 0 / 2 ^ t % 2 ^ b) e
   where
-    behind : Bytes s q (suc n) → Bytes s (q + 1) n
+    behind : AreBytes s q (suc n) → AreBytes s (q + 1) n
     behind g j m = let e : q + suc j ≡ (q + 1) + j = omega arith in rw e at (g (suc j) (omega arith))
 
 -- field m of b bits in the bytes from f on is at bit shift of the number from q on
@@ -72,10 +72,10 @@ parted q n f b m shift (inr d) e l =
     let g : m * b ≡ m * 2 = rw d in
     record { byte = omega arith; bit = omega arith; room = omega arith; below = omega arith }
 
-pub field-of-number : (s : List ℕ) (q n f b m shift : ℕ) → Bytes s q n → (b ≡ 1) ⊎ (b ≡ 2) → 8 * f + m * b ≡ 8 * q + shift → shift + b ≤ 8 * n
-    → fieldAt s f b m ≡ number s q n / 2 ^ shift % 2 ^ b
+pub field-of-number : (s : List ℕ) (q n f b m shift : ℕ) → AreBytes s q n → (b ≡ 1) ⊎ (b ≡ 2) → 8 * f + m * b ≡ 8 * q + shift → shift + b ≤ 8 * n
+    → fieldAt s f b m ≡ littleEndian s q n / 2 ^ shift % 2 ^ b
 unfolding fieldAt
 field-of-number s q n f b m shift h d e l =
     let p = parted q n f b m shift d e l in
     let i : 8 * (shift / 8) + shift % 8 ≡ shift = omega arith in
-    rw (p .byte, p .bit) (sym (byte-bits s n (shift / 8) q (shift % 8) b h (p .below) (p .room)) ∙ ap (λ (z : ℕ). number s q n / 2 ^ z % 2 ^ b) i)
+    rw (p .byte, p .bit) (sym (byte-bits s n (shift / 8) q (shift % 8) b h (p .below) (p .room)) ∙ ap (λ (z : ℕ). littleEndian s q n / 2 ^ z % 2 ^ b) i)

@@ -17,7 +17,7 @@ use Rattle.pattern.specs.Form.{Shape, shape}
 use Rattle.pattern.specs.Pattern.{colours, cells, partLength, patternLength, partStart, fieldNumber, fieldAt, patternSource}
 use Rattle.block.specs.Block.{colourAt, stored}
 use Rattle.word_fields.specs.declared.Layout.{Layout}
-use Rattle.word_fields.specs.Layout.{layout, number, Bytes, Counted, rowColour}
+use Rattle.word_fields.specs.Layout.{layout, littleEndian, AreBytes, FieldBytes, rowColour}
 use Rattle.word_fields.proofs.Numbers.{below-or}
 use Rattle.word_fields.proofs.Fields.{pow-add, pow-some, low-bits, field-of-number}
 
@@ -83,7 +83,7 @@ one-or-two n f g = ⊎-elim (λ (l : n < 2). inl (omega arith)) (λ (l : 2 ≤ n
 four-or-eight : (n : ℕ) → 4 ≤ n → n ≤ 8 → n % 4 ≡ 0 → (n ≡ 4) ⊎ (n ≡ 8)
 four-or-eight n f g e = ⊎-elim (λ (l : n < 8). inl (omega arith)) (λ (l : 8 ≤ n). inr (omega arith)) (below-or n 8)
 
-counted-by : (n : ℕ) → 2 ≤ n → n ≤ 8 → n % 2 ≡ 0 → 1 ≤ n % 3 → Counted n
+counted-by : (n : ℕ) → 2 ≤ n → n ≤ 8 → n % 2 ≡ 0 → 1 ≤ n % 3 → FieldBytes n
 counted-by n f g e i =
     ⊎-elim (λ (l : n < 4). inl (omega arith))
     (λ (l : 4 ≤ n). inr (⊎-elim (λ (m : n < 6). inl (omega arith)) (λ (m : 6 ≤ n). inr (omega arith)) (below-or n 6))) (below-or n 4)
@@ -93,7 +93,7 @@ pub record BandRoom (form : Form) (k : ℕ) : Type 0 where
   pub whole : 8 * layout form .rows * k + 8 * layout form .rows ≤ 64
   pub colours-inside : layout form .part * k + layout form .beyond + 2 * 2 ^ layout form .bits ≤ patternLength (shape true form)
   pub fields-inside : 2 * 2 ^ layout form .bits + layout form .fields * k + layout form .beyond + layout form .count ≤ patternLength (shape true form)
-  pub counted : Counted (layout form .count)
+  pub counted : FieldBytes (layout form .count)
   pub rows : (layout form .rows ≡ 4) ⊎ (layout form .rows ≡ 8)
   pub high : (layout form .high ≡ 1) ⊎ (layout form .high ≡ 2)
   pub wide : (layout form .wide ≡ 1) ⊎ (layout form .wide ≡ 2)
@@ -215,7 +215,7 @@ module _ (form : Form) (s : List ℕ) (i part at shift n v : ℕ) (C : List ℕ)
   half-colour : (w : ℕ) → partStart (shape true form) i ≡ part → shape true form .colour ≡ 2 → shape true form .bits ≡ layout form .bits
       → shape true form .colour * colours (shape true form) ≡ 2 * 2 ^ layout form .bits → (layout form .bits ≡ 1) ⊎ (layout form .bits ≡ 2)
       → 8 * (partStart (shape true form) i + 2 * 2 ^ layout form .bits) + fieldNumber (shape true form) i * layout form .bits ≡ 8 * at + shift → shift + layout form .bits ≤ 8 * n
-      → v ≡ number s at n → Bytes s at n → ((c : ℕ) → c < 2 ^ layout form .bits → getD C c 0 ≡ colourAt true s (part + 2 * c))
+      → v ≡ littleEndian s at n → AreBytes s at n → ((c : ℕ) → c < 2 ^ layout form .bits → getD C c 0 ≡ colourAt true s (part + 2 * c))
       → w ≡ v / 2 ^ shift % 2 ^ layout form .bits → getD C w 0 ≡ colourAt true s (patternSource (shape true form) s i)
   unfolding patternSource
   half-colour w ep ec eb ea two ef room ev bs law ew =
@@ -226,8 +226,8 @@ module _ (form : Form) (s : List ℕ) (i part at shift n v : ℕ) (C : List ℕ)
       law w l ∙ ap (colourAt true s) (rw (ea, ec, eb, ← f, ep))
 
 module _ (form : Form) (s : List ℕ) (k t j vL vR : ℕ) (L R : List ℕ) (h : 8 * layout form .rows * k < 64) (ht : t < layout form .rows) (hj : j < 8)
-    (eL : vL ≡ number s (2 * 2 ^ layout form .bits + layout form .fields * k) (layout form .count)) (bL : Bytes s (2 * 2 ^ layout form .bits + layout form .fields * k) (layout form .count))
-    (eR : vR ≡ number s (2 * 2 ^ layout form .bits + layout form .fields * k + layout form .beyond) (layout form .count)) (bR : Bytes s (2 * 2 ^ layout form .bits + layout form .fields * k + layout form .beyond) (layout form .count))
+    (eL : vL ≡ littleEndian s (2 * 2 ^ layout form .bits + layout form .fields * k) (layout form .count)) (bL : AreBytes s (2 * 2 ^ layout form .bits + layout form .fields * k) (layout form .count))
+    (eR : vR ≡ littleEndian s (2 * 2 ^ layout form .bits + layout form .fields * k + layout form .beyond) (layout form .count)) (bR : AreBytes s (2 * 2 ^ layout form .bits + layout form .fields * k + layout form .beyond) (layout form .count))
     (cL : (c : ℕ) → c < 2 ^ layout form .bits → getD L c 0 ≡ colourAt true s (layout form .part * k + 2 * c))
     (cR : (c : ℕ) → c < 2 ^ layout form .bits → getD R c 0 ≡ colourAt true s (layout form .part * k + layout form .beyond + 2 * c)) where
   by-side : (left : Bool)

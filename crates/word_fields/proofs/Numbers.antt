@@ -11,7 +11,7 @@ use lib.ListN.{getD}
 use Rattle.words.specs.Word.{wordAt}
 use Rattle.block.specs.Block.{colourAt, stored}
 use Rattle.rows.specs.Row.{colours}
-use Rattle.word_fields.specs.Layout.{number, Bytes, Counted}
+use Rattle.word_fields.specs.Layout.{littleEndian, AreBytes, FieldBytes}
 
 -- ---- a colour chosen by low bits
 
@@ -45,13 +45,13 @@ pub word-is : (s : List ℕ) (j a b : ℕ) → a ≡ getD s j 0 → b ≡ getD s
 unfolding wordAt
 word-is s j a b e f = rw (e, f)
 
-two-of : (s : List ℕ) (q : ℕ) → getD s q 0 < 256 → getD s (q + 1) 0 < 256 → Bytes s q 2
+two-of : (s : List ℕ) (q : ℕ) → getD s q 0 < 256 → getD s (q + 1) 0 < 256 → AreBytes s q 2
 two-of s q f g zero h = let e : q + 0 ≡ q = omega arith in rw e f
 two-of s q f g (suc zero) h = g
 two-of s q f g (suc (suc k)) h = absurd (let z : ⊥ = omega arith in z)
 
-pub two-is : (s : List ℕ) (q a b : ℕ) → (a ≡ getD s q 0) × (a < 256) → (b ≡ getD s (q + 1) 0) × (b < 256) → (a + 256 * b ≡ number s q 2) × Bytes s q 2 × (a + 256 * b < 65536)
-unfolding number
+pub two-is : (s : List ℕ) (q a b : ℕ) → (a ≡ getD s q 0) × (a < 256) → (b ≡ getD s (q + 1) 0) × (b < 256) → (a + 256 * b ≡ littleEndian s q 2) × AreBytes s q 2 × (a + 256 * b < 65536)
+unfolding littleEndian
 two-is s q a b (e, l) (f, m) = (omega arith, two-of s q (omega arith) (omega arith), omega arith)
 
 pub below-or : (k m : ℕ) → (k < m) ⊎ (m ≤ k)
@@ -60,32 +60,32 @@ below-or zero (suc m) = inl (omega arith)
 below-or (suc k) (suc m) = ⊎-elim (λ (l : k < m). inl (omega arith)) (λ (l : m ≤ k). inr (omega arith)) (below-or k m)
 
 -- two ranges of bytes, one behind the other
-bytes-joined : (s : List ℕ) (q m n : ℕ) → Bytes s q m → Bytes s (q + m) n → Bytes s q (m + n)
+bytes-joined : (s : List ℕ) (q m n : ℕ) → AreBytes s q m → AreBytes s (q + m) n → AreBytes s q (m + n)
 bytes-joined s q m n f g k h =
     ⊎-elim (f k) (λ (l : m ≤ k). let e : (q + m) + (k - m) ≡ q + k = omega arith in rw e at (g (k - m) (omega arith))) (below-or k m)
 
-after-two : (s : List ℕ) (q n : ℕ) → number s q (suc (suc n)) ≡ number s q 2 + 65536 * number s (q + 2) n
-unfolding number
+after-two : (s : List ℕ) (q n : ℕ) → littleEndian s q (suc (suc n)) ≡ littleEndian s q 2 + 65536 * littleEndian s (q + 2) n
+unfolding littleEndian
 after-two s q n = let e : (q + 1) + 1 ≡ q + 2 = omega arith in rw e (omega arith)
 
-after-four : (s : List ℕ) (q n : ℕ) → number s q (suc (suc (suc (suc n)))) ≡ number s q 4 + 4294967296 * number s (q + 4) n
-unfolding number
+after-four : (s : List ℕ) (q n : ℕ) → littleEndian s q (suc (suc (suc (suc n)))) ≡ littleEndian s q 4 + 4294967296 * littleEndian s (q + 4) n
+unfolding littleEndian
 after-four s q n = let e : (((q + 1) + 1) + 1) + 1 ≡ q + 4 = omega arith in rw e (omega arith)
 
 -- a, b: the two halves, as code found them
-pub four-is : (s : List ℕ) (q a b : ℕ) → (a ≡ number s q 2) × Bytes s q 2 × (a < 65536) → (b ≡ number s (q + 2) 2) × Bytes s (q + 2) 2 × (b < 65536)
-    → (a + 65536 * b ≡ number s q 4) × Bytes s q 4 × (a + 65536 * b < 4294967296)
+pub four-is : (s : List ℕ) (q a b : ℕ) → (a ≡ littleEndian s q 2) × AreBytes s q 2 × (a < 65536) → (b ≡ littleEndian s (q + 2) 2) × AreBytes s (q + 2) 2 × (b < 65536)
+    → (a + 65536 * b ≡ littleEndian s q 4) × AreBytes s q 4 × (a + 65536 * b < 4294967296)
 four-is s q a b (e, f, l) (g, h, m) = (omega (arith, after-two s q 2), bytes-joined s q 2 2 f h, omega arith)
 
-pub eight-is : (s : List ℕ) (q a b : ℕ) → (a ≡ number s q 4) × Bytes s q 4 × (a < 4294967296) → (b ≡ number s (q + 4) 4) × Bytes s (q + 4) 4 × (b < 4294967296)
-    → (a + 4294967296 * b ≡ number s q 8) × Bytes s q 8
+pub eight-is : (s : List ℕ) (q a b : ℕ) → (a ≡ littleEndian s q 4) × AreBytes s q 4 × (a < 4294967296) → (b ≡ littleEndian s (q + 4) 4) × AreBytes s (q + 4) 4 × (b < 4294967296)
+    → (a + 4294967296 * b ≡ littleEndian s q 8) × AreBytes s q 8
 eight-is s q a b (e, f, l) (g, h, m) = (omega (arith, after-four s q 4), bytes-joined s q 4 4 f h)
 
 -- the least count is what is left
-pub last-count : (n : ℕ) → Counted n → (n ≡ 8 → ⊥) → (n ≡ 4 → ⊥) → n ≡ 2
+pub last-count : (n : ℕ) → FieldBytes n → (n ≡ 8 → ⊥) → (n ≡ 4 → ⊥) → n ≡ 2
 last-count n (inl e) f g = e
 last-count n (inr (inl e)) f g = absurd (g e)
 last-count n (inr (inr e)) f g = absurd (f e)
 
-pub counted : (s : List ℕ) (q m n r : ℕ) → n ≡ m → r ≡ number s q m → Bytes s q m → (r ≡ number s q n) × Bytes s q n
+pub counted : (s : List ℕ) (q m n r : ℕ) → n ≡ m → r ≡ littleEndian s q m → AreBytes s q m → (r ≡ littleEndian s q n) × AreBytes s q n
 counted s q m n r e f g = rw e (f, g)

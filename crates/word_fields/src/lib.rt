@@ -9,7 +9,7 @@ ghost use Prim.Native.Nat.{_+_, _%_, _≤_, _<_};
 ghost use lib.ListN.{length, getD};
 ghost use Rattle.block.specs.Block.{colourAt, stored};
 ghost use Rattle.rows.specs.Row.{colours};
-ghost use Rattle.word_fields.specs.Layout.{laid, layout, number, Bytes, Counted};
+ghost use Rattle.word_fields.specs.Layout.{laidOut, layout, littleEndian, AreBytes, FieldBytes};
 
 // The numbers by which a form is drawn, in bands (specs/Layout).
 pub struct Layout {
@@ -46,7 +46,7 @@ fn laid_out(
     stride: usize,
     half: usize,
 ) -> Layout
-    ensures { λ r. ⌜ r ≡ laid bits wide high rows part beyond fields count stride half ⌝ }
+    ensures { λ r. ⌜ r ≡ laidOut bits wide high rows part beyond fields count stride half ⌝ }
 {
     Layout {
         bits,
@@ -120,29 +120,29 @@ pub fn raw_colour(s: &[u8], j: usize) -> u16
 
 fn two_bytes(s: &[u8], q: usize) -> usize
     requires { ⌜ q + 2 ≤ length (now s) ⌝ }
-    ensures { λ r. ⌜ (r ≡ number (now (s .entry)) q 2) × Bytes (now (s .entry)) q 2 × (r < 65536) ⌝ }
+    ensures { λ r. ⌜ (r ≡ littleEndian (now (s .entry)) q 2) × AreBytes (now (s .entry)) q 2 × (r < 65536) ⌝ }
 {
     wide(s[q]) + 256 * wide(s[q + 1])
 }
 
 fn four_bytes(s: &[u8], q: usize) -> usize
     requires { ⌜ q + 4 ≤ length (now s) ⌝ }
-    ensures { λ r. ⌜ (r ≡ number (now (s .entry)) q 4) × Bytes (now (s .entry)) q 4 × (r < 4294967296) ⌝ }
+    ensures { λ r. ⌜ (r ≡ littleEndian (now (s .entry)) q 4) × AreBytes (now (s .entry)) q 4 × (r < 4294967296) ⌝ }
 {
     two_bytes(s, q) + 65536 * two_bytes(s, q + 2)
 }
 
 fn eight_bytes(s: &[u8], q: usize) -> usize
     requires { ⌜ q + 8 ≤ length (now s) ⌝ }
-    ensures { λ r. ⌜ (r ≡ number (now (s .entry)) q 8) × Bytes (now (s .entry)) q 8 ⌝ }
+    ensures { λ r. ⌜ (r ≡ littleEndian (now (s .entry)) q 8) × AreBytes (now (s .entry)) q 8 ⌝ }
 {
     four_bytes(s, q) + 4294967296 * four_bytes(s, q + 4)
 }
 
 // The number that count bytes from q on make. Each count has one load.
 pub fn number_of(s: &[u8], q: usize, count: usize) -> usize
-    requires { ⌜ Counted count × (q + count ≤ length (now s)) ⌝ }
-    ensures { λ r. ⌜ (r ≡ number (now (s .entry)) q count) × Bytes (now (s .entry)) q count ⌝ }
+    requires { ⌜ FieldBytes count × (q + count ≤ length (now s)) ⌝ }
+    ensures { λ r. ⌜ (r ≡ littleEndian (now (s .entry)) q count) × AreBytes (now (s .entry)) q count ⌝ }
 {
     if count == 8 {
         return eight_bytes(s, q);

@@ -22,9 +22,9 @@ use Rattle.paint.proofs.Painting.{Painting, painting-start, painting-by, painti
 use Rattle.rows.specs.Row.{colours, Sources, Beside}
 use Rattle.rows.proofs.Rows.{Rows, rows-start, rows-by, row-below, rows-below, rows-low, square-kept, data-beside}
 use Rattle.word_fields.specs.declared.Layout.{Layout}
-use Rattle.word_fields.specs.Layout.{layout, number, Bytes, Counted, rowColour}
+use Rattle.word_fields.specs.Layout.{layout, littleEndian, AreBytes, FieldBytes, rowColour}
 use Rattle.word_fields.proofs.Layouts.{BandRoom, band-room, row-colour}
-use Rattle.word_patterns.specs.Asked.{Rowed, BandAt}
+use Rattle.word_patterns.specs.Asked.{AlikeRows, BandAt}
 
 -- ---- rows of cells
 
@@ -46,7 +46,7 @@ module _ (older : Older) {κ : Kind} {s : List ℕ} {w x y : ℕ} {at : ℕ → 
   some : 1 ≤ high
   some = elim c [ inl f ↦ omega arith | inr f ↦ omega arith ]
 
-  pub data-rowed : Rowed (blockPlan true κ s w x y older) w i high b to value
+  pub data-rowed : AlikeRows (blockPlan true κ s w x y older) w i high b to value
   data-rowed =
       record {
         rows = c;
@@ -100,7 +100,7 @@ pub record Room (form : Form) (l : Layout) (p part fields : ℕ) : Type 0 where
   pub pixels : p + 8 * l .rows ≤ 64
   pub colours-inside : part + l .beyond + 2 * 2 ^ l .bits ≤ patternLength (shape true form)
   pub fields-inside : 2 * 2 ^ l .bits + fields + l .beyond + l .count ≤ patternLength (shape true form)
-  pub counted : Counted (l .count)
+  pub counted : FieldBytes (l .count)
   pub high : (l .high ≡ 1) ⊎ (l .high ≡ 2)
   pub wide : (l .wide ≡ 1) ⊎ (l .wide ≡ 2)
   pub bits : (l .bits ≡ 1) ⊎ (l .bits ≡ 2)
@@ -149,8 +149,8 @@ room {form} z =
 
 -- what is read of a part: the number of its fields, and its colours
 pub record Part (s : List ℕ) (bits count part at v : ℕ) (colour : List ℕ) : Type 0 where
-  pub is : v ≡ number s at count
-  pub bytes : Bytes s at count
+  pub is : v ≡ littleEndian s at count
+  pub bytes : AreBytes s at count
   pub each : (c : ℕ) → c < 2 ^ bits → getD colour c 0 ≡ colourAt true s (part + 2 * c)
 
 -- row r of row n of cells, column j
@@ -209,7 +209,7 @@ module _ (older : Older) {κ : Kind} {s : List ℕ} {w x y : ℕ} {form : Form} 
     (k : Square w x y (length b₀)) (g : Banding (blockPlan true κ s w x y older) w x y p l b₀ b at bit i) (h : i < p + 8 * l .rows) where
   pub band-rowed : (bits : ℕ) → l .bits ≡ bits → {v m u f₀ f₁ : ℕ} {left right : List ℕ} → Part s bits (l .count) part (2 * 2 ^ bits + fields) v left
       → Part s bits (l .count) (part + l .beyond) (2 * 2 ^ bits + fields + l .beyond) m right → u ≡ m / 2 ^ l .half → f₀ ≡ v / 2 ^ bit % 65536 → f₁ ≡ u / 2 ^ bit % 65536
-      → Rowed (blockPlan true κ s w x y older) w i (l .high) b at (rowColour bits (l .wide) f₀ f₁ left right)
+      → AlikeRows (blockPlan true κ s w x y older) w i (l .high) b at (rowColour bits (l .wide) f₀ f₁ left right)
   band-rowed bits e {v} {m} {u} {f₀} {f₁} {left} {right} c d a b₁ b₂ =
       data-rowed older q (room z .high) (omega (arith, g .pixel, room z .first)) (omega (arith, g .pixel, room z .pixels, fits)) (g .place)
       (square-kept k (painting-length _ _ _ _ _ _ (g .painting)))

@@ -13,7 +13,7 @@ use Rattle.stores.proofs.Order.{further-add, further-long}
 use Rattle.rows.specs.Row.{colours, Beside}
 use Rattle.rows.proofs.Beside.{Eight, eight-read}
 use Rattle.word_fields.specs.Layout.{rowColour}
-use Rattle.word_patterns.specs.Asked.{Rowed}
+use Rattle.word_patterns.specs.Asked.{AlikeRows}
 
 -- the lowest field needs no shift
 unshifted : (l : List ℕ) (n k v : ℕ) → v ≡ stored true (getD l (k % n) 0) → v ≡ stored true (getD l (k / 1 % n) 0)
@@ -46,10 +46,10 @@ module _ (left right : ℕ) (l r : List ℕ) where
 
 -- the values may be given as eight colours that are read before the first is stored
 pub rowed-read : (f : ℕ → ℕ) {u₁ u₂ u₃ u₄ u₅ u₆ u₇ u₈ : ℕ} → Eight f u₁ u₂ u₃ u₄ u₅ u₆ u₇ u₈ → {d : Plan} {w p high : ℕ} {b : List ℕ} {to : ℕ}
-    → Rowed d w p high b to f → Rowed d w p high b to (λ i. getD (colours u₁ u₂ u₃ u₄ ++ colours u₅ u₆ u₇ u₈) i 0)
+    → AlikeRows d w p high b to f → AlikeRows d w p high b to (λ i. getD (colours u₁ u₂ u₃ u₄ ++ colours u₅ u₆ u₇ u₈) i 0)
 rowed-read f q r = record { rows = r .rows; first = eight-read f q (r .first); second = λ h e. eight-read f q (r .second h e) }
 
-module _ {d : Plan} {w p high : ℕ} {b : List ℕ} {to : ℕ} {value : ℕ → ℕ} (r : Rowed d w p high b to value) {b′ : List ℕ} (e : b′ ≡ further d 0 b p 8) where
+module _ {d : Plan} {w p high : ℕ} {b : List ℕ} {to : ℕ} {value : ℕ → ℕ} (r : AlikeRows d w p high b to value) {b′ : List ℕ} (e : b′ ≡ further d 0 b p 8) where
   -- the second row stands in the picture
   pub second-low : high ≡ 2 → to + w + 8 ≤ length b
   second-low h = omega (arith, r .second h e .inside, ap length e, further-long d 0 b p 8)
@@ -69,5 +69,5 @@ one-wide (inl e) n = e
 one-wide (inr e) n = absurd (n e)
 
 pub rowed-wide : {wide n : ℕ} → wide ≡ n → (bits left right : ℕ) (l r : List ℕ) {d : Plan} {w p high : ℕ} {b : List ℕ} {to : ℕ}
-    → Rowed d w p high b to (rowColour bits wide left right l r) → Rowed d w p high b to (rowColour bits n left right l r)
-rowed-wide e bits left right l r {d} {w} {p} {high} {b} {to} z = subst (λ (m : ℕ). Rowed d w p high b to (rowColour bits m left right l r)) e z
+    → AlikeRows d w p high b to (rowColour bits wide left right l r) → AlikeRows d w p high b to (rowColour bits n left right l r)
+rowed-wide e bits left right l r {d} {w} {p} {high} {b} {to} z = subst (λ (m : ℕ). AlikeRows d w p high b to (rowColour bits m left right l r)) e z

@@ -11,12 +11,13 @@ use Rattle.word_fields.specs.declared.Layout.{Layout}
 use Rattle.word_fields.specs.Layout.{layout}
 
 -- The next rows of a block, one or two, are alike: those from pixel p on, the first stored from index to on. Column i of each becomes value i.
-pub record Rowed (d : Plan) (w p high : ℕ) (b : List ℕ) (to : ℕ) (value : ℕ → ℕ) : Type 0 where
+pub record AlikeRows (d : Plan) (w p high : ℕ) (b : List ℕ) (to : ℕ) (value : ℕ → ℕ) : Type 0 where
   pub rows : (high ≡ 1) ⊎ (high ≡ 2)
   pub first : Beside d p 8 b to value
   pub second : high ≡ 2 → {b′ : List ℕ} → b′ ≡ further d 0 b p 8 → Beside d (p + 8) 8 b′ (to + w) value
 
--- pixel p is the first of a band of a form laid out as l says; the band's left part begins at byte part, and its fields lie that many bytes behind a part's colours
+-- pixel p is the first of a band of a form that is laid out as l says. The band's left part begins at byte part. Its fields begin at byte fields, counted from the end of the
+-- colours of the block's first part
 pub record BandAt (form : Form) (l : Layout) (p part fields : ℕ) : Type 0 where
   pub lays : l ≡ layout form
   -- the number of the band

@@ -26,7 +26,7 @@ ghost use Rattle.rows.specs.Row.{colours};
 ghost use Rattle.word_paint.specs.Value.{wordPlan};
 ghost use Rattle.word_rows.specs.Row.{WordSources};
 ghost use Rattle.word_fields.specs.Layout.{rowColour};
-ghost use Rattle.word_patterns.specs.Asked.{Rowed, BandAt};
+ghost use Rattle.word_patterns.specs.Asked.{AlikeRows, BandAt};
 
 // The sixteen bits of a number from a bit on.
 fn low_word(v: usize, bit: usize) -> u16
@@ -59,7 +59,7 @@ fn put_rows(
     g: u16,
     h: u16,
 )
-    requires { ⌜ Rowed (wordPlan code (now s) (now o) (now last) (now oldest) w x y) w p high (now new) to (λ i. getD (colours a b c d ++ colours e f g h) i 0) ⌝ }
+    requires { ⌜ AlikeRows (wordPlan code (now s) (now o) (now last) (now oldest) w x y) w p high (now new) to (λ i. getD (colours a b c d ++ colours e f g h) i 0) ⌝ }
     ensures { λ _. ⌜ now (new .exit) ≡ further (wordPlan code (now (s .entry)) (now (o .entry)) (now (last .entry)) (now (oldest .entry)) w x y) 0 (now (new .entry)) p (8 * high) ⌝ }
 {
     put_eight_words(
@@ -129,7 +129,7 @@ fn two_rows(
     e: u16,
     f: u16,
 )
-    requires { ⌜ Rowed (wordPlan code (now s) (now o) (now last) (now oldest) w x y) w p high (now new) to (rowColour 1 1 left right (a ∷ b ∷ []) (e ∷ f ∷ [])) ⌝ }
+    requires { ⌜ AlikeRows (wordPlan code (now s) (now o) (now last) (now oldest) w x y) w p high (now new) to (rowColour 1 1 left right (a ∷ b ∷ []) (e ∷ f ∷ [])) ⌝ }
     ensures { λ _. ⌜ now (new .exit) ≡ further (wordPlan code (now (s .entry)) (now (o .entry)) (now (last .entry)) (now (oldest .entry)) w x y) 0 (now (new .entry)) p (8 * high) ⌝ }
 {
     let q = of_two(left, a, b);
@@ -185,7 +185,7 @@ fn two_wide_rows(
     e: u16,
     f: u16,
 )
-    requires { ⌜ Rowed (wordPlan code (now s) (now o) (now last) (now oldest) w x y) w p high (now new) to (rowColour 1 2 left right (a ∷ b ∷ []) (e ∷ f ∷ [])) ⌝ }
+    requires { ⌜ AlikeRows (wordPlan code (now s) (now o) (now last) (now oldest) w x y) w p high (now new) to (rowColour 1 2 left right (a ∷ b ∷ []) (e ∷ f ∷ [])) ⌝ }
     ensures { λ _. ⌜ now (new .exit) ≡ further (wordPlan code (now (s .entry)) (now (o .entry)) (now (last .entry)) (now (oldest .entry)) w x y) 0 (now (new .entry)) p (8 * high) ⌝ }
 {
     let q = of_two(left, a, b);
@@ -241,7 +241,7 @@ fn four_rows(
     g: u16,
     h: u16,
 )
-    requires { ⌜ Rowed (wordPlan code (now s) (now o) (now last) (now oldest) w x y) w p high (now new) to (rowColour 2 1 left right (colours a b c d) (colours e f g h)) ⌝ }
+    requires { ⌜ AlikeRows (wordPlan code (now s) (now o) (now last) (now oldest) w x y) w p high (now new) to (rowColour 2 1 left right (colours a b c d) (colours e f g h)) ⌝ }
     ensures { λ _. ⌜ now (new .exit) ≡ further (wordPlan code (now (s .entry)) (now (o .entry)) (now (last .entry)) (now (oldest .entry)) w x y) 0 (now (new .entry)) p (8 * high) ⌝ }
 {
     let q = of_four(left, a, b, c, d);
@@ -301,7 +301,7 @@ fn four_wide_rows(
     g: u16,
     h: u16,
 )
-    requires { ⌜ Rowed (wordPlan code (now s) (now o) (now last) (now oldest) w x y) w p high (now new) to (rowColour 2 2 left right (colours a b c d) (colours e f g h)) ⌝ }
+    requires { ⌜ AlikeRows (wordPlan code (now s) (now o) (now last) (now oldest) w x y) w p high (now new) to (rowColour 2 2 left right (colours a b c d) (colours e f g h)) ⌝ }
     ensures { λ _. ⌜ now (new .exit) ≡ further (wordPlan code (now (s .entry)) (now (o .entry)) (now (last .entry)) (now (oldest .entry)) w x y) 0 (now (new .entry)) p (8 * high) ⌝ }
 {
     let q = of_four(left, a, b, c, d);
@@ -354,7 +354,7 @@ fn two_cells(
     e: u16,
     f: u16,
 )
-    requires { ⌜ Rowed (wordPlan code (now s) (now o) (now last) (now oldest) w x y) w p high (now new) to (rowColour 1 wide left right (a ∷ b ∷ []) (e ∷ f ∷ [])) × ((wide ≡ 1) ⊎ (wide ≡ 2)) ⌝ }
+    requires { ⌜ AlikeRows (wordPlan code (now s) (now o) (now last) (now oldest) w x y) w p high (now new) to (rowColour 1 wide left right (a ∷ b ∷ []) (e ∷ f ∷ [])) × ((wide ≡ 1) ⊎ (wide ≡ 2)) ⌝ }
     ensures { λ _. ⌜ now (new .exit) ≡ further (wordPlan code (now (s .entry)) (now (o .entry)) (now (last .entry)) (now (oldest .entry)) w x y) 0 (now (new .entry)) p (8 * high) ⌝ }
 {
     if wide == 2 {
@@ -427,7 +427,7 @@ fn four_cells(
     g: u16,
     h: u16,
 )
-    requires { ⌜ Rowed (wordPlan code (now s) (now o) (now last) (now oldest) w x y) w p high (now new) to (rowColour 2 wide left right (colours a b c d) (colours e f g h)) × ((wide ≡ 1) ⊎ (wide ≡ 2)) ⌝ }
+    requires { ⌜ AlikeRows (wordPlan code (now s) (now o) (now last) (now oldest) w x y) w p high (now new) to (rowColour 2 wide left right (colours a b c d) (colours e f g h)) × ((wide ≡ 1) ⊎ (wide ≡ 2)) ⌝ }
     ensures { λ _. ⌜ now (new .exit) ≡ further (wordPlan code (now (s .entry)) (now (o .entry)) (now (last .entry)) (now (oldest .entry)) w x y) 0 (now (new .entry)) p (8 * high) ⌝ }
 {
     if wide == 2 {
@@ -673,7 +673,8 @@ fn pattern_band(
     )
 }
 
-// A patterned block. The form's numbers are not literals: one loop for all forms of two colours and one for all of four, each called once, is put into this function.
+// A patterned block. The form's numbers are not literals. There is one loop for all forms of two colours and one for all of four, each called once, so that the compiler puts it
+// in here.
 pub fn word_form(
     code: u8,
     s: &[u8],
