@@ -1,4 +1,6 @@
-# make            proves and builds the library (rt staticlib mve), and the command mve where its crates can be had
+# make            proves and builds the library, and the command mve where its crates can be had
+# make library    proves and builds the library alone (rt lib in crates/mve): target/staticlib/libmve.a
+# make listing    proves and builds the listing program (rt run in crates/mve_list): target/bin/mve_list
 # make install    installs header, archive, mve.pc and, where it is built, the command with its man pages and the shells'
 #                 completions. It builds nothing
 # make uninstall  removes them
@@ -27,12 +29,24 @@ film = target/demo/film.mve
 documents = $(wildcard README.md CHANGELOG.md CONTRIBUTING.md SECURITY.md command/README.md command/*.png docs/*.md \
     docs/*.gif) examples/synopsis.c examples/play.c
 
-.PHONY: all library command install uninstall dist boot
+# what the library and the programs are proved and made from
+sources = crates.txt $(shell find crates/*/src crates/*/specs crates/*/proofs)
+
+.PHONY: all library listing command install uninstall dist boot
 
 all: library command
 
-library:
-	rt staticlib mve
+library: target/staticlib/libmve.a
+listing: target/bin/mve_list
+
+# for every x86-64 processor, as the header says
+target/staticlib/libmve.a: $(sources)
+	cd crates/mve && rt lib --cpu=x86-64
+	install -D -m 644 crates/mve/out/libmve.a $@
+
+target/bin/mve_list: $(sources)
+	cd crates/mve_list && rt run <stdin
+	install -D crates/mve_list/out/mve_list $@
 
 # Exit status 3: the crates of the command cannot be had. The script has said so.
 command: library

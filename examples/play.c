@@ -15,7 +15,7 @@ again. If EVERY is given, the player is also stopped at every so many opcodes of
 and the state is not saved yet. Exits with 0 where the film ended, 1 where it was refused or a file or the folder
 failed, 2 on bad arguments. host/play is the same player in Rust.
 
-    rt staticlib mve
+    make library
     cc -std=c11 -Iinclude examples/play.c target/staticlib/libmve.a -o play
 */
 

@@ -195,31 +195,31 @@ libmve.a is one object for x86-64 and the System V ABI. It needs no operating sy
 undefined below. Every function has a section of its own, so that the linker's --gc-sections leaves out those that are not
 called. All relocations are relative: code and constants may be loaded at any address, as long as they stay together.
 
-    code                            62,682 bytes
-    constants                       1,675 bytes
+    code                            63,863 bytes
+    constants                       1,891 bytes
     memory of its own               0 bytes
     undefined symbols               memset
     relocations                     R_X86_64_PC32, R_X86_64_PLT32
-    vector registers                xmm0 to xmm12
-    below the stack pointer         88 bytes
-    stack of mve_begin              696 bytes
-    stack of mve_check              192 bytes
-    stack of mve_check_strict       192 bytes
-    stack of mve_check_words        224 bytes
-    stack of mve_check_words_strict 224 bytes
-    stack of mve_draw               680 bytes
-    stack of mve_draw_strict        680 bytes
-    stack of mve_draw_words         760 bytes
-    stack of mve_draw_words_strict  760 bytes
-    stack of mve_encode             424 bytes
-    stack of mve_open               8 bytes
-    stack of mve_origin             304 bytes
-    stack of mve_salvage            536 bytes
+    vector registers                xmm0 to xmm15
+    below the stack pointer         96 bytes
+    stack of mve_begin              472 bytes
+    stack of mve_check              208 bytes
+    stack of mve_check_strict       208 bytes
+    stack of mve_check_words        248 bytes
+    stack of mve_check_words_strict 248 bytes
+    stack of mve_draw               424 bytes
+    stack of mve_draw_strict        424 bytes
+    stack of mve_draw_words         544 bytes
+    stack of mve_draw_words_strict  544 bytes
+    stack of mve_encode             296 bytes
+    stack of mve_open               16 bytes
+    stack of mve_origin             272 bytes
+    stack of mve_salvage            424 bytes
     stack of mve_shown              8 bytes
     stack of mve_shown_words        8 bytes
-    stack of mve_step               808 bytes
-    stack of mve_strip              648 bytes
-    stack of mve_video1             72 bytes
+    stack of mve_step               816 bytes
+    stack of mve_strip              392 bytes
+    stack of mve_video1             64 bytes
 
 The stack of a call is the most that it takes, together with all that it calls: return addresses, pushed registers and
 arguments, locals with the copies of constant tables, and what is used below the stack pointer. Each call takes less than
@@ -230,24 +230,24 @@ A boot stage has one stack for all of this. A whole stage is a least caller in C
 -O2 and with -Os, the larger of both:
 
     compiler of the stages                gcc 12.2.0
-    whole stage of mve_begin              728 bytes
-    whole stage of mve_check              288 bytes
-    whole stage of mve_check_strict       288 bytes
-    whole stage of mve_check_words        320 bytes
-    whole stage of mve_check_words_strict 320 bytes
-    whole stage of mve_draw               888 bytes
-    whole stage of mve_draw_strict        888 bytes
-    whole stage of mve_draw_words         984 bytes
-    whole stage of mve_draw_words_strict  984 bytes
-    whole stage of mve_encode             536 bytes
-    whole stage of mve_open               24 bytes
-    whole stage of mve_origin             448 bytes
-    whole stage of mve_salvage            632 bytes
+    whole stage of mve_begin              504 bytes
+    whole stage of mve_check              304 bytes
+    whole stage of mve_check_strict       304 bytes
+    whole stage of mve_check_words        344 bytes
+    whole stage of mve_check_words_strict 344 bytes
+    whole stage of mve_draw               632 bytes
+    whole stage of mve_draw_strict        632 bytes
+    whole stage of mve_draw_words         768 bytes
+    whole stage of mve_draw_words_strict  768 bytes
+    whole stage of mve_encode             408 bytes
+    whole stage of mve_open               32 bytes
+    whole stage of mve_origin             416 bytes
+    whole stage of mve_salvage            520 bytes
     whole stage of mve_shown              24 bytes
     whole stage of mve_shown_words        40 bytes
-    whole stage of mve_step               1,016 bytes
-    whole stage of mve_strip              664 bytes
-    whole stage of mve_video1             88 bytes
+    whole stage of mve_step               1,024 bytes
+    whole stage of mve_strip              408 bytes
+    whole stage of mve_video1             80 bytes
 
 The least caller of mve_step is main of examples/synopsis.c. It keeps all its variables out of the stack, and opens the film
 in a function of its own that is not inlined, so that the steps do not stand on the frame of the opening. The others are

@@ -3,7 +3,7 @@
 
 Run once, at the top of the repository, behind the kit's port.py. A name that specs/ or proofs/ declare, of a definition, a lemma, a constructor or a field, gets
 underscores in place of dashes and of inner capitals; types, which begin with a capital, stay. Names of src/, labels of proof goals and texts in quotes stay.
-OWN has the names that would otherwise fall together with another one in a file.
+OWN has the names that would otherwise fall together with another one in a file. A name that a file brings from a library stays in that file.
 Pages (README, docs/ and others) follow inside their code spans. A second run changes nothing.
 """
 import collections, glob, re, sys
@@ -25,6 +25,8 @@ def snake(name):
     if not (name[0].islower() or name[0].isdigit()):
         return name
     name = name.replace('-', '_')
+    # an opcode, as 0B, stays one word
+    name = re.sub(r'(?<=[0-9])([A-Z])(?=_|$)', lambda m: m.group(1).lower(), name)
     name = re.sub(r'(?<=[a-z0-9])([A-Z])(?=[a-z0-9])', lambda m: '_' + m.group(1).lower(), name)
     return re.sub(r'(?<=[a-z0-9])([A-Z]+)$', lambda m: '_' + m.group(1).lower(), name)
 
@@ -36,7 +38,8 @@ def is_comment(line, rust):
 def declared(files):
     names = set()
     for f in files:
-        if f.endswith(('/Proof.antt', '/Answers.antt', '/Invariants.antt')):
+        # the files of a function's proof name goals, not lemmas
+        if re.search(r'/proofs/.+/(Proof|Answers|Invariants)\.antt$', f):
             continue
         for line in open(f, encoding='utf-8'):
             if is_comment(line, False):
@@ -47,6 +50,16 @@ def declared(files):
             m = re.match('^' + HEAD + '(' + NAME + ') =', line)
             if m and 'ruleset' in line:
                 names.add(m.group(1))
+    return names
+
+
+def from_libraries(text, crates):
+    """the names that a file brings from a library that is none of this repository's crates"""
+    names = set()
+    for m in re.finditer(r'(?m)^(?:ghost )?(?:pub )?use ([^\s{]+)\.\{([^}]*)\}', text):
+        path = m.group(1).split('.')
+        if not (path[0] == 'Rattle' and len(path) > 1 and path[1] in crates):
+            names.update(n.strip().split(' as ')[0] for n in m.group(2).split(','))
     return names
 
 
@@ -70,6 +83,9 @@ def turned(line, table, rust, names):
                 parts[i] = before + respelled(word, table, names) + after
             elif word in table and not comment:
                 parts[i] = before + table[word] + after
+        elif w == 'left-out' and i and parts[i - 1] == '.':
+            # the field of another record, Tally
+            parts[i] = 'left_out'
         elif w in table:
             parts[i] = table[w]
     return ''.join(parts)
@@ -81,6 +97,7 @@ def main():
     table = {n: snake(n) for n in names if snake(n) != n}
     table.update(OWN)
     all_names = names | set(table.values())
+    crates = {f.split('/')[1] for f in antt}
     turns = {o for o, n in OWN.items() if '-' not in o and o == o.lower()}
     for f in antt + sorted(glob.glob('crates/*/src/**/*.rt', recursive=True)):
         rust = f.endswith('.rt')
@@ -92,6 +109,8 @@ def main():
             # a lemma that is in snake case already: only in the files that declare or bring it, which do not have the field of that name
             brings = {o for o in turns if re.search(r'(?m)(^ *(?:pub )?' + o + r' :|use Rattle\.\w+\.proofs\.[^\n]*\b' + o + r'\b)', text)}
             here = {o: n for o, n in table.items() if o not in turns or o in brings}
+        theirs = from_libraries(text, crates)
+        here = {o: n for o, n in here.items() if o not in theirs}
         new = '\n'.join(turned(line, here, rust, all_names) for line in text.split('\n'))
         if new != text:
             open(f, 'w', encoding='utf-8').write(new)

@@ -12,7 +12,7 @@ fn main() {
     if !library.is_file() {
         println!(
             "cargo::error=the proved library is not at {}: in the repository's folder, \
-             run: rt staticlib mve",
+             run: make library",
             library.display()
         );
         return;

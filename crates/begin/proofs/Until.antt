@@ -27,7 +27,6 @@ use Rattle.walk.proofs.Walk.{step_moves}
 use Rattle.walk.proofs.View.{view_of}
 use Rattle.walk.proofs.Play.{done}
 use Rattle.begin.specs.declared.Turn.{Turn}
-use Rattle.begin.specs.declared.Begun.TheVariants.{Refused}
 use Rattle.begin.specs.Begin.{zeros, allowance, step_before, goes, stops, course_of, Early, turn_as, Beginning, sized, stopped, Came, came, follow, until, to_size, kept_by, kept, nowhere, begin_at, begin_of}
 use Rattle.begin.proofs.Before.{ample, short_palette}
 use Rattle.begin.proofs.Twin.{step_long}

@@ -1,4 +1,6 @@
 // One opening call: the header, and then steps until a size appears. All are judged before the first store.
+#![tactic(auto)]
+
 ghost use Rattle.std.specs.Prelude.{◌≡◌, List, ℕ, ◌≤◌, length};
 ghost use Rattle.palette.specs.Update.{told};
 ghost use Rattle.sound.specs.Step.{enough};
@@ -22,14 +24,14 @@ use state::{Cursor, Map, State};
 use words::word_at;
 
 // What a step leads to: on with a state, or a refusal; 21 at the film's end.
-#[derive(Drop)]
+#[derive(Clone, Copy)]
 pub enum Turn {
     On(State),
     Off(Refusal),
 }
 
 // Sized: the state just after 05. Refused: with the state that the refused step was given.
-#[derive(Drop)]
+#[derive(Clone, Copy)]
 pub enum Begun {
     Sized(State),
     Refused(Refusal, State),

@@ -5,7 +5,6 @@ use mathlib.Core.Bool.{Bool, true, false}
 use mathlib.Core.List.{List}
 use Prim.Native.Nat.{ℕ, ◌+◌, ◌≤◌, ◌<◌}
 use native.Mathlib.Omega.{arith}
-use lib.ListN.{get_or}
 use Rattle.words.specs.Word.{word_at}
 use Rattle.pattern.specs.Form.{bytes, shape}
 use Rattle.pattern.specs.Pattern.{pattern_source}

@@ -21,7 +21,7 @@ use Rattle.motion.specs.Motion.{vector, ahead_vector, negated, near_vector, far_
 use Rattle.motion.proofs.Vectors.{ahead_onward, ahead_short, negated_short, near_short, far_short}
 use Rattle.block.specs.declared.Picture.{Picture}
 use Rattle.block.specs.declared.Picture.TheVariants.{Last, New, Oldest}
-use Rattle.block.specs.Block.{Side, one, two, four, eight, pixels, Kind, same, kept, copied, patterned, celled, dithered, refused, offset, kinds, kind_of, colour_bytes, data_length, offset_length, is_refused, copy_inside, cell_source, dither_source}
+use Rattle.block.specs.Block.{Side, one, two, four, eight, pixels, Kind, same, kept, copied, patterned, celled, dithered, refused, kinds, kind_of, colour_bytes, data_length, offset_length, is_refused, copy_inside, cell_source, dither_source}
 use Rattle.block.specs.Asked.{Fixed, Sided, last_copied, first_offset, vector_at}
 
 -- what holds of each of the sixteen codes holds of every code

@@ -3,11 +3,10 @@
 use Rattle.std.specs.Prelude.{◌≡◌, ◌⊎◌, Bool, true, false, cond, List, ℕ, ◌+◌, ◌≤◌, ◌<◌, eqb, ltb, length, get_or}
 use Rattle.pattern.specs.Form.{bytes}
 use Rattle.motion.specs.declared.Vector.{Vector}
-use Rattle.motion.specs.Motion.{vector, ahead_vector, negated, near_vector, far_vector, Inside}
-use Rattle.block.specs.declared.Picture.{Picture}
+use Rattle.motion.specs.Motion.{ahead_vector, negated, near_vector, far_vector, Inside}
 use Rattle.block.specs.declared.Source.{Source}
 use Rattle.block.specs.declared.Source.TheVariants.{Data, Copied}
-use Rattle.block.specs.Block.{Side, pixels, Kind, kind_of, data_length, copy_inside, pictured}
+use Rattle.block.specs.Block.{Side, pixels, kind_of, data_length, copy_inside, pictured}
 
 -- a code whose number of data bytes does not depend on them: every one but 7 to A
 abbrev pub Fixed : ℕ → Type 0

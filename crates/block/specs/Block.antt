@@ -3,7 +3,7 @@
 -- Every pixel has one source: a byte of the block's data, or a pixel of a picture. Its value is what stands there.
 -- "Last" is the shown picture (document 01's front), "new" the one that is drawn on, "oldest" the one two frames old. In 8-bit films the oldest is the one that is drawn on (document 01's back).
 -- Assumes nothing.
-use Rattle.std.specs.Prelude.{Bool, true, false, cond, List, [], ◌∷◌, ℕ, ◌+◌, ◌*◌, ◌/◌, ◌%◌, eqb, ltb, get_or}
+use Rattle.std.specs.Prelude.{Bool, true, false, cond, List, [], ◌∷◌, ℕ, ◌+◌, ◌*◌, ◌/◌, ◌%◌, eqb, get_or}
 use Rattle.words.specs.Word.{word_at}
 use Rattle.pattern.specs.declared.Form.{Form}
 use Rattle.pattern.specs.Form.{shape, form7, form8, form9, form_a}

@@ -1,4 +1,6 @@
 // One 8x8 block: its code, its data bytes, whether its copy lies inside, and the source of each of its pixels.
+#![tactic(auto)]
+
 ghost use Rattle.std.specs.Prelude.{◌≡◌, true, false, cond, List, ℕ, ◌/◌, ◌≤◌, ◌<◌, eqb, ltb, length};
 ghost use Rattle.motion.specs.Motion.{Short};
 ghost use Rattle.block.specs.Block.{code_at, kind_of, data_length, offset_length, is_refused, copy_inside, cell_source, dither_source};
@@ -9,7 +11,7 @@ use pattern::is_falling;
 use words::byte_at;
 
 // The pictures that are read: the shown one, the one that is drawn on, and the one two frames old, which in 8-bit films is drawn on.
-#[derive(Drop)]
+#[derive(Clone, Copy)]
 pub enum Picture {
     Last,
     New,
@@ -17,7 +19,7 @@ pub enum Picture {
 }
 
 // Where a pixel's value stands: from a byte of the block's data on, or in a pixel of a picture.
-#[derive(Drop)]
+#[derive(Clone, Copy)]
 pub enum Source {
     Data(usize),
     Copied(Picture, usize),

@@ -14,7 +14,7 @@ use Rattle.block.specs.Block.{Kind, same, kept, copied, patterned, celled, dithe
 use Rattle.packet.specs.Packet.{width, height, left, top, data_of, kind}
 use Rattle.packet.specs.Accepted.{CopyInside}
 use Rattle.stores.specs.Stores.{Memory, memory, after, count}
-use Rattle.stores.specs.Calls.{allowed, Event, returns, cut, call_of, leave, leave_cut, outcome, happens}
+use Rattle.stores.specs.Calls.{Event, returns, cut, call_of, leave, leave_cut, outcome, happens}
 use Rattle.stores.proofs.Steps.{run_length}
 use Rattle.stores.proofs.Recover.{after_off}
 use Rattle.stores.proofs.Within.{AgreeTo, agree_take, take_agree, take_short, drop_same, Both, after_within, cut_least}

@@ -1,7 +1,7 @@
 -- Pixels of a lent picture beyond the size (document 01: "are never touched"), of every drawing call of either width, whatever the memory, the place and the answer, cut
 -- or not: none is written, and none is read, so that two calls that are lent the same up to the size answer the same and leave the same up to it.
 -- Assumes nothing.
-use Rattle.std.specs.Prelude.{◌≡◌, List, ℕ, take, drop}
+use Rattle.std.specs.Prelude.{◌≡◌, ℕ, take, drop}
 use Rattle.packet.specs.Packet.{pixels}
 use Rattle.stores.specs.Stores.{Memory}
 use Rattle.stores.specs.Calls.{Event, cut, call_of, happens, step}

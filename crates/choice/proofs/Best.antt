@@ -1,20 +1,18 @@
 -- The choice for one 8x8 gives it, and no other choice is cheaper: `best`.
 -- Assumes nothing.
-use mathlib.Core.Path.{◌≡◌, refl, sym, ap, ◌∙◌, subst}
+use mathlib.Core.Path.{◌≡◌, refl, sym, ap}
 use mathlib.Core.Bool.{Bool, true, false, cond}
-use mathlib.Core.List.{List, [], ◌∷◌}
-use Prim.Native.Nat.{ℕ, zero, suc, ◌+◌, ◌*◌, ◌/◌, ◌≤◌, ◌<◌}
+use mathlib.Core.List.{List}
+use Prim.Native.Nat.{ℕ, ◌+◌, ◌*◌, ◌≤◌, ◌<◌}
 use native.Mathlib.Omega.{arith}
-use lib.ListN.{length, get_or}
-use Rattle.pattern.specs.declared.Form.{Form}
-use Rattle.pattern.specs.declared.Form.TheVariants.{Two1x1, Two2x2}
-use Rattle.pattern.specs.Form.{shape, falling, form7}
-use Rattle.pattern.specs.Pattern.{colours, cells, part_length, pattern_length, pattern_source}
-use Rattle.block.specs.Block.{Kind, patterned, pixels, kinds, kind_of, byte_kind, data_length, source, fetched}
+use lib.ListN.{length}
+use Rattle.pattern.specs.Form.{falling, form7}
+use Rattle.pattern.specs.Pattern.{colours, cells, part_length, pattern_length}
+use Rattle.block.specs.Block.{kinds, kind_of, byte_kind, data_length, source, fetched}
 use Rattle.paint.specs.Value.{pixel_value, byte_value}
 use Rattle.choice.specs.declared.Way.{Way}
 use Rattle.choice.specs.declared.Way.TheVariants.{Same, Kept, One, Dither, Coarse, Four, Fine, Two, Raw}
-use Rattle.choice.specs.Choice.{Chosen, code_0, code_1, code_7, code_B, code_C, code_D, code_E, code_F, pixel_at, Reproduces, Best, same_all, celled_by, dithered_by, two_colours, by_cells, code_of, data_by, length_by, drawn_by, choice, fine_data, coarse_data}
+use Rattle.choice.specs.Choice.{Chosen, code_0, code_1, code_7, code_B, code_C, code_D, code_E, code_F, pixel_at, Reproduces, Best, same_all, celled_by, dithered_by, two_colours, by_cells, code_of, data_by, length_by, drawn_by, choice}
 use Rattle.choice.proofs.First.{by_bool, same_at, same_is, celled_1, celled_2, celled_4, celled_8, cells_alike, cells_give, cells_long, dither_alike, dither_gives}
 use Rattle.choice.proofs.Colours.{fine_form, coarse_form, fine_gives, coarse_gives, fine_long, coarse_long, fine_says, coarse_says}
 

@@ -1,22 +1,21 @@
 -- Code 7: two colours, and the fields that name them.
 -- Assumes nothing.
-use mathlib.Core.Path.{◌≡◌, refl, sym, ap, ◌∙◌}
+use mathlib.Core.Path.{◌≡◌, sym, ap, ◌∙◌}
 use mathlib.Core.Bool.{Bool, true, false, cond}
 use mathlib.Core.Logic.{◌⊎◌, inl, inr, ⊎_elim}
-use mathlib.Core.List.{List, [], ◌∷◌}
-use Prim.Native.Nat.{ℕ, zero, suc, ◌+◌, ◌*◌, ◌/◌, ◌%◌, ◌^◌, ◌≤◌, ◌<◌}
-use native.Mathlib.Nat.{zero-add, one-mul, not-suc-le-zero, eq-or-lt_of_le}
-use native.Mathlib.Decide.{ℕ_discrete}
+use mathlib.Core.List.{List, ◌∷◌}
+use Prim.Native.Nat.{ℕ, zero, suc, ◌+◌, ◌*◌, ◌/◌, ◌%◌, ◌^◌, ◌<◌}
+use native.Mathlib.Nat.{zero-add, one-mul, eq-or-lt_of_le}
 use native.Mathlib.Omega.{arith}
 use lib.Dec.{eqb, ltb}
 use lib.ListN.{length, get_or, drop}
-use borrow.Author.Tests.{eqb-true, eqb-false, eq-eqb, ne_eqb, ltb-true, ltb-false, lt-ltb, le-ltb}
+use borrow.Author.Tests.{eqb-true, eqb-false, ne_eqb, ltb-true, ltb-false, lt-ltb, le-ltb}
 use Rattle.pattern.specs.declared.Form.TheVariants.{Two1x1, Two2x2}
 use Rattle.pattern.specs.Form.{shape, falling, form7}
-use Rattle.pattern.specs.Pattern.{colours, cells, part_length, pattern_length, part_start, field_number, field_at, pattern_source}
+use Rattle.pattern.specs.Pattern.{colours, cells, part_length, part_start, field_number, field_at, pattern_source}
 use Rattle.block.specs.Block.{cell_source}
-use Rattle.choice.specs.Choice.{first_differing, same_all, cell_first, by_cells, celled_by, other, two_colours, mark, marks, bits, lower, higher, listed, fine_data, coarse_data}
-use Rattle.choice.proofs.First.{Differs, differs, same_at, same_is, to_some, listed_length, listed_at, by_bool, one_cell, Celled, celled_2, listed_from, pixel_cell}
+use Rattle.choice.specs.Choice.{first_differing, cell_first, by_cells, celled_by, other, two_colours, mark, marks, bits, lower, higher, listed, fine_data, coarse_data}
+use Rattle.choice.proofs.First.{differs, same_at, same_is, to_some, listed_length, by_bool, one_cell, celled_2, listed_from, pixel_cell}
 
 -- ---- two colours
 

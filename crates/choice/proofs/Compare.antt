@@ -1,12 +1,11 @@
 -- The needs of a function that goes over an 8x8 by two loops, over plain values: row r, column c of the 8x8 at x, y.
 -- Assumes nothing.
 use mathlib.Core.Path.{◌≡◌, refl, sym, ap, ◌∙◌}
-use mathlib.Core.Bool.{false, true}
 use mathlib.Core.List.{List}
-use Prim.Native.Nat.{ℕ, suc, ◌+◌, ◌*◌, ◌≤◌, ◌<◌}
+use Prim.Native.Nat.{ℕ, ◌+◌, ◌*◌, ◌≤◌, ◌<◌}
 use native.Mathlib.Nat.{mul-le-mul}
 use native.Mathlib.Omega.{arith}
-use lib.ListN.{length, get_or}
+use lib.ListN.{get_or}
 use Rattle.paint.specs.Asked.{Square}
 use Rattle.paint.proofs.Painting.{square_below}
 use Rattle.choice.specs.Choice.{pixel_at, first_differing}

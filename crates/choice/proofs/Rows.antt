@@ -8,7 +8,7 @@ use native.Mathlib.Nat.{mul-le-mul, mul-le-mul_right, add-mul, zero-mul, mul-zer
 use native.Mathlib.Decide.{dec_lt}
 use native.Mathlib.Omega.{arith}
 use lib.Dec.{eqb}
-use lib.ListN.{length, get_or}
+use lib.ListN.{get_or}
 use borrow.Author.Tests.{eqb-true, eqb-false, eq-eqb, ne_eqb}
 use Rattle.motion.specs.Motion.{raster_index}
 use Rattle.block.specs.Block.{cell_source, dither_source}
@@ -18,7 +18,6 @@ use Rattle.choice.specs.declared.Way.TheVariants.{Same, Kept, One, Dither, Coars
 use Rattle.choice.specs.Choice.{pixel_at, first_differing, same_to, same_all, cell_first, by_cells, by_dither, celled_by, dithered_by, other, two_colours, drawn_by, choice}
 use Rattle.choice.specs.Asked.{Cells, beside}
 use Rattle.choice.proofs.First.{by_bool, Alike, alike_more, to_at, to_is, to_not, to_some, differ_at, differ_none, found_same, found_other, raster_at}
-use Rattle.choice.proofs.Compare.{row_few}
 
 -- ---- a row of eight
 

@@ -1,6 +1,6 @@
 -- What the encoder chooses for one 8x8 (document 02, W10). A block's 64 pixels are a function of the pixel's number: pixel i is in row i / 8, column i % 8.
 -- Assumes nothing.
-use Rattle.std.specs.Prelude.{◌≡◌, Bool, true, false, cond, List, [], ◌∷◌, ◌++◌, ◌⊎◌, ℕ, zero, suc, ◌+◌, ◌-◌, ◌*◌, ◌/◌, ◌%◌, ◌^◌, ◌≤◌, ◌<◌, eqb, ltb, length, get_or}
+use Rattle.std.specs.Prelude.{◌≡◌, Bool, false, cond, List, [], ◌∷◌, ℕ, zero, suc, ◌+◌, ◌*◌, ◌/◌, ◌%◌, ◌≤◌, ◌<◌, eqb, ltb, length, get_or}
 use Rattle.motion.specs.Motion.{raster_index}
 use Rattle.block.specs.Block.{byte_kind, data_length, cell_source, dither_source}
 use Rattle.paint.specs.Value.{byte_value}

@@ -1,4 +1,6 @@
 // What each 8x8 of a wanted picture is given by: tests of its 64 pixels, the common ones first.
+#![tactic(auto)]
+
 ghost use Rattle.std.specs.Prelude.{◌≡◌, cond, eqb, ◌+◌, ◌-◌, ◌*◌, ◌/◌, ◌%◌, ◌^◌, ◌<◌, ◌≤◌, length, get_or};
 ghost use Rattle.paint.specs.Asked.{Square};
 ghost use Rattle.choice.specs.Choice.{code_of, length_by, pixel_at, first_differing, same_to, celled_by, dithered_by, other, two_colours, drawn_by, choice};
@@ -8,7 +10,7 @@ use motion::raster_index;
 use words::wide;
 
 // The ways to give an 8x8, the cheaper first.
-#[derive(Drop)]
+#[derive(Clone, Copy)]
 pub enum Way {
     Same,
     Kept,

@@ -1,6 +1,6 @@
 -- The heads of opcodes and chunks that are taken: what is known of them, and that what is known is enough.
 -- Assumes nothing.
-use mathlib.Core.Path.{◌≡◌, refl, sym, ap, ◌∙◌}
+use mathlib.Core.Path.{◌≡◌, refl, ap, ◌∙◌}
 use mathlib.Core.Bool.{Bool, true, false, cond}
 use mathlib.Core.List.{List}
 use Prim.Native.Nat.{ℕ, ◌+◌, ◌≤◌, ◌<◌}
@@ -13,9 +13,8 @@ use Rattle.words.proofs.Tests.{not_first}
 use Rattle.state.specs.declared.Cursor.{Cursor}
 use Rattle.state.specs.Moves.{cursor, cursor_into}
 use Rattle.heads.specs.declared.Opcode.{Opcode}
-use Rattle.heads.specs.Heads.{Head, gives, refused, opcode, opcode_of, opcode_at, chunk_of, chunk_at}
-use Rattle.next.specs.Next as next
-use Rattle.next.specs.Next.{Standing, standing_at, end_of_chunk, chunk_standing, opcode_standing}
+use Rattle.heads.specs.Heads.{gives, refused, opcode, opcode_of, opcode_at, chunk_of, chunk_at}
+use Rattle.next.specs.Next.{standing_at, end_of_chunk, chunk_standing}
 use Rattle.chunks.specs.Chunks.{Condition, Following, film_end, past_end, chunk_to, condition_of, following, following_at}
 
 -- ---- an opcode's

@@ -16,7 +16,7 @@ use Rattle.state.specs.Moves.{cursor, cursor_behind}
 use Rattle.heads.specs.declared.Opcode.{Opcode}
 use Rattle.heads.specs.Heads as heads
 use Rattle.heads.specs.Heads.{Head, opcode_at, taken_verdict}
-use Rattle.next.specs.Next.{Standing, refused, ended, chunk, opcode, on, standing_at, opcode_standing}
+use Rattle.next.specs.Next.{Standing, refused, opcode, on, standing_at, opcode_standing}
 use Rattle.chunks.specs.Chunks.{end_of, is_exact, measured_opcode, measured, test_at, Condition, intact, scratched, behind_opcode, opcodes_from, condition_of}
 use Rattle.chunks.specs.Holds.{Stands, Meets, at_head, at_shape, at_body, Passes, chunk_over, last_is_00, passes_on, Fails, fails_here, fails_later, Holds}
 use Rattle.chunks.proofs.Heads.{head_ends}

@@ -3,7 +3,7 @@
 use mathlib.Core.Path.{◌≡◌, refl, sym, ap, ◌∙◌}
 use mathlib.Core.Bool.{Bool, true, false, cond, not}
 use mathlib.Core.List.{List}
-use Prim.Native.Nat.{ℕ, zero, suc, ◌+◌, ◌-◌, ◌≤◌, ◌<◌}
+use Prim.Native.Nat.{ℕ, suc, ◌+◌, ◌-◌, ◌≤◌, ◌<◌}
 use native.Mathlib.Omega.{arith}
 use borrow.Author.Tests.{eq-eqb, ne_eqb}
 use lib.Dec.{eqb}
@@ -25,7 +25,7 @@ use Rattle.next.specs.declared.Next.TheVariants as found
 use Rattle.next.specs.Next.{Standing, refused, ended, chunk, opcode, next_as, standing_at}
 use Rattle.next.proofs.Standing.{standing_ready, standing_opens}
 use Rattle.chunks.specs.declared.Tested.{Tested}
-use Rattle.chunks.specs.Chunks.{end_of, is_exact, says_exact, measured_opcode, measured, test_at, Condition, intact, scratched, behind_opcode, opcodes_from, condition_of, Following, film_end, past_end, chunk_to, following, following_at, condition_as}
+use Rattle.chunks.specs.Chunks.{end_of, is_exact, says_exact, measured_opcode, measured, test_at, Condition, intact, scratched, behind_opcode, opcodes_from, condition_of, film_end, past_end, chunk_to, following, following_at, condition_as}
 
 -- ---- 5 of 0C and 0D
 

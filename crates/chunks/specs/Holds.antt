@@ -1,6 +1,6 @@
 -- What the condition of a chunk says of its opcodes, one by one.
 -- Assumes nothing.
-use Rattle.std.specs.Prelude.{◌≡◌, Bool, true, false, List, ℕ, ◌+◌}
+use Rattle.std.specs.Prelude.{◌≡◌, Bool, true, false, List, ℕ}
 use Rattle.refusal.specs.Number.{accept, refuse}
 use Rattle.parts.specs.Parts.{part}
 use Rattle.state.specs.declared.Cursor.{Cursor}

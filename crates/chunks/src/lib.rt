@@ -1,4 +1,6 @@
 // The chunks of a film, tested opcode by opcode for refusals 3, 4 and 5 (document 02, W13): as a step meets them that acts on sound, whatever the stream.
+#![tactic(auto)]
+
 ghost use Rattle.std.specs.Prelude.{◌≡◌, ◌+◌, ◌≤◌, length};
 ghost use Rattle.palette.specs.Update.{told};
 ghost use Rattle.state.specs.Moves.{cursor};
@@ -12,14 +14,14 @@ use refusal::{Refusal, number_of};
 use state::Cursor;
 
 // What the opcodes of a chunk come to: all pass, with 00 among them or not; or the refusal first met.
-#[derive(Drop)]
+#[derive(Clone, Copy)]
 pub enum Tested {
     Intact(bool),
     Scratched(Refusal),
 }
 
 // What stands at a chunk's end: the film's end; a chunk or its head that passes it; or a chunk, told by its end.
-#[derive(Drop)]
+#[derive(Clone, Copy)]
 pub enum Ahead {
     FilmEnd,
     PastEnd,

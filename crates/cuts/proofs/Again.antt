@@ -9,7 +9,7 @@ use borrow.Author.Tests.{le-ltb}
 use native.Mathlib.Omega.{arith}
 use lib.Dec.{eqb}
 use lib.ListN.{length, take, drop, length-append, length-take, length-drop, length-set}
-use lib.Seq.{take_all, take_at, take-nil, take_take, take-length}
+use lib.Seq.{take_all, take_at, take-nil, take-take, take-length}
 use Rattle.room.specs.Room.{written}
 use Rattle.refusal.specs.Number.{Verdict, accept, refuse}
 use Rattle.packet.specs.declared.Touched.{Touched}
@@ -277,7 +277,7 @@ cut_first : {A : Type 0} (j n : ℕ) (s : List A) → take j (take n s) ≡ take
 cut_first j n s =
     elim (dec_lt n j) [
       | yes h ↦ let e : min j n ≡ n = omega arith in take_all j (take n s) (omega (arith, length-take n s)) ∙ ap (λ (x : ℕ). take x s) (sym e)
-      | no h ↦ let e : min j n ≡ j = omega arith in take_take j n s (omega arith) ∙ ap (λ (x : ℕ). take x s) (sym e)
+      | no h ↦ let e : min j n ≡ j = omega arith in take-take j n s (omega arith) ∙ ap (λ (x : ℕ). take x s) (sym e)
     ]
 
 pub cut_step : (film : List ℕ) (st : State) (spare : ℕ) (l : Lent) → CutAgain film st spare l

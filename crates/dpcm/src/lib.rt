@@ -1,4 +1,6 @@
 // Compressed sound: 16-bit samples by steps from the last ones (DPCM).
+#![tactic(auto)]
+
 ghost use Rattle.std.specs.Prelude.{◌≡◌, ◌+◌, ◌*◌, ◌/◌, ◌%◌, ◌<◌, ◌≤◌, length, take, slice_set};
 ghost use Rattle.room.specs.Room.{written, NextByte};
 ghost use Rattle.dpcm.specs.Samples.{sample_after, samples, last_of, bytes_of};
@@ -10,7 +12,7 @@ use steps::step_of;
 use words::{part_from, word_at};
 
 // The last sample of the channel whose turn is next, and of the other one. Between packets left is next; mono has no other.
-#[derive(Drop)]
+#[derive(Clone, Copy)]
 pub struct Last {
     pub next: u16,
     pub other: u16,

@@ -18,7 +18,7 @@ use Rattle.packet.proofs.Forms.{Differ, differ_if, differ_else, parts_differ}
 use Rattle.packet.proofs.Forms as packet
 use Rattle.stores.specs.Stores.{Memory}
 use Rattle.stores.specs.Calls.{leave, leave_cut, outcome, happens}
-use Rattle.draw.specs.Call.{Request, packet_of, call_plan, is_oldest_short, call_verdict_in, draw_verdict, comes, word_pictures, leaves}
+use Rattle.draw.specs.Call.{Request, packet_of, call_plan, is_oldest_short, call_verdict_in, draw_verdict, comes, word_pictures}
 use Rattle.draw.specs.Forms.{SameCall, in_form, Odd, Forms}
 use Rattle.draw.proofs.Judged.{accepted_call}
 

@@ -1,4 +1,6 @@
 // The drawing call: every test again, then the stores still due from the place, as many as are allowed.
+#![tactic(auto)]
+
 ghost use Rattle.std.specs.Prelude.{◌≡◌, ◌≤◌, ◌<◌, length, drop};
 ghost use Rattle.block.specs.Block.{byte_kind};
 ghost use Rattle.paint.specs.Value.{pixel_count};
@@ -18,7 +20,7 @@ use refusal::Refusal;
 use whole::paint_whole;
 
 // What a drawing call answers: with the stores made and the rows of blocks that the packet touches, or why it is refused.
-#[derive(Drop)]
+#[derive(Clone, Copy)]
 pub enum Drawn {
     Whole(usize, Touched),
     Unfinished(usize, Touched),
@@ -26,7 +28,7 @@ pub enum Drawn {
 }
 
 // What a call is allowed: the stores that it may make, and the bytes of the packet that may be left over.
-#[derive(Drop)]
+#[derive(Clone, Copy)]
 pub struct Allowed {
     pub stores: usize,
     pub spare: usize,

@@ -8,7 +8,7 @@ use native.Mathlib.Numerals.{add-one}
 use native.Mathlib.Decide.{dec_lt}
 use native.Mathlib.Omega.{arith}
 use lib.ListN.{length, get_or, set, take, drop, length-append, length-drop}
-use lib.Seq.{take_all, take-length}
+use lib.Seq.{take_all}
 use Rattle.room.specs.Room.{written}
 use Rattle.room.proofs.Written.{Writing, writing_start, writing_more, written_none, written_length, written_behind, take_more}
 use Rattle.packet.specs.Packet.{pixels}
@@ -18,7 +18,7 @@ use Rattle.choice.specs.declared.Way.{Way}
 use Rattle.choice.specs.declared.Way.TheVariants.{Same, Kept, One, Dither, Coarse, Four, Fine, Two, Raw}
 use Rattle.choice.specs.Choice.{code_of, length_by, data_by}
 use Rattle.encode.specs.Encode.{Task, Lent, block_in, way_at, part_at, block_way, data_to, nibble, map_of}
-use Rattle.encode.proofs.Draws.{split, data_from, own}
+use Rattle.encode.proofs.Draws.{split, data_from}
 use Rattle.choice.proofs.First.{listed_length, listed_from}
 use borrow.Author.Tests.{lt-ltb, le-ltb}
 use Rattle.choice.proofs.Best.{length_by_lem, code_few}

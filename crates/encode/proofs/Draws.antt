@@ -1,17 +1,17 @@
 -- Map and packet are accepted in strict form, and give the wanted picture: `draws`.
 -- Assumes nothing.
 use mathlib.Core.Path.{◌≡◌, refl, sym, ap, ◌∙◌, subst}
-use mathlib.Core.Bool.{Bool, true, false, cond}
-use mathlib.Core.Logic.{◌⊎◌, ⊎_elim, ◌≢◌}
-use mathlib.Core.List.{List, [], ◌∷◌, ◌++◌, append_assoc, append-nil}
+use mathlib.Core.Bool.{false, cond}
+use mathlib.Core.Logic.{◌≢◌}
+use mathlib.Core.List.{List, [], ◌++◌, append_assoc, append-nil}
 use Prim.Native.Nat.{ℕ, zero, suc, ◌+◌, ◌-◌, ◌*◌, ◌/◌, ◌%◌, ◌≤◌, ◌<◌, zero-le}
-use native.Mathlib.Nat.{eq-or-lt_of_le, add-zero, mod-lt, div-lt_iff_lt-mul, div-add-mod'}
+use native.Mathlib.Nat.{add-zero, mod-lt, div-lt_iff_lt-mul, div-add-mod'}
 use native.Mathlib.Decide.{ℕ_discrete}
 use native.Mathlib.Omega.{arith}
 use lib.Dec.{ltb, eqb}
 use lib.ListN.{length, get_or, take, drop, length-append, get_or-append}
 use lib.Seq.{take-append_seam, drop-append_seam}
-use borrow.Author.Tests.{lt-ltb, eq-eqb, ne_eqb, eqb-true, eqb-false}
+use borrow.Author.Tests.{lt-ltb, eqb-true, eqb-false}
 use Rattle.motion.specs.Motion.{raster_index}
 use Rattle.pattern.proofs.Agree.{Agree}
 use Rattle.block.specs.Block.{Kind, code_at, kinds, kind_of, byte_kind, data_length, is_refused, source, fetched}
@@ -19,31 +19,28 @@ use Rattle.block.proofs.Codes.{code_known, offset_flat}
 use Rattle.block.proofs.Agree.{same_kind, no_second, same_fetched}
 use Rattle.paint.specs.Value.{pixel_count, flat, pixel_value, byte_value}
 use Rattle.paint.proofs.Counts.{count_64, count_0}
-use Rattle.packet.specs.Packet.{Packet, packet, pixels, blocks, width, height, left, top, code, advanced, start_of, start, data_of, offsets_of, kind}
+use Rattle.packet.specs.Packet.{Packet, pixels, width, height, left, top, code, advanced, start_of, start, data_of, offsets_of, kind}
 use Rattle.packet.specs.Asked.{Sized}
 use Rattle.refusal.specs.Number.{accept}
-use Rattle.packet.specs.Verdict.{strict, verdict}
+use Rattle.packet.specs.Verdict.{strict}
 use Rattle.packet.proofs.Exactly.{accepted_exactly}
 use Rattle.packet.proofs.Walk.{code_below, offsets_flat}
-use Rattle.packet.proofs.Grid.{column_below}
-use Rattle.stores.specs.Stores.{Memory, memory, Plan, after, stage, final, Off, Lawful}
-use Rattle.stores.specs.Calls.{leave, step}
+use Rattle.stores.specs.Stores.{Memory, memory, Plan, after, stage, Lawful}
+use Rattle.stores.specs.Calls.{leave}
 use Rattle.stores.proofs.Within.{agree_take, drop_same}
-use Rattle.stores.proofs.Recover.{Reached, reached_first, reached_final, stage_off, stage_pixel, going}
+use Rattle.stores.proofs.Recover.{reached_first, reached_final, stage_off, stage_pixel, going}
 use Rattle.draw.specs.Drawing.{size_at, target_at, value_at, plan}
-use Rattle.draw.specs.Call.{Request, draw_verdict, comes, pictures, leaves}
-use Rattle.draw.specs.Taken.{DrawAccepts}
+use Rattle.draw.specs.Call.{draw_verdict, comes, pictures}
 use Rattle.draw.proofs.Exactly.{drawn_exactly}
 use Rattle.book.proofs.Lawful.{few, stores_few, distinct, inside, plan_lawful}
 use Rattle.book.proofs.Picture.{block_below, index_is}
 use Rattle.book.proofs.Demand.{demand_3}
-use Rattle.packet.specs.Accepted.{Legal, CopyInside, Takes, Whole, Accepts}
-use Rattle.choice.specs.declared.Way.{Way}
-use Rattle.choice.specs.Choice.{Chosen, code_0, code_1, code_7, code_B, code_C, code_D, code_E, code_F, Reproduces, Best, code_of, listed, pixel_at}
-use Rattle.encode.specs.Encode.{Task, block_in, way_at, part_at, data_to, nibble, map_of, Lent}
+use Rattle.packet.specs.Accepted.{CopyInside, Takes, Accepts}
+use Rattle.choice.specs.Choice.{Chosen, code_0, code_1, code_7, code_B, code_C, code_D, code_E, code_F, Best, code_of}
+use Rattle.encode.specs.Encode.{Task, way_at, part_at, data_to, nibble, map_of, Lent}
 use Rattle.encode.specs.Draws.{packet_for, bytes_of, given, drawing, Draws}
 use Rattle.choice.proofs.First.{by_bool, listed_length, listed_from}
-use Rattle.choice.proofs.Best.{best, code_few, chosen_few}
+use Rattle.choice.proofs.Best.{best, code_few}
 
 -- ---- what holds of the codes that are chosen
 

@@ -1,12 +1,12 @@
 -- The data of an 8x8, written byte by byte: bytes that are pixels, and a pair of colours with marks.
 -- Assumes nothing.
-use mathlib.Core.Path.{◌≡◌, refl, sym, ap, ◌∙◌, subst}
-use mathlib.Core.Bool.{Bool, true, false, cond}
+use mathlib.Core.Path.{◌≡◌, refl, sym, ap, ◌∙◌}
+use mathlib.Core.Bool.{cond}
 use mathlib.Core.List.{List, [], ◌∷◌, ◌++◌}
 use Prim.Native.Nat.{ℕ, zero, suc, ◌+◌, ◌-◌, ◌*◌, ◌/◌, ◌%◌, ◌^◌, ◌≤◌, ◌<◌}
 use native.Mathlib.Nat.{pow-suc}
 use native.Mathlib.Omega.{arith}
-use lib.Dec.{eqb, ltb}
+use lib.Dec.{ltb}
 use lib.ListN.{length, get_or, set, take}
 use borrow.Author.Tests.{eq-eqb, ne_eqb}
 use Rattle.motion.specs.Motion.{raster_index, Inside}
@@ -16,7 +16,7 @@ use Rattle.room.specs.Room.{written}
 use Rattle.room.proofs.Written.{Writing, writing_more, take_more}
 use Rattle.choice.specs.declared.Way.{Way}
 use Rattle.choice.specs.declared.Way.TheVariants.{Same, Kept, One, Dither, Coarse, Four, Fine, Two, Raw}
-use Rattle.choice.specs.Choice.{code_of, length_by, data_by, pixel_at, cell_first, other, mark, marks, bits, listed, lower, higher, fine_data, coarse_data, cell_data}
+use Rattle.choice.specs.Choice.{code_of, length_by, data_by, pixel_at, cell_first, other, mark, marks, bits, lower, higher, fine_data, coarse_data, cell_data}
 use Rattle.choice.specs.Asked.{Cells}
 use Rattle.choice.proofs.First.{listed_length, listed_from, pixel_cell}
 use Rattle.choice.proofs.Colours.{mark_few}

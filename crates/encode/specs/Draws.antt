@@ -5,7 +5,7 @@ use Rattle.refusal.specs.Number.{accept}
 use Rattle.block.specs.Block.{data_length}
 use Rattle.packet.specs.Packet.{Packet, packet, pixels, width, left, top, code, data_of, kind}
 use Rattle.packet.specs.Verdict.{strict, verdict}
-use Rattle.stores.specs.Stores.{Plan, memory, final}
+use Rattle.stores.specs.Stores.{memory, final}
 use Rattle.stores.specs.Calls.{Event}
 use Rattle.draw.specs.Drawing.{plan}
 use Rattle.draw.specs.Call.{Request, request, within, pictures, leaves}

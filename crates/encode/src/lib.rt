@@ -1,4 +1,6 @@
 // The encoder: map and packet that give a wanted picture. What each 8x8 is given by is found twice, to measure and to write.
+#![tactic(auto)]
+
 ghost use Rattle.std.specs.Prelude.{◌≡◌, cond, ltb, ◌+◌, ◌*◌, ◌/◌, ◌<◌, ◌≤◌, length, set};
 ghost use Rattle.paint.specs.Asked.{Square};
 ghost use Rattle.room.specs.Room.{written};
@@ -274,7 +276,7 @@ fn put_frame(
 }
 
 // What an encoding comes to: the lengths of map and body, or why it is refused.
-#[derive(Drop)]
+#[derive(Clone, Copy)]
 pub enum Encoded {
     Made(usize, usize),
     Refused(Refusal),

@@ -1,4 +1,4 @@
--- An answer has 26 numbers: `open-count`, `begin-count`, `step_count`. And a call whose `out` holds so many leaves it there, and returns its kind: `answer-there`.
+-- An answer has 26 numbers: `open_count`, `begin_count`, `step_count`. And a call whose `out` holds so many leaves it there, and returns its kind: `answer_there`.
 -- Assumes nothing.
 use mathlib.Core.Path.{◌≡◌, refl, subst}
 use mathlib.Core.Bool.{Bool, true, false, cond}
@@ -22,40 +22,40 @@ use Rattle.exports.specs.Calls.{delivered, open_answer, exported, of_outcome, st
 eight : (n : ℕ) → n ≡ 18 → suc (suc (suc (suc (suc (suc (suc (suc n))))))) ≡ 26
 eight n e = rw e
 
-opening-count : (o : Opening) → length (of_opening o) ≡ 26
+opening_count : (o : Opening) → length (of_opening o) ≡ 26
 unfolding of_opening
-opening-count (started st) = eight _ (state_length st)
-opening-count (refuses n k) = eight _ zeros_count
+opening_count (started st) = eight _ (state_length st)
+opening_count (refuses n k) = eight _ zeros_count
 
-pub open-count : (film : List ℕ) (stream : ℕ) → length (open_answer film stream) ≡ 26
-open-count film stream = opening-count (opening_of film stream)
+pub open_count : (film : List ℕ) (stream : ℕ) → length (open_answer film stream) ≡ 26
+open_count film stream = opening_count (opening_of film stream)
 
-beginning-count : (b : Beginning) → length (of_beginning b) ≡ 26
+beginning_count : (b : Beginning) → length (of_beginning b) ≡ 26
 unfolding of_beginning
-beginning-count (sized st) = eight _ (state_length st)
-beginning-count (stopped n k st) = eight _ (state_length st)
+beginning_count (sized st) = eight _ (state_length st)
+beginning_count (stopped n k st) = eight _ (state_length st)
 
-pub begin-count : (film : List ℕ) (stream : ℕ) (palette : List ℕ) (place : ℕ) → length (begin_answer film stream palette place).answer ≡ 26
-begin-count film stream palette place = beginning-count (begin_of film stream palette place).answer
+pub begin_count : (film : List ℕ) (stream : ℕ) (palette : List ℕ) (place : ℕ) → length (begin_answer film stream palette place).answer ≡ 26
+begin_count film stream palette place = beginning_count (begin_of film stream palette place).answer
 
-answer-count : (m : List ℕ) → length m ≡ 18 → (a : Answer) (stores bytes : ℕ) (t : Touched) → length (of_answer m a stores bytes t) ≡ 26
+answer_count : (m : List ℕ) → length m ≡ 18 → (a : Answer) (stores bytes : ℕ) (t : Touched) → length (of_answer m a stores bytes t) ≡ 26
 unfolding of_answer
-answer-count m n (taken st) stores bytes t = eight _ (state_length st)
-answer-count m n (whole st) stores bytes t = eight _ (state_length st)
-answer-count m n (unfinished st) stores bytes t = eight _ n
-answer-count m n (ended st) stores bytes t = eight _ n
-answer-count m n (refused i k) stores bytes t = eight _ n
+answer_count m n (taken st) stores bytes t = eight _ (state_length st)
+answer_count m n (whole st) stores bytes t = eight _ (state_length st)
+answer_count m n (unfinished st) stores bytes t = eight _ n
+answer_count m n (ended st) stores bytes t = eight _ n
+answer_count m n (refused i k) stores bytes t = eight _ n
 
 pub step_count : (film m : List ℕ) (allowed form : ℕ) (l : Lent) → length (step_answer film m allowed form l).answer ≡ 26
 unfolding step_answer
 step_count film m allowed form l = by (is_state m) refl
   where
     by : (b : Bool) → is_state m ≡ b → length (cond b (of_outcome m (step_of film (state_of m) (within allowed (spare_of form)) l)) (exported of_no_state l)).answer ≡ 26
-    by true e = let x = (step_of film (state_of m) (within allowed (spare_of form)) l).step in answer-count m (are_numbers m e).count x.answer x.stores x.bytes x.rows
+    by true e = let x = (step_of film (state_of m) (within allowed (spare_of form)) l).step in answer_count m (are_numbers m e).count x.answer x.stores x.bytes x.rows
     by false e = eight _ zeros_count
 
 -- of each of the three calls
-pub answer-there : {L : Type 0} (out : List ℕ) (before : L) (answer : List ℕ) (after : L) → length answer ≡ 26 → 26 ≤ length out
+pub answer_there : {L : Type 0} (out : List ℕ) (before : L) (answer : List ℕ) (after : L) → length answer ≡ 26 → 26 ≤ length out
     → ((delivered out before answer after).returned ≡ kind_in answer) × (take 26 (delivered out before answer after).out ≡ answer)
 unfolding delivered
-answer-there out before answer after n h = rw (le-ltb _ _ h) (refl, subst (λ (k : ℕ). take k (written answer out) ≡ answer) n (written_front answer out))
+answer_there out before answer after n h = rw (le-ltb _ _ h) (refl, subst (λ (k : ℕ). take k (written answer out) ≡ answer) n (written_front answer out))

@@ -47,7 +47,7 @@ use Rattle.next.specs.declared.Next.TheVariants as found
 use Rattle.next.specs.Next.{next_as, next_of, Possible, Ready}
 use Rattle.next.proofs.Standing.{found_ready}
 use Rattle.opcodes.specs.Opcodes.{Step, taken, unfinished, ended, refused, stored, quiet, quiet_answer, heard_step, drawn_as, drawn_step}
-use Rattle.film.specs.Film.{Words, words, Lent, lent, with_palette, with_pictures, with_words, with_room, shortest, Outcome, after, Turn, bytes0, bytes1, words0, words1, words2, turn_of, last_in, new_in, oldest_in, with_new, drawn_at, with_drawn, request_of, draw_on, part, draw_mapped, is_body_short, draw_by, palette_step, map_to, act, act_on, heard_by, hear, take_on, standing, step_of}
+use Rattle.film.specs.Film.{words, Lent, with_palette, with_pictures, with_words, with_room, shortest, Outcome, after, Turn, bytes0, bytes1, words0, words1, words2, turn_of, last_in, new_in, oldest_in, with_new, drawn_at, with_drawn, request_of, draw_on, part, draw_mapped, is_body_short, draw_by, palette_step, map_to, act, act_on, heard_by, hear, take_on, standing, step_of}
 use Rattle.film.proofs.Pictures.{first_shown, second_shown, shown_0, shown_1, shown_2, drawn_back}
 
 -- ---- 11

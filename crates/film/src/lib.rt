@@ -1,4 +1,6 @@
 // One step over a film: a chunk's head or one opcode.
+#![tactic(auto)]
+
 ghost use Rattle.std.specs.Prelude.{◌≡◌, true, false, ℕ, ◌≤◌, List, length};
 ghost use Rattle.packet.specs.Verdict.{default};
 ghost use Rattle.draw.specs.Call.{within};

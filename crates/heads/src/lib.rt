@@ -1,4 +1,6 @@
 // The heads of chunks and opcodes, each read by a function of its own, and the opcodes that are taken.
+#![tactic(auto)]
+
 ghost use Rattle.std.specs.Prelude.{◌≡◌, ◌≤◌, ◌<◌, ◌^◌, length, cond};
 ghost use Rattle.refusal.specs.Number.{accept, refuse};
 ghost use Rattle.packet.specs.Verdict.{told};
@@ -10,7 +12,7 @@ use state::Cursor;
 use words::{byte_at, wide, word_at};
 
 // An opcode: its type and version, and the part of the film that is its body.
-#[derive(Drop)]
+#[derive(Clone, Copy)]
 pub struct Opcode {
     pub kind: usize,
     pub version: usize,
@@ -19,13 +21,13 @@ pub struct Opcode {
 }
 
 // The cursor in a chunk: its body from the position to the chunk end.
-#[derive(Drop)]
+#[derive(Clone, Copy)]
 pub enum ChunkHead {
     Chunk(Cursor),
     BadChunk(Refusal),
 }
 
-#[derive(Drop)]
+#[derive(Clone, Copy)]
 pub enum OpcodeHead {
     Op(Opcode),
     BadOp(Refusal),

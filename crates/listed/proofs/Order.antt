@@ -2,10 +2,10 @@
 -- Assumes nothing.
 use mathlib.Core.Path.{◌≡◌, refl, sym, ap, ◌∙◌}
 use mathlib.Core.List.{List, [], ◌++◌, append_assoc, append-nil}
-use Prim.Native.Nat.{ℕ, ◌+◌, ◌≤◌, ◌<◌, zero-le}
+use Prim.Native.Nat.{ℕ, ◌+◌, ◌<◌, zero-le}
 use native.Mathlib.Omega.{arith}
 use lib.ListN.{length, take, drop, length-append, length-drop}
-use lib.Seq.{take_add, drop-drop, take-append_seam, drop-append_seam}
+use lib.Seq.{take-add, drop-drop, take-append_seam, drop-append_seam}
 use Rattle.listed.specs.Store.{Store, applied, one, each, byte, bytes, Within}
 use Rattle.listed.specs.Order.{Due}
 use Rattle.listed.proofs.Lists.{applied_append, applied_length, each_next, bytes_length, within_left, within_right}
@@ -27,7 +27,7 @@ module _ (l : List Store) (j : ℕ) (part : List Store) (b₀ : List ℕ) (d : D
       let x = (q ++ r) ++ d.rest in
       let s : drop j l ≡ a ++ x = d.next ∙ ap (λ (p : List Store). p ++ d.rest) e ∙ append_assoc a (q ++ r) d.rest in
       let t : take (j + length a) l ≡ take j l ++ a =
-      take_add j (length a) l ∙ ap (λ (p : List Store). take j l ++ take (length a) p) s ∙ ap (λ (p : List Store). take j l ++ p) (take-append_seam a x) in
+      take-add j (length a) l ∙ ap (λ (p : List Store). take j l ++ take (length a) p) s ∙ ap (λ (p : List Store). take j l ++ p) (take-append_seam a x) in
       let k : length b ≡ length b₀ = ap length m ∙ applied_length a b₀ in
       let w : Within (length b₀) (a ++ (q ++ r)) = rw e at d.inside in
       record {

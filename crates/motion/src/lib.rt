@@ -1,11 +1,13 @@
 // Motion vectors of codes 2 to 5, and the pixels that they point at.
+#![tactic(auto)]
+
 ghost use Rattle.std.specs.Prelude.{◌≡◌, true, ◌+◌, ◌≤◌};
 ghost use Rattle.motion.specs.Motion.{ahead_vector, negated, near_vector, far_vector, points_inside, raster_index, copied_index, Short, Inside};
 
 use words::wide;
 
 // How far right and down a copied 8x8 lies, and how far left and up of that.
-#[derive(Drop)]
+#[derive(Clone, Copy)]
 pub struct Vector {
     pub right: usize,
     pub left: usize,

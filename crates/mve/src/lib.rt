@@ -1,4 +1,6 @@
 // The interface for C and Rust. Nothing is done here but to hand on.
+#![tactic(auto)]
+
 ghost use Rattle.std.specs.Prelude.{◌≡◌, true, length};
 ghost use Rattle.packet.specs.Packet.{packet, packet_in};
 ghost use Rattle.packet.specs.Verdict.{default, strict, verdict, verdict_in};

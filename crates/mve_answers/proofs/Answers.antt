@@ -28,8 +28,8 @@ module _ (t : Touched) where
   unfolding of_rows
   some_rows first last e = rw e
 
-pub answered-is : (kind stores : ℕ) (t : Touched) (r : MveRows) → r ≡ of_rows t → answer kind 0 0 stores r ≡ answer kind 0 0 stores (of_rows t)
-answered-is kind stores t r e = rw e
+pub answered_is : (kind stores : ℕ) (t : Touched) (r : MveRows) → r ≡ of_rows t → answer kind 0 0 stores r ≡ answer kind 0 0 stores (of_rows t)
+answered_is kind stores t r e = rw e
 
 pub refused_is : (r : Refusal) (n m k : ℕ) (rows : MveRows) → n ≡ number r → m ≡ n → k ≡ block r → rows ≡ of_rows None → answer 4 m k 0 rows ≡ answer 4 (number r) (block r) 0 (of_rows None)
 refused_is r n m k rows e f g h = rw (f, e, g, h)
@@ -44,23 +44,23 @@ module _ (i : Inspected) (a : MveAnswer) where
   refused_as r q f = rw q f
 
 module _ (d : Drawn) (a : MveAnswer) where
-  pub whole-as : (n : ℕ) (t : Touched) → d ≡ Whole n t → a ≡ answer 1 0 0 n (of_rows t) → a ≡ of_report (said d)
+  pub whole_as : (n : ℕ) (t : Touched) → d ≡ Whole n t → a ≡ answer 1 0 0 n (of_rows t) → a ≡ of_report (said d)
   unfolding of_answer
-  whole-as n t q f = rw q f
+  whole_as n t q f = rw q f
 
-  pub unfinished-as : (n : ℕ) (t : Touched) → d ≡ Unfinished n t → a ≡ answer 2 0 0 n (of_rows t) → a ≡ of_report (said d)
+  pub unfinished_as : (n : ℕ) (t : Touched) → d ≡ Unfinished n t → a ≡ answer 2 0 0 n (of_rows t) → a ≡ of_report (said d)
   unfolding of_answer
-  unfinished-as n t q f = rw q f
+  unfinished_as n t q f = rw q f
 
-  pub denied-as : (r : Refusal) → d ≡ Denied r → a ≡ answer 4 (number r) (block r) 0 (of_rows None) → a ≡ of_report (said d)
+  pub denied_as : (r : Refusal) → d ≡ Denied r → a ≡ answer 4 (number r) (block r) 0 (of_rows None) → a ≡ of_report (said d)
   unfolding of_answer
-  denied-as r q f = rw q f
+  denied_as r q f = rw q f
 
 module _ (c : Checked) where
   pub taken_as : c ≡ Taken → 0 ≡ of_verdict (told c)
   unfolding of_verdict
   taken_as q = rw q
 
-  pub not-taken-as : (r : Refusal) (n m : ℕ) → c ≡ NotTaken r → n ≡ number r → m ≡ n → m ≡ of_verdict (told c)
+  pub not_taken_as : (r : Refusal) (n m : ℕ) → c ≡ NotTaken r → n ≡ number r → m ≡ n → m ≡ of_verdict (told c)
   unfolding of_verdict
-  not-taken-as r n m q e f = rw (q, f, e)
+  not_taken_as r n m q e f = rw (q, f, e)

@@ -1,4 +1,6 @@
 // Answers as numbers, for hosts in other languages: of a packet's check and of a drawing call, where a pixel comes from, and of a frame of Video 1.
+#![tactic(auto)]
+
 ghost use Rattle.std.specs.Prelude.{◌≡◌};
 ghost use Rattle.refusal.specs.Number.{block, number as refusalNumber};
 ghost use Rattle.packet.specs.declared.Touched.TheVariants.{None};
@@ -15,7 +17,7 @@ use words::wide;
 
 // The rows of blocks that a packet touches, counted from 0: touched 1 and the first and the last, or three times 0 where there is none.
 #[repr(C)]
-#[derive(Drop)]
+#[derive(Clone, Copy)]
 pub struct MveRows {
     pub touched: usize,
     pub first: usize,
@@ -24,7 +26,7 @@ pub struct MveRows {
 
 // kind: 0 accepted, 1 whole, 2 unfinished, 4 refused. number and block: of a refusal, else 0. stores: how many were made. rows: of the packet, none where it is refused.
 #[repr(C)]
-#[derive(Drop)]
+#[derive(Clone, Copy)]
 pub struct MveAnswer {
     pub kind: usize,
     pub number: usize,
@@ -88,7 +90,7 @@ pub fn of_check(i: Inspected) -> MveAnswer
 // Where a pixel comes from. kind: 0 found, 4 refused. number: of a refusal, else 0. block: the pixel's, or that of a refusal. code: the block's. source: 0 a byte of
 // the packet, 1 a pixel of front, 2 one of back as it was lent, 3 one of the new picture. byte: its index in the packet. x, y: the pixel.
 #[repr(C)]
-#[derive(Drop)]
+#[derive(Clone, Copy)]
 pub struct MveOrigin {
     pub kind: usize,
     pub number: usize,

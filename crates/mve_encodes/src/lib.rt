@@ -1,4 +1,6 @@
 // What an encoding comes to, as numbers, for hosts in other languages.
+#![tactic(auto)]
+
 ghost use Rattle.std.specs.Prelude.{◌≡◌};
 ghost use Rattle.refusal.specs.Number.{number, block};
 ghost use Rattle.encode.specs.Encode.{refused, answer_as};
@@ -10,7 +12,7 @@ use words::wide;
 
 // number: 0, or the refusal's number, and then both lengths are 0.
 #[repr(C)]
-#[derive(Drop)]
+#[derive(Clone, Copy)]
 pub struct MveEncoded {
     pub number: usize,
     pub map_length: usize,

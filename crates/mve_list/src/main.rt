@@ -1,63 +1,69 @@
 // Lists the opcodes of a film on standard input: a line for each that is taken, and how the walk ended.
+#![tactic(auto)]
+
+ghost use Rattle.std.specs.Prelude.{◌≤◌, IfOk, length};
+
 use opcodes::Stepped;
 use opening::Opened;
 use refusal::Refusal;
 use state::State;
+use std::io;
+use std::io::Read;
 
-fn number(n: usize) {
-    io::print_decimal(1, n as u64);
+fn number(rt: &impl Print, n: usize) -> io::Result<()> {
+    rt.print(n)
 }
 
-fn space() {
-    io::write_all(1, b" ");
+fn space(rt: &impl Print) -> io::Result<()> {
+    rt.print(" ")
 }
 
 // The line of the opcode whose head is at p: position, type, version, body length. Only a film that has p was stepped over.
-fn line(film: &[u8], p: usize) {
-    number(p);
-    space();
+fn line(rt: &impl Print, film: &[u8], p: usize) -> io::Result<()> {
+    number(rt, p)?;
+    space(rt)?;
     if p < film.len() {
-        number(words::wide(words::byte_at(film, p + 2)));
-        space();
-        number(words::wide(words::byte_at(film, p + 3)));
-        space();
-        number(words::word_at(film, p));
+        number(rt, words::wide(words::byte_at(film, p + 2)))?;
+        space(rt)?;
+        number(rt, words::wide(words::byte_at(film, p + 3)))?;
+        space(rt)?;
+        number(rt, words::word_at(film, p))?;
     }
-    io::write_all(1, b"\n");
+    rt.println("")
 }
 
-fn refused(r: Refusal, p: usize) {
-    io::write_all(1, b"refused ");
-    number(words::wide(refusal::number_of(r)));
-    space();
-    number(p);
-    io::write_all(1, b"\n");
+fn refused(rt: &impl Print, r: Refusal, p: usize) -> io::Result<()> {
+    rt.print("refused ")?;
+    number(rt, words::wide(refusal::number_of(r)))?;
+    space(rt)?;
+    number(rt, p)?;
+    rt.println("")
 }
 
-fn ended(film: &[u8]) {
-    io::write_all(1, b"ended ");
-    number(film.len());
-    io::write_all(1, b"\n");
+fn ended(rt: &impl Print, film: &[u8]) -> io::Result<()> {
+    rt.print("ended ")?;
+    number(rt, film.len())?;
+    rt.println("")
 }
 
 // Writes the line of an opcode that was taken, unless a chunk's head stood there, and says whether the pictures are too large to go on. A film with true colour is not
 // drawn, whatever its size: no pictures of words are lent.
-fn listed(film: &[u8], p: usize, inside: bool, next: State) -> bool {
+fn listed(rt: &impl Print, film: &[u8], p: usize, inside: bool, next: State) -> io::Result<bool> {
     if inside {
-        line(film, p);
+        line(rt, film, p)?;
     }
     if next.deep {
-        return false;
+        return Ok(false);
     }
     if 16384 < state::area_of(next.columns, next.rows) {
-        io::write_all(1, b"too large\n");
-        return true;
+        rt.println("too large")?;
+        return Ok(true);
     }
-    false
+    Ok(false)
 }
 
 // Each taken step passes 4 bytes at least, so a film of 24,576 bytes ends before the turns do.
-fn walk(film: &[u8], first: State) {
+fn walk(rt: &impl Print, film: &[u8], first: State) -> io::Result<()> {
     let mut a = [0u8; 16384];
     let mut b = [0u8; 16384];
     let mut c = [0u16; 0];
@@ -87,8 +93,8 @@ fn walk(film: &[u8], first: State) {
             312000,
         ) {
             Stepped::Taken(next, _) => {
-                if listed(film, p, inside, next) {
-                    return;
+                if listed(rt, film, p, inside, next)? {
+                    return Ok(());
                 }
                 st = next;
             }
@@ -96,39 +102,49 @@ fn walk(film: &[u8], first: State) {
                 st = next;
             }
             Stepped::Whole(next, _, _) => {
-                line(film, p);
+                line(rt, film, p)?;
                 st = next;
             }
             Stepped::Unfinished(next, _, _) => {
                 st = next;
             }
-            Stepped::Ended(_) => {
-                ended(film);
-                return;
-            }
-            Stepped::Refused(r) => {
-                refused(r, p);
-                return;
-            }
+            Stepped::Ended(_) => return ended(rt, film),
+            Stepped::Refused(r) => return refused(rt, r, p),
         }
     }
+    Ok(())
 }
 
 // Sound is passed over: no stream is chosen.
-fn list(film: &[u8]) {
-    io::write_all(1, b"at type version length\n");
+fn list(rt: &impl Print, film: &[u8]) -> io::Result<()> {
+    rt.println("at type version length")?;
     match opening::open(film, 16) {
-        Opened::First(st) => walk(film, st),
-        Opened::Refused(r) => refused(r, 0),
+        Opened::First(st) => walk(rt, film, st),
+        Opened::Refused(r) => refused(rt, r, 0),
     }
 }
 
-fn main() {
-    let mut buffer = [0u8; 24577];
-    let n = io::read_full(0, &mut buffer);
-    if 24576 < n {
-        io::write_all(1, b"too large\n");
-        return;
+// Reads until buf is full or the input ends, and returns how many bytes stand at the front of buf.
+fn read_full(rt: &impl Input, buf: &mut [u8]) -> io::Result<usize>
+    ensures { IfOk result (λ n. n ≤ length buf.new) }
+{
+    let mut reader = rt.reader();
+    let mut done = 0;
+    while done < buf.len() {
+        let n = reader.read(&mut buf[done..])?;
+        if n == 0 {
+            break;
+        }
+        done += n;
     }
-    list(&buffer[..n]);
+    Ok(done)
+}
+
+fn main(rt: HostRuntime) -> io::Result<()> {
+    let mut buffer = [0u8; 24577];
+    let n = read_full(&rt, &mut buffer)?;
+    if 24576 < n {
+        return rt.println("too large");
+    }
+    list(&rt, &buffer[..n])
 }

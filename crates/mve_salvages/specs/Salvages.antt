@@ -17,5 +17,5 @@ of_walked bytes w =
 -- the header's 26 bytes are counted where the film has them
 unfoldable pub of_salvage : SalvageAnswer → MveSalvaged
 of_salvage (writes t) =
-    record { number = 0; bytes = t.bytes; left_out = t.left_out_count; stop = stop_number t.stop; header = 26; kept = t.kept; lost = t.lost; rest = t.rest }
+    record { number = 0; bytes = t.bytes; left_out = t.left_out; stop = stop_number t.stop; header = 26; kept = t.kept; lost = t.lost; rest = t.rest }
 of_salvage (not_salvaged number block) = record { number = number; bytes = 0; left_out = 0; stop = 0; header = 0; kept = 0; lost = 0; rest = 0 }

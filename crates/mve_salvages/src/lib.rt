@@ -1,4 +1,6 @@
 // What is left of a scratched film, as numbers, for hosts in other languages.
+#![tactic(auto)]
+
 ghost use Rattle.std.specs.Prelude.{◌≡◌};
 ghost use Rattle.refusal.specs.Number.{number, block};
 ghost use Rattle.salvage.specs.Salvage.{not_salvaged, stop_as, answer_as};
@@ -11,7 +13,7 @@ use words::wide;
 // number: 0, or the refusal's number, and then all else is 0. stop: 0 at the film's end, 1 behind a kept chunk with 00, 2 at refusal 2. header, kept, lost and rest are bytes
 // of the film and add up to its length.
 #[repr(C)]
-#[derive(Drop)]
+#[derive(Clone, Copy)]
 pub struct MveSalvaged {
     pub number: usize,
     pub bytes: usize,

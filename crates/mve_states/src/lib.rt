@@ -3,6 +3,8 @@
 // where no map is pending, and unsent is 0 where no frame is finished and unsent. stream is the one that opening was given. has_format is 0 before a 03, and nothing of
 // sound behind it is read there. stereo, wide and compressed are what the last 03 said; wide is 16-bit. begun is 0 where no compressed 08 was taken since. left and right
 // are the last sample of each channel. true_colour is 0 for a film without it.
+#![tactic(auto)]
+
 ghost use Rattle.std.specs.Prelude.{◌≡◌, [], ◌∷◌, ◌≤◌, length, get_or};
 ghost use Rattle.std.proofs.lemmas.List.Edits.{sets};
 ghost use Rattle.mve_states.specs.State.{flag_of, number_of, is_state, map_of, sound_of, state_of, of_map, of_sound, of_state, no_state};

@@ -1,6 +1,8 @@
 // Answers about a film as 26 numbers, for hosts in other languages: of a step and of opening. In this order: kind, number, block, stores, bytes, touched, first_row,
 // last_row, then the 18 of a state. kind: 0 taken, 1 whole, 2 unfinished, 3 ended, 4 refused. number and block: of a refusal, else 0. stores: how many drawing made.
 // bytes: how many of sound were written at the room's front. The rows: of a packet that was drawn. Every function that ends an answer gives its kind.
+#![tactic(auto)]
+
 ghost use Rattle.std.specs.Prelude.{◌≡◌, [], ◌∷◌, ◌≤◌, length};
 ghost use Rattle.std.proofs.lemmas.List.Edits.{sets};
 ghost use Rattle.room.specs.Room.{written};

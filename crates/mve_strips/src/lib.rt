@@ -1,4 +1,6 @@
 // What is left of a film without what the player passes over, as numbers, for hosts in other languages.
+#![tactic(auto)]
+
 ghost use Rattle.std.specs.Prelude.{◌≡◌};
 ghost use Rattle.strip.specs.Strip.{answer_as};
 ghost use Rattle.mve_strips.specs.Strips.{of_strip};
@@ -9,7 +11,7 @@ use words::wide;
 
 // number: 0, or the refusal's number, and then length is 0. length: the bytes written.
 #[repr(C)]
-#[derive(Drop)]
+#[derive(Clone, Copy)]
 pub struct MveStripped {
     pub number: usize,
     pub length: usize,

@@ -1,4 +1,6 @@
 // What stands where a state is, after all tests that do not read a body.
+#![tactic(auto)]
+
 ghost use Rattle.std.specs.Prelude.{◌≡◌, ◌≤◌, length};
 ghost use Rattle.state.specs.State.{area, lent_verdict};
 ghost use Rattle.sound.specs.Format.{chosen};
@@ -11,7 +13,7 @@ use refusal::Refusal;
 use sound::is_chosen;
 use state::{Cursor, State, area_of, judge_lent, judge_state};
 
-#[derive(Drop)]
+#[derive(Clone, Copy)]
 pub enum Next {
     Refused(Refusal),
     Ended,
@@ -57,8 +59,8 @@ fn next_at(film: &[u8], c: Cursor, hears: bool) -> Next
     }
 }
 
-// A film together with the position at which it is read. Every function over it is proved by hand, so each is thin.
-#[derive(Drop)]
+// A film together with the position at which it is read.
+#[derive(Clone, Copy)]
 pub struct Reader<'a> {
     pub film: &'a [u8],
     pub at: Cursor,
@@ -80,8 +82,7 @@ impl<'a> Reader<'a> {
     }
 }
 
-// What stands at a cursor, through a reader. All that read a film call this: its parameters are plain, so they need no
-// proof by hand.
+// What stands at a cursor, through a reader. All that read a film call this.
 pub fn standing_at(film: &[u8], c: Cursor, hears: bool) -> Next
     requires { (c.position ≤ c.chunk_end) × (c.chunk_end ≤ length film.now) }
     ensures { next_as result ≡ standing_at hears film.now c }

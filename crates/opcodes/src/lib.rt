@@ -1,4 +1,6 @@
 // What each opcode that is taken does to the state.
+#![tactic(auto)]
+
 ghost use Rattle.std.specs.Prelude.{◌≡◌};
 ghost use Rattle.draw.specs.Call.{said};
 ghost use Rattle.sound.specs.Sound.{heard_as};
@@ -13,7 +15,7 @@ use words::word_at;
 
 // What a step answers, with the state that it gives back: Taken with the stores made, Heard with the bytes of sound written, Whole and Unfinished with the stores made
 // and the rows of blocks that the drawn packet touches.
-#[derive(Drop)]
+#[derive(Clone, Copy)]
 pub enum Stepped {
     Taken(State, usize),
     Heard(State, usize),

@@ -1,4 +1,6 @@
 // Opening a film: its header gives the first state.
+#![tactic(auto)]
+
 ghost use Rattle.std.specs.Prelude.{◌≡◌, ◌≤◌, ◌<◌, length, get_or};
 ghost use Rattle.opening.specs.Opening.{header, begins, opened_as, opening_of};
 
@@ -6,7 +8,7 @@ use refusal::Refusal;
 use sound::Sound;
 use state::{Cursor, Map, State};
 
-#[derive(Drop)]
+#[derive(Clone, Copy)]
 pub enum Opened {
     First(State),
     Refused(Refusal),

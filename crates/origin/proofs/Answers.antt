@@ -21,34 +21,34 @@ use Rattle.origin.specs.Asked.{Traceable}
 
 -- ---- a pixel of a picture, by its name
 
-pub picture-named : (x y : ℕ) {p q : Picture} → p ≡ q → picture_origin q x y ≡ picture_origin p x y
-picture-named x y e = ap (λ (z : Picture). picture_origin z x y) (sym e)
+pub picture_named : (x y : ℕ) {p q : Picture} → p ≡ q → picture_origin q x y ≡ picture_origin p x y
+picture_named x y e = ap (λ (z : Picture). picture_origin z x y) (sym e)
 
 -- ---- an accepted packet, by the source that was read
 
 module _ (p : Packet) (x y c at j : ℕ) (u : Source) (ec : c ≡ code p (block_at p.columns x y)) (ea : at ≡ (start p (block_at p.columns x y)).bytes)
     (eu : u ≡ source_at p (block_at p.columns x y) (pixel_at x y)) where
   -- o: what the source is called
-  named-so : (v : Source) (o : Origin) → u ≡ v → o ≡ named (width p) at v → found (block_at p.columns x y) c o ≡ found_at p x y
+  named_so : (v : Source) (o : Origin) → u ≡ v → o ≡ named (width p) at v → found (block_at p.columns x y) c o ≡ found_at p x y
   unfolding found_at origin_of
-  named-so v o e q = rw (q, ec, ea, ← e, eu)
+  named_so v o e q = rw (q, ec, ea, ← e, eu)
 
-  pub found-byte : u ≡ Data j → found (block_at p.columns x y) c (Byte (at + j)) ≡ found_at p x y
+  pub found_byte : u ≡ Data j → found (block_at p.columns x y) c (Byte (at + j)) ≡ found_at p x y
   unfolding named
-  found-byte e = named-so (Data j) (Byte (at + j)) e refl
+  found_byte e = named_so (Data j) (Byte (at + j)) e refl
 
-  pub found-pixel : (picture : Picture) (o : Origin) → u ≡ Copied picture j → o ≡ picture_origin picture (j % width p) (j / width p)
+  pub found_pixel : (picture : Picture) (o : Origin) → u ≡ Copied picture j → o ≡ picture_origin picture (j % width p) (j / width p)
       → found (block_at p.columns x y) c o ≡ found_at p x y
   unfolding named
-  found-pixel picture o e q = named-so (Copied picture j) o e q
+  found_pixel picture o e q = named_so (Copied picture j) o e q
 
 -- ---- the tests in order
 
 -- where the size is legal and the pictures are long enough, they are those of the check
-pub as-checked : (columns rows : ℕ) (map bytes : List ℕ) (front back : ℕ) → legal_size columns rows ≡ true → pixels columns rows ≤ front → pixels columns rows ≤ back
+pub as_checked : (columns rows : ℕ) (map bytes : List ℕ) (front back : ℕ) → legal_size columns rows ≡ true → pixels columns rows ≤ front → pixels columns rows ≤ back
     → verdict default columns rows map bytes ≡ call_verdict default columns rows map bytes front back 0
 unfolding verdict_in call_verdict_in
-as-checked columns rows map bytes front back e f b =
+as_checked columns rows map bytes front back e f b =
     rw (e, le-ltb _ _ f, le-ltb _ _ b, le-ltb (blocks (packet columns rows map bytes)) 0 zero-le)
 
 module _ (columns rows : ℕ) (map bytes : List ℕ) (front back x y : ℕ) where

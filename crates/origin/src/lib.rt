@@ -1,4 +1,6 @@
 // Where the value of a pixel comes from: its block, the block's code, and the byte or the pixel that the rules read.
+#![tactic(auto)]
+
 ghost use Rattle.std.specs.Prelude.{◌≡◌, length};
 ghost use Rattle.packet.specs.Packet.{packet};
 ghost use Rattle.packet.specs.Verdict.{default};
@@ -14,7 +16,7 @@ use refusal::Refusal;
 use words::part_from;
 
 // What gave a pixel its value: a byte of the packet, counted from its start; or the pixel at x, y of front, of back as it was lent, or of the new picture.
-#[derive(Drop)]
+#[derive(Clone, Copy)]
 pub enum Origin {
     Byte(usize),
     InFront(usize, usize),
@@ -23,7 +25,7 @@ pub enum Origin {
 }
 
 // The pixel's block, the block's code and the pixel's origin; or why the call is refused.
-#[derive(Drop)]
+#[derive(Clone, Copy)]
 pub enum Traced {
     Found(usize, u8, Origin),
     Refused(Refusal),

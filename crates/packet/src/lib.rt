@@ -1,4 +1,6 @@
 // The check of a packet: its size, its map, its blocks in order, and what is left over.
+#![tactic(auto)]
+
 ghost use Rattle.std.specs.Prelude.{◌≡◌, false, [], ◌*◌, ◌≤◌, length};
 ghost use Rattle.packet.specs.Packet.{packet, start_of};
 ghost use Rattle.packet.specs.Verdict.{legal, legal_size, default, strict, blocks_verdict, verdict};
@@ -10,21 +12,21 @@ use refusal::Refusal;
 use words::part_from;
 
 // What a test finds.
-#[derive(Drop)]
+#[derive(Clone, Copy)]
 pub enum Checked {
     Accepted,
     Refused(Refusal),
 }
 
 // The rows of blocks that a packet touches, counted from 0: the first and the last that hold a block other than code 1.
-#[derive(Drop)]
+#[derive(Clone, Copy)]
 pub enum Touched {
     None,
     Rows(usize, usize),
 }
 
 // What the check of a packet finds.
-#[derive(Drop)]
+#[derive(Clone, Copy)]
 pub enum Inspected {
     Accepted(Touched),
     Refused(Refusal),

@@ -9,14 +9,14 @@ use native.Mathlib.Omega.{arith}
 use lib.ListN.{length, set}
 use Rattle.motion.specs.Motion.{raster_index}
 use Rattle.block.specs.declared.Source.{Source}
-use Rattle.block.specs.Block.{Kind, kind_of, byte_kind, source, fetched}
+use Rattle.block.specs.Block.{Kind, byte_kind, source, fetched}
 use Rattle.block.specs.Asked.{Readable, Among}
 use Rattle.pixel.proofs.Sources.{raster_below, source_among}
 use Rattle.stores.specs.Stores.{Plan, memory, first_pixels}
 use Rattle.stores.specs.Loop.{Made, Begun, Next}
 use Rattle.stores.proofs.Loop.{made_none, made_pixel, made_length, made_first}
 use Rattle.paint.specs.Value.{pixel_count, Older, flat, pixel_value, block_plan, plan_of}
-use Rattle.paint.specs.Asked.{Canvas, Drawable, ByteDrawable}
+use Rattle.paint.specs.Asked.{Canvas, ByteDrawable}
 use Rattle.paint.proofs.Counts.{count_few}
 
 -- ---- the loop

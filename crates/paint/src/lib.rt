@@ -1,5 +1,7 @@
 // The stores: one pixel, the place, and the first n pixels of a block, in order.
 // Parameters that no code reads name the list of a block's stores, for the contracts. The compiler leaves them out.
+#![tactic(auto)]
+
 ghost use Rattle.std.specs.Prelude.{◌≡◌, ◌+◌, length, set};
 ghost use Rattle.block.specs.Block.{byte_kind};
 ghost use Rattle.stores.specs.Stores.{first_pixels};

@@ -1,5 +1,7 @@
 // Opcodes 0B, 0C and 0D: a body is judged whole, by the palette's length alone, and then its stores are made one by one on the lent palette, the first of them where
 // fewer are allowed.
+#![tactic(auto)]
+
 ghost use Rattle.std.specs.Prelude.{◌≡◌, ◌+◌, ◌-◌, ◌*◌, ◌≤◌, ◌<◌, min, length, get_or, set, take};
 ghost use Rattle.listed.specs.Store.{applied, one, each, bytes, from};
 ghost use Rattle.listed.specs.Order.{Due};
@@ -13,14 +15,14 @@ use refusal::Refusal;
 use words::{byte_at, wide, word_at};
 
 // Whether a palette opcode is taken.
-#[derive(Drop)]
+#[derive(Clone, Copy)]
 pub enum Updated {
     Taken,
     Refused(Refusal),
 }
 
 // What becomes of a palette opcode, with the stores made: all that are due, or as many as were allowed.
-#[derive(Drop)]
+#[derive(Clone, Copy)]
 pub enum Changed {
     Whole(usize),
     Unfinished(usize),

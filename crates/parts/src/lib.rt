@@ -1,4 +1,6 @@
 // Bytes written into a room behind others: a part of lent bytes, or one byte several times; and the one store of a number into a lent list of numbers.
+#![tactic(auto)]
+
 ghost use Rattle.std.specs.Prelude.{◌≡◌, true, cond, ◌+◌, ◌-◌, ◌≤◌, ◌<◌, length, set, replicate};
 ghost use Rattle.parts.specs.Parts.{part, laid};
 

@@ -1,4 +1,6 @@
 // The patterned blocks, codes 7 to A: which form a block has, and which byte of its data gives each pixel.
+#![tactic(auto)]
+
 ghost use Rattle.std.specs.Prelude.{◌≡◌, ◌+◌, ◌<◌, ◌≤◌, length};
 ghost use Rattle.pattern.specs.Form.{bytes, numbers, falling, form7, form8, form9, form_a};
 ghost use Rattle.pattern.specs.Pattern.{Shaped, FieldInside, pattern_length, part_length, part_start, field_number, field_at, pattern_source};
@@ -6,7 +8,7 @@ ghost use Rattle.pattern.specs.Pattern.{Shaped, FieldInside, pattern_length, par
 use words::byte_at;
 
 // Two or four colours; then the size of a cell where the block is one part, else how it is cut into parts.
-#[derive(Drop)]
+#[derive(Clone, Copy)]
 pub enum Form {
     Two1x1,
     Two2x2,

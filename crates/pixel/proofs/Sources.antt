@@ -1,7 +1,7 @@
 -- Laws of a pixel's source, by the kind of its block, as code finds it.
 -- Assumes nothing.
 use mathlib.Core.Path.{◌≡◌, refl, sym, ap, ◌∙◌, subst}
-use mathlib.Core.Bool.{Bool, true, false, cond}
+use mathlib.Core.Bool.{Bool, true, false}
 use mathlib.Core.List.{List}
 use Prim.Native.Nat.{ℕ, ◌+◌, ◌*◌, ◌/◌, ◌≤◌, ◌<◌}
 use native.Mathlib.Omega.{arith}
@@ -18,7 +18,7 @@ use Rattle.block.specs.declared.Picture.{Picture}
 use Rattle.block.specs.declared.Picture.TheVariants.{Last, New, Oldest}
 use Rattle.block.specs.declared.Source.{Source}
 use Rattle.block.specs.declared.Source.TheVariants.{Data, Copied}
-use Rattle.block.specs.Block.{Side, pixels, Kind, same, kept, copied, patterned, celled, dithered, refused, kinds, kind_of, colour_bytes, data_length, is_refused, copy_inside, cell_source, dither_source, source, colour_at, stored, pictured, fetched}
+use Rattle.block.specs.Block.{Side, pixels, Kind, same, kept, copied, patterned, celled, dithered, refused, kinds, kind_of, colour_bytes, data_length, is_refused, copy_inside, cell_source, dither_source, source, pictured, fetched}
 use Rattle.block.specs.Asked.{Sided, last_copied, vector_at, Readable, Among}
 use Rattle.block.proofs.Codes.{code_known, copy_judged, cell, kind_6_deep, cell_inside, dither_below, colour_within}
 

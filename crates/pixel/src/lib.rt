@@ -1,4 +1,6 @@
 // The source of each pixel of a block, in films of either kind, and its value.
+#![tactic(auto)]
+
 ghost use Rattle.std.specs.Prelude.{◌≡◌, List, false, ℕ, ◌≤◌, ◌<◌, length, get_or};
 ghost use Rattle.pattern.specs.Form.{shape};
 ghost use Rattle.pattern.specs.Pattern.{pattern_length, pattern_source};

@@ -1,8 +1,10 @@
 // Why a call is refused, by name; document 01's number and block of each.
+#![tactic(auto)]
+
 ghost use Rattle.std.specs.Prelude.{◌≡◌};
 ghost use Rattle.refusal.specs.Number.{number, block};
 
-#[derive(Drop)]
+#[derive(Clone, Copy)]
 pub enum Refusal {
     // The header is wrong or short.
     Header,

@@ -1,4 +1,6 @@
 // The room that a caller lends for output: what is written starts at its front, byte after byte, and the rest stays.
+#![tactic(auto)]
+
 ghost use Rattle.std.specs.Prelude.{◌≡◌, ◌≤◌, ◌<◌, length, get_or, set, replicate};
 ghost use Rattle.room.specs.Room.{written, NextByte};
 

@@ -1,5 +1,7 @@
 // A whole block of each family of an 8-bit film, row by row: as quick as stores of one pixel allow. A row's index is that of the row above and the width: a sum, not a product.
 // Parameters that no code reads name the list of the block's stores, for the contracts. The compiler leaves them out.
+#![tactic(auto)]
+
 ghost use Rattle.std.specs.Prelude.{◌≡◌, ◌++◌, ◌+◌, ◌*◌, ◌/◌, ◌%◌, ◌≤◌, ◌<◌, length, get_or};
 ghost use Rattle.pattern.specs.Form.{numbers};
 ghost use Rattle.pattern.specs.Pattern.{Shaped, pattern_length, pattern_source};

@@ -146,7 +146,7 @@ module _ (storing : Bool) (film room₀ list₀ : List ℕ) (q : Roomy storing f
         kept = omega (arith, ap (λ (s : Saved). s.kept) e);
         bytes = ek ∙ ap length (sym b);
         lost = omega (arith, ap (λ (s : Saved). s.lost) e);
-        left_out = el ∙ ap length (sym n);
+        left_out_count = el ∙ ap length (sym n);
         rest = sym (ap (λ (s : Saved). s.rest) e);
         room_after = er ∙ ap (λ (x : List ℕ). cond storing (laid 26 x room₀) room₀) (sym b);
         list_after = en ∙ ap (λ (x : List Loss). cond storing (written (numbers_of x) list₀) list₀) (sym n);

@@ -1,18 +1,16 @@
 -- `saved_walks`: every chunk that is kept has no opcode that 3, 4 or 5 refuses, and every chunk left out has its refusal, the first met.
 -- Assumes nothing.
-use mathlib.Core.Path.{◌≡◌, refl, sym, ap, ◌∙◌}
-use mathlib.Core.Bool.{Bool, true, false}
+use mathlib.Core.Bool.{true, false}
 use mathlib.Core.List.{List}
 use Prim.Native.Nat.{ℕ, zero, suc, ◌+◌, ◌-◌, ◌≤◌, ◌<◌}
 use native.Mathlib.Omega.{arith}
 use lib.ListN.{length}
-use Rattle.state.specs.Moves.{cursor}
-use Rattle.chunks.specs.Chunks.{Condition, intact, scratched, Following, chunk_to, following_at, condition_of}
+use Rattle.chunks.specs.Chunks.{Condition, intact, scratched, Following, chunk_to, following_at}
 use Rattle.chunks.specs.Holds.{Holds}
 use Rattle.chunks.proofs.Heads.{Ahead, at_film_end, is_past, is_chunk, ahead, There}
 use Rattle.chunks.proofs.Holding.{condition_holds}
-use Rattle.salvage.specs.Salvage.{Saved, go_on, save_from, saved}
-use Rattle.salvage.specs.Walks.{Spans, Walks, stops_at_end, stops_by_2, keeps, keeps_last, leaves_out}
+use Rattle.salvage.specs.Salvage.{go_on, save_from, saved}
+use Rattle.salvage.specs.Walks.{Walks, stops_at_end, stops_by_2, keeps, keeps_last, leaves_out}
 
 module _ (film : List ℕ) where
   module _ (n e : ℕ) (l : length film - e < suc n) (ih : (x : ℕ) → x ≤ length film → length film - x < n → Walks film x (save_from n film x)) where

@@ -1,16 +1,16 @@
 -- The call: measured, refused 19, or written with its header and its end chunk.
 -- Assumes nothing.
 use mathlib.Core.Path.{◌≡◌, refl, sym, ap, ◌∙◌}
-use mathlib.Core.Bool.{Bool, true, false, cond}
+use mathlib.Core.Bool.{true, false}
 use mathlib.Core.List.{List, [], ◌∷◌, ◌++◌, append_assoc}
-use Prim.Native.Nat.{ℕ, ◌+◌, ◌-◌, ◌*◌, ◌≤◌, ◌<◌}
+use Prim.Native.Nat.{ℕ, ◌+◌, ◌*◌, ◌≤◌, ◌<◌}
 use native.Mathlib.Omega.{arith}
 use borrow.Author.Tests.{lt-ltb, le-ltb}
 use lib.ListN.{length, take, replicate, length-append}
 use lib.Seq.{length-take-le}
 use Rattle.refusal.specs.declared.Refusal.{Refusal}
 use Rattle.refusal.specs.declared.Refusal.TheVariants.{Room}
-use Rattle.refusal.specs.Number.{Verdict, accept, refuse, number, block}
+use Rattle.refusal.specs.Number.{accept, number, block}
 use Rattle.room.specs.Room.{written}
 use Rattle.room.proofs.Written.{written_none}
 use Rattle.parts.specs.Parts.{part, laid}
@@ -20,11 +20,10 @@ use Rattle.opening.specs.declared.Opened.TheVariants as opened
 use Rattle.state.specs.declared.State.{State}
 use Rattle.opening.specs.Opening as opening
 use Rattle.opening.specs.Opening.{Opening, opened_as, opening_of}
-use Rattle.salvage.specs.declared.Stopped.{Stopped}
 use Rattle.salvage.specs.declared.Walked.{Walked}
 use Rattle.salvage.specs.declared.Salvaged.{Salvaged}
 use Rattle.salvage.specs.declared.Salvaged.TheVariants.{Written, Refused}
-use Rattle.salvage.specs.Salvage.{Stop, at_end, behind_00, by_2, saved, closing, new_film, numbers_of, headed, room_verdict, verdict_of, answer_by, written_by, answer_of, bytes_after, numbers_after, stop_as, answer_as}
+use Rattle.salvage.specs.Salvage.{Stop, at_end, behind_00, by_2, saved, closing, new_film, numbers_of, headed, room_verdict, answer_by, written_by, answer_of, bytes_after, numbers_after, stop_as, answer_as}
 use Rattle.salvage.specs.Asked.{Roomy, Passed, Wrote}
 use Rattle.salvage.proofs.Sums.{sums, few_losses, has_header}
 use Rattle.salvage.proofs.Passing.{numbers_length}
@@ -77,7 +76,7 @@ module _ (film room₀ list₀ : List ℕ) (h : 26 ≤ length film) (w : Walked)
   kept_fits = omega (arith, p.kept, sums film h)
 
   pub losses_fit : 4 * w.left_out ≤ length film
-  losses_fit = omega (arith, p.left_out, few_losses film h, sums film h)
+  losses_fit = omega (arith, p.left_out_count, few_losses film h, sums film h)
 
   pub sum_fits : (cl : ℕ) → cl ≡ length (closing (stop_as w.stop)) → 26 + w.kept + cl ≤ length film + 8
   sum_fits cl ec = omega (arith, kept_fits, ec, few (stop_as w.stop))
@@ -95,7 +94,7 @@ module _ (film room₀ list₀ : List ℕ) (h : 26 ≤ length film) (w : Walked)
       omega (arith, p.bytes, ec, ap length same_closing, head_long, length-append (take 26 film) ((saved film).bytes ++ closing (saved film).stop), length-append (saved film).bytes (closing (saved film).stop))
 
   numbers : 3 * w.left_out ≡ length (numbers_of (saved film).losses)
-  numbers = ap (λ (n : ℕ). 3 * n) p.left_out ∙ sym (numbers_length (saved film).losses)
+  numbers = ap (λ (n : ℕ). 3 * n) p.left_out_count ∙ sym (numbers_length (saved film).losses)
 
   pub wrote_short : length room₁ < 26 + w.kept + cl → Wrote film room₀ list₀ (Refused Room) room₁ list₁
   unfolding room_verdict answer_by written_by
@@ -139,7 +138,7 @@ module _ (film room₀ list₀ : List ℕ) (h : 26 ≤ length film) (w : Walked)
             e₄ ∙ laid_behind (take 26 film ++ (saved film).bytes) (closing (stop_as w.stop)) room₀ room₃ (26 + w.kept) chunks n
             ∙ rw (same_closing, append_assoc (take 26 film) (saved film).bytes (closing (saved film).stop)) in
             record {
-              answer = rw (le-ltb _ _ enough, le-ltb _ _ q) (rw (need, p.stop, p.kept, p.lost, p.left_out, p.rest));
+              answer = rw (le-ltb _ _ enough, le-ltb _ _ q) (rw (need, p.stop, p.kept, p.lost, p.left_out_count, p.rest));
               room_after = rw (le-ltb _ _ enough, le-ltb _ _ q) z;
               list_after = rw (le-ltb _ _ enough, le-ltb _ _ q) (t.list_after ∙ ap (written (numbers_of (saved film).losses)) p.list_after);
             }

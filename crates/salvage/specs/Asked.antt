@@ -1,7 +1,6 @@
 -- What the functions below the call ask of their callers, and what they give.
 -- Assumes nothing.
 use Rattle.std.specs.Prelude.{◌≡◌, Bool, true, cond, List, ℕ, ◌+◌, ◌*◌, ◌≤◌, length}
-use Rattle.refusal.specs.Number.{Verdict}
 use Rattle.room.specs.Room.{written}
 use Rattle.parts.specs.Parts.{laid}
 use Rattle.salvage.specs.declared.Stopped.{Stopped}

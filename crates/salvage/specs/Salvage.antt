@@ -1,15 +1,14 @@
 -- What is left of a scratched film (document 02, W13). A chunk is kept where no opcode of it is refused 3, 4 or 5, else it is left out and listed.
 -- Assumes nothing.
-use Rattle.std.specs.Prelude.{Bool, true, false, cond, List, [], ◌∷◌, ◌++◌, ℕ, zero, suc, ◌+◌, ◌-◌, ◌*◌, ltb, length, take}
+use Rattle.std.specs.Prelude.{true, false, cond, List, [], ◌∷◌, ◌++◌, ℕ, zero, suc, ◌+◌, ◌-◌, ltb, length, take}
 use Rattle.refusal.specs.Number.{Verdict, accept, refuse, number, block}
 use Rattle.room.specs.Room.{written}
 use Rattle.parts.specs.Parts.{part}
 use Rattle.opening.specs.Opening as opening
 use Rattle.opening.specs.Opening.{Opening, opening_of}
-use Rattle.chunks.specs.Chunks.{Condition, intact, scratched, Following, film_end, past_end, chunk_to, following_at}
+use Rattle.chunks.specs.Chunks.{intact, scratched, Following, film_end, past_end, chunk_to, following_at}
 use Rattle.salvage.specs.declared.Stopped.{Stopped}
 use Rattle.salvage.specs.declared.Stopped.TheVariants.{AtEnd, Behind00, By2}
-use Rattle.salvage.specs.declared.Walked.{Walked}
 use Rattle.salvage.specs.declared.Salvaged.{Salvaged}
 use Rattle.salvage.specs.declared.Salvaged.TheVariants.{Written, Refused}
 

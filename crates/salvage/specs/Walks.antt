@@ -1,6 +1,6 @@
 -- The walk chunk by chunk, with what is known of every chunk that is kept and of every one that is left out.
 -- Assumes nothing.
-use Rattle.std.specs.Prelude.{◌≡◌, Bool, true, false, List, ℕ, ◌+◌, ◌-◌, ◌≤◌, ◌<◌, length}
+use Rattle.std.specs.Prelude.{◌≡◌, true, false, List, ℕ, ◌+◌, ◌-◌, ◌≤◌, ◌<◌, length}
 use Rattle.words.specs.Word.{word_at}
 use Rattle.chunks.specs.Holds.{Passes, Fails}
 use Rattle.salvage.specs.Salvage.{Saved, at_end, behind_00, by_2, no_more, keeping, losing}

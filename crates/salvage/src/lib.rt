@@ -1,4 +1,6 @@
 // What is left of a scratched film (document 02, W13): chunks whose opcodes are not refused 3, 4 or 5 are kept, the others are listed. Measured first, then written.
+#![tactic(auto)]
+
 ghost use Rattle.std.specs.Prelude.{◌≡◌, true, cond, ◌+◌, ◌-◌, ◌*◌, ◌≤◌, length, set};
 ghost use Rattle.parts.specs.Parts.{laid};
 ghost use Rattle.salvage.specs.Salvage.{closing, stop_as, answer_as, answer_of, bytes_after, numbers_after};
@@ -11,7 +13,7 @@ use refusal::{Refusal, number_of};
 use words::wide;
 
 // How the walk over chunks stops: at the film's end, behind a kept chunk with 00, or at refusal 2.
-#[derive(Drop)]
+#[derive(Clone, Copy)]
 pub enum Stopped {
     AtEnd,
     Behind00,
@@ -19,7 +21,7 @@ pub enum Stopped {
 }
 
 // kept, lost: the bytes of the chunks kept and left out, with their heads. left_out: how many are left out. rest: the bytes that are not walked.
-#[derive(Drop)]
+#[derive(Clone, Copy)]
 pub struct Walked {
     pub stop: Stopped,
     pub kept: usize,
@@ -29,7 +31,7 @@ pub struct Walked {
 }
 
 // Written: the length of the new film, and what the walk counted.
-#[derive(Drop)]
+#[derive(Clone, Copy)]
 pub enum Salvaged {
     Written(usize, Walked),
     Refused(Refusal),

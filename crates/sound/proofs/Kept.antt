@@ -9,7 +9,6 @@ use borrow.Author.Tests.{ltb-false}
 use lib.ListN.{length, drop, length-replicate}
 use Rattle.words.specs.Word.{word_at}
 use Rattle.words.proofs.Tests.{first, not_first}
-use Rattle.room.specs.Room.{written}
 use Rattle.room.proofs.Written.{written_front, written_rest}
 use Rattle.sound.specs.Format.{masked}
 use Rattle.sound.specs.Step.{Step, taken, room_after, even, sample_bytes, within, data_step, silence, silence_step}

@@ -1,4 +1,6 @@
 // Opcodes 03, 08 and 09, for the stream that opening was given.
+#![tactic(auto)]
+
 ghost use Rattle.std.specs.Prelude.{◌≡◌, cond, ℕ, ◌*◌, ◌≤◌, ◌<◌, eqb, length};
 ghost use Rattle.room.specs.Room.{written};
 ghost use Rattle.sound.specs.Format.{is_set, chosen, masked, format_of, possible_format, possible_sound, first_sound, afresh as afreshAs, going_on};
@@ -11,7 +13,7 @@ use room::{put_all, put_same};
 use words::{part_from, word_at};
 
 // What the last 03 said. wide: 16-bit samples, else 8-bit. compressed: 16-bit samples by steps.
-#[derive(Drop)]
+#[derive(Clone, Copy)]
 pub enum Format {
     Unknown,
     Known {
@@ -22,7 +24,7 @@ pub enum Format {
 }
 
 // stream: the chosen one; above 15 none is. begun: a compressed 08 was taken since the last 03. left, right: the last sample of each channel.
-#[derive(Drop)]
+#[derive(Clone, Copy)]
 pub struct Sound {
     pub stream: usize,
     pub format: Format,
@@ -32,7 +34,7 @@ pub struct Sound {
 }
 
 // What becomes of a sound opcode: the sound then, and the bytes written.
-#[derive(Drop)]
+#[derive(Clone, Copy)]
 pub enum Heard {
     Taken(Sound, usize),
     Refused(Refusal),

@@ -1,4 +1,6 @@
 // The state of a walk over a film, its tests, and the shown picture.
+#![tactic(auto)]
+
 ghost use Rattle.std.specs.Prelude.{◌≡◌, ◌+◌, ◌<◌, ◌^◌, leb};
 ghost use Rattle.packet.specs.Verdict.{told};
 ghost use Rattle.state.specs.Moves.{cursor_behind, cursor_into, cursor_at_end, at, behind, into, at_end, sized, shown_next, sent, mapped, heard, finished};
@@ -9,14 +11,14 @@ use refusal::Refusal;
 use sound::Sound;
 
 // Where the next head stands, and where the chunk around it ends.
-#[derive(Drop)]
+#[derive(Clone, Copy)]
 pub struct Cursor {
     pub position: usize,
     pub chunk_end: usize,
 }
 
 // The pending map: a part of the film, by its start and length.
-#[derive(Drop)]
+#[derive(Clone, Copy)]
 pub enum Map {
     Missing,
     Part(usize, usize),
@@ -24,7 +26,7 @@ pub enum Map {
 
 // columns, rows: the size in blocks, 0 by 0 before opcode 05. deep: the film has true colour, false before 05. front: which lent picture is shown, 0 or 1, of pictures of
 // words 0 to 2. unsent: a frame is finished and not yet sent. sound: the chosen stream, its format and its last samples.
-#[derive(Drop)]
+#[derive(Clone, Copy)]
 pub struct State {
     pub cursor: Cursor,
     pub columns: usize,

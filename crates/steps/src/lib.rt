@@ -1,5 +1,7 @@
 // The 256 steps, as 16-bit two's complement. A dense `match` becomes a table among the archive's constants; a constant array would be built on the stack, 512
 // bytes, wherever it is named.
+#![tactic(auto)]
+
 ghost use Rattle.std.specs.Prelude.{◌≡◌, get_or};
 ghost use Rattle.steps.specs.Steps.{steps};
 

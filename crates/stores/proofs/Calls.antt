@@ -11,7 +11,7 @@ use native.Mathlib.Omega.{arith}
 use borrow.Author.Tests.{eqb-true, eq-eqb, ltb-true}
 use lib.Dec.{eqb, ltb}
 use lib.ListN.{length, length-take}
-use lib.Seq.{take_take}
+use lib.Seq.{take-take}
 use Rattle.stores.specs.Stores.{Plan, due, Memory, memory, run, after, count, final, book, Sized, Lawful}
 use Rattle.stores.specs.Calls.{Call, refused, allowed, Answer, whole, Outcome, answered, leave, outcome, leave_cut, fed, ample, Calling, Event, returns, cut, call_of, step, reply, happens, says, ample_at, Returning, CutWithin, finally, outcomes, Each, ample_calls, Fair, booked, book_happens, book_finally, book_outcomes, AsBooked}
 use Rattle.stores.proofs.Recover.{Reached, reached_first, reached_final, going, rises}
@@ -76,7 +76,7 @@ unfolding leave_cut leave fed outcome after count
 cut_allowed d t none m (refused r) j h = refl
 cut_allowed d t none m (allowed n) j h =
     let l = due d m.place in
-    ap (run d m) (take_take j n l (omega (arith, length-take n l)))
+    ap (run d m) (take-take j n l (omega (arith, length-take n l)))
 
 fed_allowed : {R : Type 0} (v : Call R) (j n : ℕ) → fed j v ≡ allowed n → (n' : ℕ) × (v ≡ allowed n')
 unfolding fed

@@ -7,7 +7,7 @@ use native.Mathlib.Nat.{zero-add}
 use native.Mathlib.Numerals.{add-one}
 use native.Mathlib.Omega.{arith}
 use lib.ListN.{length, set, take, drop, length-append, length-drop}
-use lib.Seq.{take_all, take_at, drop_at, take_add, drop-drop, length-take-le}
+use lib.Seq.{take_all, take_at, drop_at, take-add, drop-drop, length-take-le}
 use Rattle.stores.specs.Stores.{Plan, Store, place, pixels, due, rest, Memory, memory, apply, run, first_pixels, after, count}
 use Rattle.stores.specs.Calls.{Call, refused, allowed, refusal, leave, outcome}
 use Rattle.stores.specs.Loop.{Made, Called}
@@ -30,7 +30,7 @@ module _ (d : Plan) (m₀ : Memory) (j k i : ℕ) (b : List ℕ) (h : Made d m�
   more n a r q e =
       let l = due d m₀.place in
       let taken : take (j + n) l ≡ take j l ++ a =
-      take_add j n l ∙ ap (λ (x : List Store). take j l ++ take n x) e ∙ ap (λ (x : List Store). take j l ++ x) (take_at a r n q) in
+      take-add j n l ∙ ap (λ (x : List Store). take j l ++ take n x) e ∙ ap (λ (x : List Store). take j l ++ x) (take_at a r n q) in
       record {
         now = ap (λ (m : Memory). run d m a) h.now ∙ sym (run_append d m₀ (take j l) a) ∙ ap (run d m₀) (sym taken);
         left = sym (drop-drop n j l) ∙ ap (drop n) e ∙ drop_at a r n q;

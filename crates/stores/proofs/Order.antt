@@ -2,14 +2,14 @@
 -- code has found is a variable with an equation.
 use mathlib.Core.Path.{◌≡◌, refl, sym, ap, ◌∙◌}
 use mathlib.Core.Logic.{◌≢◌}
-use mathlib.Core.List.{List, [], ◌∷◌, ◌++◌}
+use mathlib.Core.List.{List}
 use Prim.Native.Nat.{ℕ, zero, suc, ◌+◌, ◌<◌}
 use native.Mathlib.Nat.{zero-add}
 use native.Mathlib.Numerals.{add-one}
 use native.Mathlib.Omega.{arith}
 use lib.ListN.{length, get_or, set}
 use lib.Seq.{get_or-set_other}
-use Rattle.stores.specs.Stores.{Plan, Store, pixel, pixels, Memory, memory, apply, run, first_pixels, further}
+use Rattle.stores.specs.Stores.{Plan, Store, pixels, Memory, memory, apply, run, first_pixels, further}
 use Rattle.stores.specs.Loop.{Begun}
 use Rattle.stores.proofs.Steps.{run_append, run_length, run_pixels, pixels_add}
 use Rattle.stores.proofs.Pixels.{first_none}

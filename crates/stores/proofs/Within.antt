@@ -8,7 +8,7 @@ use native.Mathlib.Omega.{arith}
 use borrow.Author.Tests.{lt-ltb, le-ltb}
 use lib.Dec.{ltb}
 use lib.ListN.{length, get_or, set, take, drop, length-set, length-take, length-drop}
-use lib.Seq.{get_or-set_same, get_or-set_other, get_or-take, get_or-drop, ext_get_or, take_all, take_take}
+use lib.Seq.{get_or-set_same, get_or-set_other, get_or-take, get_or-drop, ext_get_or, take_all, take-take}
 use Rattle.stores.specs.Stores.{Plan, due, Memory, memory, run, first_pixels, after}
 use Rattle.stores.specs.Calls.{Call, allowed, leave_cut}
 use Rattle.stores.proofs.Steps.{after_end, after_part, after_block, by_blocks}
@@ -117,5 +117,5 @@ cut_least d m v n j q =
           take_all j (take n l) (omega (arith, length-take n l)) ∙ ap (λ (x : ℕ). take x l) (sym e)
       | no h ↦
           let e : min j n ≡ j = omega arith in
-          take_take j n l (omega arith) ∙ ap (λ (x : ℕ). take x l) (sym e)
+          take-take j n l (omega arith) ∙ ap (λ (x : ℕ). take x l) (sym e)
     ]))

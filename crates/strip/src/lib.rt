@@ -1,4 +1,6 @@
 // A film without what the player passes over (document 02, W14): tested and measured first, then written.
+#![tactic(auto)]
+
 ghost use Rattle.std.specs.Prelude.{◌≡◌, true, ◌+◌, ◌≤◌, ◌<◌, length};
 ghost use Rattle.words.specs.Word.{word_at};
 ghost use Rattle.parts.specs.Parts.{laid};
@@ -18,7 +20,7 @@ use state::Cursor;
 use words::word_at;
 
 // Written: the length of the new film.
-#[derive(Drop)]
+#[derive(Clone, Copy)]
 pub enum Stripped {
     Written(usize),
     Refused(Refusal),

@@ -3,7 +3,7 @@
 use mathlib.Core.Path.{◌≡◌, refl, sym, ap, ap₂, ◌∙◌, subst}
 use mathlib.Core.Bool.{Bool, true, false, cond}
 use mathlib.Core.List.{List, [], ◌∷◌, ◌++◌, append-nil}
-use Prim.Native.Nat.{ℕ, ◌+◌, ◌-◌, ◌≤◌, ◌<◌}
+use Prim.Native.Nat.{ℕ, ◌+◌, ◌≤◌, ◌<◌}
 use native.Mathlib.Omega.{arith}
 use borrow.Author.Tests.{eq-eqb, ne_eqb, le-ltb}
 use lib.ListN.{length, get_or, take, length-append}
@@ -17,7 +17,7 @@ use Rattle.state.specs.declared.Cursor.{Cursor}
 use Rattle.state.specs.declared.State.{State}
 use Rattle.state.specs.State.{state_verdict, area, shortest_of, lent_verdict, shown_of, shown_words_of}
 use Rattle.state.specs.State as shown
-use Rattle.state.specs.Moves.{cursor, cursor_behind, cursor_into, at, behind, into, cursor_at_end}
+use Rattle.state.specs.Moves.{cursor, cursor_behind, cursor_into, at, into, cursor_at_end}
 use Rattle.heads.specs.declared.Opcode.{Opcode}
 use Rattle.heads.specs.Heads.{chunk_of, chunk_at}
 use Rattle.heads.specs.Heads as heads
@@ -326,6 +326,18 @@ module _ (film out : List ℕ) (stream : ℕ) (allowed : Allowed) where
               both_go st st' (led e1 ∙ ap lead_of q) (led e2 ∙ ap lead_of q') lents
               (same_given film out st st st' st' (step_of film st allowed l) (step_of out st' allowed l) R.alike R.alike counts lents) R
           by x y q q' (is_refused n k) (is_refused m j) (both_refused i w) = both_stop (by_refusal i w) (led e1 ∙ ap lead_of q) (led e2 ∙ ap lead_of q')
+          by _ _ q q' (on_taken c) (on_whole c') x15 = elim x15 [ ]
+          by _ _ q q' (on_taken c) stays x15 = elim x15 [ ]
+          by _ _ q q' (on_taken c) (is_refused m j) x16 = elim x16 [ ]
+          by _ _ q q' (on_whole c) (on_taken c') x14 = elim x14 [ ]
+          by _ _ q q' (on_whole c) stays x14 = elim x14 [ ]
+          by _ _ q q' (on_whole c) (is_refused m j) x15 = elim x15 [ ]
+          by _ _ q q' stays (on_taken c') x15 = elim x15 [ ]
+          by _ _ q q' stays (on_whole c') x16 = elim x16 [ ]
+          by _ _ q q' stays (is_refused m j) x16 = elim x16 [ ]
+          by _ _ q q' (is_refused n k) (on_taken c') x16 = elim x16 [ ]
+          by _ _ q q' (is_refused n k) (on_whole c') x17 = elim x17 [ ]
+          by _ _ q q' (is_refused n k) stays x17 = elim x17 [ ]
 
       -- 00
       by_last : (o : Opcode) → Stands film st.cursor o → o.kind ≡ 0 → part film p (end_of o) ≡ R.b → Match st st' l

@@ -1,1 +1,2 @@
 // No code: what is left of a film plays as the film does.
+#![tactic(auto)]

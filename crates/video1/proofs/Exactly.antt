@@ -68,7 +68,7 @@ accepts s total at k (marked e w) (suc n) l =
 accepts s total at k (passed h t p u) (suc n) l =
     let b : long_of (code_at s at) ≤ length s - at = omega arith in
     let c : passed_by (code_at s at) ≤ total - k = omega arith in
-    rw (lt-ltb _ _ h, le-ltb _ _ b, le-ltb _ _ c) (accepts s total _ _ u n (omega (arith, (long_some (code_at s at)).0)))
+    rw (lt-ltb _ _ h, le-ltb _ _ b, le-ltb _ _ c) (accepts s total (at + long_of (code_at s at)) _ u n (omega (arith, (long_some (code_at s at)).0)))
 
 pub exactly : (s : List ℕ) (total : ℕ) → (walk_verdict s total ≡ accept → UsesUp s total 0 0) × (UsesUp s total 0 0 → walk_verdict s total ≡ accept)
 unfolding walk_verdict

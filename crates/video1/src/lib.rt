@@ -1,5 +1,7 @@
 // Microsoft Video 1, 8-bit frames (source document 001): the data is walked and judged whole, then walked again and its pixels are stored.
 // Parameters that no code reads name the list of a block's stores, for the contracts. The compiler leaves them out.
+#![tactic(auto)]
+
 ghost use Rattle.std.specs.Prelude.{◌≡◌, ◌+◌, ◌*◌, ◌/◌, ◌≤◌, ◌<◌, length, get_or, set};
 ghost use Rattle.packet.specs.Verdict.{told};
 ghost use Rattle.stores.specs.Stores.{first_pixels, further, final};
@@ -14,7 +16,7 @@ use refusal::Refusal;
 use words::{byte_at, wide, word_at};
 
 // What the two bytes of a code say: blocks to skip, or one block of two, eight or one colours.
-#[derive(Drop)]
+#[derive(Clone, Copy)]
 pub enum Code {
     Skip(usize),
     Two,

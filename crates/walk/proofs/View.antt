@@ -77,7 +77,7 @@ module _ (film : List ℕ) (st : State) (allowed : Allowed) (l : Lent) where
         by false false false false true e f g h i = colours o _ a u (masks (eqb-true _ _ i))
         by false false false false false e f g h i =
             others o a u
-            (record { not_0_b = eqb-false _ _ g; not_0_c = eqb-false _ _ h; not_0_d = eqb-false _ _ i; not_0_f = eqb-false _ _ e; not_11 = eqb-false _ _ f })
+            (record { not_0b = eqb-false _ _ g; not_0c = eqb-false _ _ h; not_0d = eqb-false _ _ i; not_0f = eqb-false _ _ e; not_11 = eqb-false _ _ f })
 
   by_opcode : (o : Opcode) → AtOpcode film st l o → View film st allowed l (take_on film st o allowed l)
   unfolding take_on

@@ -49,10 +49,10 @@ pub data Unmapped (st : State) : Type 0 where
 
 -- a type that is none of 0B, 0C, 0D, 0F and 11
 pub record Other (kind : ℕ) : Type 0 where
-  pub not_0_b : kind ≡ 11 → ⊥
-  pub not_0_c : kind ≡ 12 → ⊥
-  pub not_0_d : kind ≡ 13 → ⊥
-  pub not_0_f : kind ≡ 15 → ⊥
+  pub not_0b : kind ≡ 11 → ⊥
+  pub not_0c : kind ≡ 12 → ⊥
+  pub not_0d : kind ≡ 13 → ⊥
+  pub not_0f : kind ≡ 15 → ⊥
   pub not_11 : kind ≡ 17 → ⊥
 
 pub data View (film : List ℕ) (st : State) (allowed : Allowed) (l : Lent) : Outcome → Type 0 where

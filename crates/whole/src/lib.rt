@@ -1,4 +1,6 @@
 // A whole block of any code of an 8-bit film: all the pixels that it stores.
+#![tactic(auto)]
+
 ghost use Rattle.std.specs.Prelude.{◌≡◌, false, ◌≤◌, ◌<◌, length};
 ghost use Rattle.pattern.specs.Form.{shape};
 ghost use Rattle.pattern.specs.Pattern.{pattern_length, pattern_source};

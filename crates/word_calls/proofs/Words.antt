@@ -12,7 +12,7 @@ use Rattle.block.specs.declared.Source.{Source}
 use Rattle.block.specs.declared.Source.TheVariants.{Data, Copied}
 use Rattle.block.specs.Block.{fetched}
 use Rattle.paint.specs.Value.{pixel_value}
-use Rattle.packet.specs.Packet.{first_part, second_part, packet_in, blocks, code, data_of, offsets_of}
+use Rattle.packet.specs.Packet.{first_part, second_part, packet_in, code, data_of, offsets_of}
 use Rattle.packet.specs.declared.Touched.TheVariants.{Rows}
 use Rattle.packet.specs.Rows.{touched}
 use Rattle.packet.proofs.Walk.{code_below}

@@ -1,4 +1,6 @@
 // The drawing call of a film with true colour: every test, then the stores still due from the place, as many as are allowed.
+#![tactic(auto)]
+
 ghost use Rattle.std.specs.Prelude.{◌≡◌, true, length};
 ghost use Rattle.packet.specs.Packet.{packet_in};
 ghost use Rattle.packet.specs.Verdict.{default, strict};

@@ -1,6 +1,8 @@
 // A whole block of codes B to E of a film with true colour, whose colours stand in its data, row by row: as quick as stores of one word allow. The copied ones are in
 // `word_rows`, the patterned ones in `word_patterns`.
 // Parameters that no code reads name the list of the block's stores, for the contracts. The compiler leaves them out.
+#![tactic(auto)]
+
 ghost use Rattle.std.specs.Prelude.{◌≡◌, true, ◌+◌, ◌*◌, ◌/◌, ◌≤◌, ◌<◌, length};
 ghost use Rattle.motion.specs.Motion.{raster_index};
 ghost use Rattle.block.specs.declared.Source.TheVariants.{Data};

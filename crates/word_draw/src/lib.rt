@@ -1,4 +1,6 @@
 // The loop over the blocks of a packet with true colour: the stores still due from the place, as many as are allowed.
+#![tactic(auto)]
+
 ghost use Rattle.std.specs.Prelude.{true, length};
 ghost use Rattle.packet.specs.Packet.{parted};
 ghost use Rattle.stores.specs.Stores.{memory};

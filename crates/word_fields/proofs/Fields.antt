@@ -1,7 +1,12 @@
 -- A field of a few bits is read off the number that the bytes around it make.
 -- Assumes nothing.
-use Rattle.std.proofs.Common.{◌≡◌, ℕ, zero, suc, ◌+◌, ◌-◌, ◌*◌, ◌/◌, ◌%◌, ◌^◌, ◌<◌, ◌≤◌, ◌⊎◌, List, get_or, sym, ap, ◌∙◌, inl, inr, mul_assoc, arith}
-use native.Mathlib.Nat.{pow-succ', one-le-pow, mod-add-div, div-div-eq-div-mul, add-mul-div_left, add-mul-mod_self_left}
+use mathlib.Core.Path.{◌≡◌, sym, ap, ◌∙◌}
+use mathlib.Core.Logic.{◌⊎◌, inl, inr}
+use mathlib.Core.List.{List}
+use Prim.Native.Nat.{ℕ, zero, suc, ◌+◌, ◌-◌, ◌*◌, ◌/◌, ◌%◌, ◌^◌, ◌≤◌, ◌<◌}
+use native.Mathlib.Nat.{pow-succ', one-le-pow, mul_assoc, mod-add-div, div-div-eq-div-mul, add-mul-div_left, add-mul-mod_self_left}
+use native.Mathlib.Omega.{arith}
+use lib.ListN.{get_or}
 use Rattle.pattern.specs.Pattern.{field_at}
 use Rattle.word_fields.specs.Layout.{little_endian, AreBytes}
 

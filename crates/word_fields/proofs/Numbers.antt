@@ -1,6 +1,13 @@
 -- Laws of the code's own: a colour chosen by the low bits of a number, the word that begins at a byte, and bytes read as one number.
 -- Assumes nothing.
-use Rattle.std.proofs.Common.{◌≡◌, ℕ, zero, suc, ◌+◌, ◌-◌, ◌*◌, ◌/◌, ◌%◌, ◌<◌, ◌≤◌, true, cond, eqb, ◌⊎◌, List, [], ◌∷◌, get_or, refl, ap, ◌∙◌, inl, inr, ⊎_elim, arith}
+use mathlib.Core.Path.{◌≡◌, refl, ap, ◌∙◌}
+use mathlib.Core.Logic.{◌⊎◌, inl, inr, ⊎_elim}
+use mathlib.Core.Bool.{true, cond}
+use mathlib.Core.List.{List, [], ◌∷◌}
+use Prim.Native.Nat.{ℕ, zero, suc, ◌+◌, ◌-◌, ◌*◌, ◌/◌, ◌%◌, ◌≤◌, ◌<◌}
+use native.Mathlib.Omega.{arith}
+use lib.Dec.{eqb}
+use lib.ListN.{get_or}
 use Rattle.words.specs.Word.{word_at}
 use Rattle.block.specs.Block.{colour_at, stored}
 use Rattle.rows.specs.Row.{colours}
@@ -16,23 +23,20 @@ pick_two a b (suc (suc m)) h = absurd (let z : ⊥ = omega arith in z)
 pub of_two : (k a b r : ℕ) → r ≡ cond (eqb (k % 2) 0) a b → r % 32768 ≡ stored true (get_or (a ∷ b ∷ []) (k % 2) 0)
 of_two k a b r e = ap (stored true) (e ∙ pick_two a b (k % 2) (omega arith))
 
--- even, odd: the steps from c to a and from d to b; between: the step from odd to even
-module _ (a b c d even odd between : ℕ) (he : (even + c % 32768) % 65536 ≡ a % 32768) (ho : (odd + d % 32768) % 65536 ≡ b % 32768) (hb : (between + odd) % 65536 ≡ even) where
-  pick_four : (m : ℕ) → m < 4
-      → (cond (eqb (m % 2) 0) (c % 32768) (d % 32768) + cond (eqb (m / 2) 0) ((odd + cond (eqb (m % 2) 0) between 0) % 65536) 0) % 65536 ≡ stored true (get_or (colours a b c d) m 0)
-  pick_four zero h = omega (arith, he, hb)
-  pick_four (suc zero) h = omega (arith, ho)
-  pick_four (suc (suc zero)) h = omega arith
-  pick_four (suc (suc (suc zero))) h = omega arith
-  pick_four (suc (suc (suc (suc m)))) h = absurd (let z : ⊥ = omega arith in z)
+pick_four : (a b c d m : ℕ) → m < 4 → cond (eqb (m / 2) 0) (cond (eqb (m % 2) 0) a b) (cond (eqb (m % 2) 0) c d) ≡ get_or (colours a b c d) m 0
+pick_four a b c d zero h = refl
+pick_four a b c d (suc zero) h = refl
+pick_four a b c d (suc (suc zero)) h = refl
+pick_four a b c d (suc (suc (suc zero))) h = refl
+pick_four a b c d (suc (suc (suc (suc m)))) h = absurd (let z : ⊥ = omega arith in z)
 
-  -- u, v: what the low bit chooses; t: the step to the first two; w: that, where the high bit asks for it
-  pub of_four : (k u t v w r : ℕ) → u ≡ cond (eqb (k % 2) 0) between 0 → t ≡ (odd + u) % 65536 → v ≡ cond (eqb (k % 2) 0) (c % 32768) (d % 32768) → w ≡ cond (eqb (k / 2 % 2) 0) t 0
-      → r ≡ (v + w) % 65536 → r ≡ stored true (get_or (colours a b c d) (k % 4) 0)
-  of_four k u t v w r eu et ev ew e =
-      let f : k / 2 % 2 ≡ k % 4 / 2 = omega arith in
-      let g : k % 2 ≡ k % 4 % 2 = omega arith in
-      e ∙ rw (ev, ew, et, eu, f, g) (pick_four (k % 4) (omega arith))
+-- u, v: what the low bit chooses of each pair
+pub of_four : (k a b c d u v r : ℕ) → u ≡ cond (eqb (k % 2) 0) a b → v ≡ cond (eqb (k % 2) 0) c d → r ≡ cond (eqb (k / 2 % 2) 0) u v
+    → r % 32768 ≡ stored true (get_or (colours a b c d) (k % 4) 0)
+of_four k a b c d u v r eu ev e =
+    let f : k / 2 % 2 ≡ k % 4 / 2 = omega arith in
+    let g : k % 2 ≡ k % 4 % 2 = omega arith in
+    ap (stored true) (e ∙ rw (eu, ev, f, g) (pick_four a b c d (k % 4) (omega arith)))
 
 -- ---- bytes read as one number
 

@@ -1,7 +1,7 @@
 -- How a patterned block of a film with true colour is drawn: in bands, rows of pixels whose fields are one number of at most eight bytes. In a band there is one part, or two
 -- side by side; the left four pixels of a row are of the left part, the right four of the right one.
 -- Assumes nothing.
-use Rattle.std.specs.Prelude.{◌≡◌, ℕ, zero, suc, ◌+◌, ◌*◌, ◌/◌, ◌%◌, ◌^◌, ◌<◌, true, cond, ◌⊎◌, List, nat_lt, slice_index}
+use Rattle.std.specs.Prelude.{◌≡◌, ◌⊎◌, true, cond, List, ℕ, zero, suc, ◌+◌, ◌*◌, ◌/◌, ◌%◌, ◌^◌, ◌<◌, ltb, get_or}
 use Rattle.pattern.specs.declared.Form.{Form}
 use Rattle.pattern.specs.declared.Form.TheVariants.{Two1x1, Two2x2, TwoQuarters, TwoLeftRight, TwoTopBottom, Four1x1, Four2x2, Four2x1, Four1x2, FourQuarters, FourLeftRight, FourTopBottom}
 use Rattle.block.specs.Block.{stored}
@@ -29,11 +29,11 @@ layout FourTopBottom = laid_out 2 1 1 4 16 0 16 8 16 8
 -- the number that n bytes of s from q on make, the first byte the lowest
 unfoldable pub little_endian : List ℕ → ℕ → ℕ → ℕ
 little_endian s q zero = 0
-little_endian s q (suc n) = slice_index s q + 256 * little_endian s (q + 1) n
+little_endian s q (suc n) = get_or s q 0 + 256 * little_endian s (q + 1) n
 
 -- the n elements of s from q on are bytes
 abbrev pub AreBytes : List ℕ → ℕ → ℕ → Type 0
-AreBytes s q n = (k : ℕ) → k < n → slice_index s (q + k) < 256
+AreBytes s q n = (k : ℕ) → k < n → get_or s (q + k) 0 < 256
 
 -- the numbers of bytes that a band's fields have
 abbrev pub FieldBytes : ℕ → Type 0
@@ -41,4 +41,4 @@ FieldBytes n = (n ≡ 2) ⊎ (n ≡ 4) ⊎ (n ≡ 8)
 
 -- what is stored at column j of a row: left and right are the fields of its two halves, the lowest first, l and r the colours that they choose from
 unfoldable pub row_colour : ℕ → ℕ → ℕ → ℕ → List ℕ → List ℕ → ℕ → ℕ
-row_colour bits wide left right l r j = stored true (slice_index (cond (nat_lt j 4) l r) (cond (nat_lt j 4) left right / 2 ^ (j % 4 / wide * bits) % 2 ^ bits))
+row_colour bits wide left right l r j = stored true (get_or (cond (ltb j 4) l r) (cond (ltb j 4) left right / 2 ^ (j % 4 / wide * bits) % 2 ^ bits) 0)

@@ -1,16 +1,17 @@
 // The fields of a patterned block of a film with true colour: how the rows of each form are laid out, fields read as one number, and the colour that a field chooses.
-ghost use Rattle.std.specs.Prelude.{◌≡◌, ◌+◌, ◌%◌, ◌<◌, ◌≤◌, true, [], ◌∷◌, length, if◌then◌else◌, slice_index};
+#![tactic(auto)]
+
+ghost use Rattle.std.specs.Prelude.{◌≡◌, true, cond, [], ◌∷◌, ◌+◌, ◌%◌, ◌≤◌, ◌<◌, length, get_or};
 ghost use Rattle.block.specs.Block.{colour_at, stored};
 ghost use Rattle.rows.specs.Row.{colours};
 ghost use Rattle.word_fields.specs.Layout.{laid_out, layout, little_endian, AreBytes, FieldBytes};
 
 use pattern::Form;
-use std::num::{wrapping_add_u16, wrapping_sub_u16};
 use word_paint::widened;
 use words::wide;
 
 // The numbers by which a form is drawn, in bands (specs/Layout).
-#[derive(Drop)]
+#[derive(Clone, Copy)]
 pub struct Layout {
     // bits of a field
     pub bits: usize,
@@ -82,7 +83,7 @@ pub fn layout_of(form: Form) -> Layout
 }
 
 fn choose_word(test: bool, a: u16, b: u16) -> u16
-    ensures { result ≡ (if test then a else b) }
+    ensures { result ≡ cond test a b }
 {
     if test {
         return a;
@@ -92,25 +93,20 @@ fn choose_word(test: bool, a: u16, b: u16) -> u16
 
 // The colour of two that the low bit of k chooses, as it is stored.
 pub fn of_two(k: u16, a: u16, b: u16) -> u16
-    ensures { result ≡ stored true (slice_index (a ∷ b ∷ []) (k % 2)) }
+    ensures { result ≡ stored true (get_or (a ∷ b ∷ []) (k % 2) 0) }
 {
     choose_word(k % 2 == 0, a, b) % 32768
 }
 
-// The colour of four that the low two bits of k choose, as it is stored: one of the last two, and where the high bit is 0 the step from it to one of the first two. What does not
-// depend on k the compiler works out once for a block, and a sum costs it less than a choice.
+// The colour of four that the low two bits of k choose, as it is stored.
 pub fn of_four(k: u16, a: u16, b: u16, c: u16, d: u16) -> u16
-    ensures { result ≡ stored true (slice_index (colours a b c d) (k % 4)) }
+    ensures { result ≡ stored true (get_or (colours a b c d) (k % 4) 0) }
 {
-    let even = wrapping_sub_u16(a % 32768, c % 32768);
-    let odd = wrapping_sub_u16(b % 32768, d % 32768);
-    let between = wrapping_sub_u16(even, odd);
-    let low = k % 2 == 0;
-    let step = wrapping_add_u16(odd, choose_word(low, between, 0));
-    wrapping_add_u16(
-        choose_word(low, c % 32768, d % 32768),
-        choose_word(k / 2 % 2 == 0, step, 0),
-    )
+    choose_word(
+        k / 2 % 2 == 0,
+        choose_word(k % 2 == 0, a, b),
+        choose_word(k % 2 == 0, c, d),
+    ) % 32768
 }
 
 // The colour that begins at byte j, with its high bit.

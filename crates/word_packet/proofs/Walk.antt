@@ -1,9 +1,9 @@
 -- A packet with true colour: the walk's laws (`packet/proofs/Walk`), where no code is refused and every block is touched.
 -- Assumes nothing.
-use mathlib.Core.Path.{◌≡◌, refl, sym, ap, ap₂, ◌∙◌}
+use mathlib.Core.Path.{◌≡◌, refl, sym}
 use mathlib.Core.Bool.{Bool, true, false, cond}
 use mathlib.Core.List.{List}
-use Prim.Native.Nat.{ℕ, zero, suc, ◌+◌, ◌-◌, ◌*◌, ◌/◌, ◌%◌, ◌≤◌, ◌<◌, zero-le}
+use Prim.Native.Nat.{ℕ, zero, suc, ◌-◌, ◌*◌, ◌/◌, ◌%◌, ◌≤◌, ◌<◌, zero-le}
 use native.Mathlib.Nat.{mod-eq_of_lt, div-le_self, mul-le-mul}
 use native.Mathlib.Omega.{arith}
 use mathlib.Core.Logic.{◌⊎◌, inl, inr, ⊎_elim}
@@ -11,12 +11,11 @@ use borrow.Author.Tests.{ne_eqb, eqb-true, eqb-false, leb-true, leb-false}
 use lib.Dec.{eqb, leb}
 use Rattle.block.specs.Block.{code_at, kind_of, is_refused}
 use Rattle.block.proofs.Codes.{refused_deep}
-use Rattle.packet.specs.Packet.{Packet, parted, blocks, left, top, code}
-use Rattle.packet.specs.declared.Touched.{Touched}
+use Rattle.packet.specs.Packet.{Packet, parted, blocks}
 use Rattle.packet.specs.declared.Touched.TheVariants.{Rows}
 use Rattle.packet.specs.Rows.{first_from, past_touched, rows_from, touched}
 use Rattle.packet.specs.Asked.{Sized}
-use Rattle.packet.proofs.Walk.{Walked, moved, walked_ones, code_below}
+use Rattle.packet.proofs.Walk.{Walked, walked_ones, code_below}
 
 pub known_deep : (s o : List ℕ) (c : ℕ) → c < 16 → is_refused (kind_of true c s o) ≡ false
 known_deep s o c l = sym (refused_deep s o c l)

@@ -1,4 +1,6 @@
 // The check of a packet with true colour, which has two parts. No code is refused, and every block is touched.
+#![tactic(auto)]
+
 ghost use Rattle.std.specs.Prelude.{◌≡◌, true, false, cond, ◌*◌, ◌≤◌, ◌<◌, eqb, leb, length};
 ghost use Rattle.block.specs.Block.{kind_of, copy_inside};
 ghost use Rattle.packet.specs.Packet.{parted, first_part, second_part, packet_in, start_of};
@@ -15,7 +17,7 @@ use refusal::Refusal;
 use words::{part_from, word_at};
 
 // Where the data of a block begins in each part of a packet.
-#[derive(Drop)]
+#[derive(Clone, Copy)]
 pub struct Position {
     pub bytes: usize,
     pub offsets: usize,

@@ -1,5 +1,7 @@
 // The stores of a film with true colour: one word, the place, and the first n pixels of a block, in order.
 // Parameters that no code reads name the list of a block's stores, for the contracts. The compiler leaves them out.
+#![tactic(auto)]
+
 ghost use Rattle.std.specs.Prelude.{◌≡◌, true, ◌+◌, ◌≤◌, ◌<◌, length, get_or, set};
 ghost use Rattle.block.specs.Block.{kind_of, colour_at, stored, pictured, fetched};
 ghost use Rattle.block.specs.Asked.{Among};

@@ -19,13 +19,13 @@ use Rattle.stores.specs.Loop.{Begun}
 use Rattle.stores.proofs.Order.{begun_further, further_long}
 use Rattle.paint.specs.Value.{Older, block_plan}
 use Rattle.paint.specs.Asked.{Square}
-use Rattle.paint.proofs.Painting.{Painting, painting_start, painting_by, painting_end, painting_length, painting_begun}
-use Rattle.rows.specs.Row.{colours, Sources, Beside}
+use Rattle.paint.proofs.Painting.{Painting, painting_start, painting_by, painting_length, painting_begun}
+use Rattle.rows.specs.Row.{colours, Sources}
 use Rattle.rows.proofs.Rows.{Rows, rows_start, rows_by, row_below, rows_below, rows_low, square_kept, data_beside}
 use Rattle.word_rows.specs.Row.{WordSources}
 use Rattle.word_fields.specs.declared.Layout.{Layout}
 use Rattle.word_fields.specs.Layout.{layout, little_endian, AreBytes, FieldBytes, row_colour}
-use Rattle.word_fields.proofs.Layouts.{BandRoom, band_room, row_colour_lem}
+use Rattle.word_fields.proofs.Layouts.{band_room, row_colour_lem}
 use Rattle.word_patterns.specs.Asked.{AlikeRows, BandAt}
 
 -- ---- rows of cells

@@ -1,5 +1,7 @@
 // A whole patterned block of a film with true colour, in bands of rows: as quick as stores of one word allow.
 // Parameters that no code reads name the list of the block's stores, for the contracts. The compiler leaves them out.
+#![tactic(auto)]
+
 ghost use Rattle.std.specs.Prelude.{◌≡◌, ◌⊎◌, true, [], ◌∷◌, ◌++◌, ◌+◌, ◌*◌, ◌/◌, ◌%◌, ◌^◌, ◌≤◌, ◌<◌, length, get_or};
 ghost use Rattle.pattern.specs.declared.Form.TheVariants.{Four1x1, Four2x1};
 ghost use Rattle.pattern.specs.Form.{shape};

@@ -1,5 +1,7 @@
 // A whole block of a film with true colour that is copied, row by row: as quick as stores of one word allow.
 // Parameters that no code reads name the list of the block's stores, for the contracts. The compiler leaves them out.
+#![tactic(auto)]
+
 ghost use Rattle.std.specs.Prelude.{◌≡◌, true, ◌++◌, ◌+◌, ◌≤◌, length, get_or};
 ghost use Rattle.motion.specs.Motion.{raster_index};
 ghost use Rattle.block.specs.Block.{stored};

@@ -1,4 +1,6 @@
 // A whole block of any code of a film with true colour: its 64 pixels.
+#![tactic(auto)]
+
 ghost use Rattle.std.specs.Prelude.{◌≡◌, true, ◌≤◌, ◌<◌, length};
 ghost use Rattle.pattern.specs.Form.{shape};
 ghost use Rattle.pattern.specs.Pattern.{pattern_length, pattern_source};

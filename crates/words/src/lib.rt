@@ -1,4 +1,6 @@
 // Bytes and little-endian words, read at any position.
+#![tactic(auto)]
+
 ghost use Rattle.std.specs.Prelude.{◌≡◌, ◌<◌, drop, get_or};
 ghost use Rattle.words.specs.Word.{word_at};
 

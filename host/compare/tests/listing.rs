@@ -29,7 +29,7 @@ fn program() -> PathBuf {
     let program = folder.join("mve_list");
     assert!(
         program.is_file(),
-        "the listing program is not at {}: in the repository's folder, run: rt check mve_list",
+        "the listing program is not at {}: in the repository's folder, run: make listing",
         program.display()
     );
     program

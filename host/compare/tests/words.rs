@@ -144,23 +144,16 @@ fn every_offset() {
     }
 }
 
-/// The block so numbered of a frame of `side` by `side` has the code, and its data in each part; the others are of
-/// code 0.
-fn with_block(side: usize, number: usize, code: u8, first: &[u8], second: &[u8]) -> Packet {
-    let mut map = vec![0; (side * side).div_ceil(2)];
-    map[number / 2] = code << (4 * (number % 2));
-    let offset = (2 + first.len() as u16).to_le_bytes();
-    let data = [&offset[..], first, second].concat();
-    Packet { columns: side, rows: side, map, data }
-}
-
 /// Each byte of the second part as the vector of each code that has one, and each pair as that of codes 5 and
 /// 6, for the block in the middle of 3x3.
 #[test]
 fn every_vector() {
     let mut comparison = Comparison::new(Proved, Second);
     let mut compare = |code: u8, first: &[u8], second: &[u8]| {
-        let packet = with_block(3, 4, code, first, second);
+        let map = vec![0x00, 0x00, code, 0x00, 0x00];
+        let offset = (2 + first.len() as u16).to_le_bytes();
+        let data = [&offset[..], first, second].concat();
+        let packet = Packet { columns: 3, rows: 3, map, data };
         let compared = comparison.check_words(&packet);
         compared.unwrap_or_else(|difference| panic!("{packet:?}: {difference}"));
     };
@@ -174,10 +167,28 @@ fn every_vector() {
         }
     }
     let times = |event| comparison.tally().times(event);
-    // In x and in y 17 of 256 of codes 5 and 6 are inside.
-    let near: usize = [0x2, 0x3, 0x4].map(|code| inside(3, 4, code)).iter().sum();
-    assert_eq!(times(Event::Accepted), 2 * (2 * 17 * 17 + near));
+    // In x and in y 17 of 256 are inside; of codes 2 and 3 as many as are counted below; of code 4 all.
+    assert_eq!(times(Event::Accepted), 2 * (2 * 17 * 17 + 2 * inside() + 256));
     assert!(times(Event::Refused(14)) > 100_000);
+}
+
+/// The bytes of code 2 whose vector goes 8 at most to each side and down (01's table).
+fn inside() -> usize {
+    let vector = |b: i32| match b {
+        0..56 => (8 + b % 7, b / 7),
+        _ => (-14 + (b - 56) % 29, 8 + (b - 56) / 29),
+    };
+    (0..256).map(vector).filter(|(x, y)| x.abs() <= 8 && *y <= 8).count()
+}
+
+/// The block so numbered of a frame of `side` by `side` has the code, and its data in each part; the others are of
+/// code 0.
+fn with_block(side: usize, number: usize, code: u8, first: &[u8], second: &[u8]) -> Packet {
+    let mut map = vec![0; (side * side).div_ceil(2)];
+    map[number / 2] = code << (4 * (number % 2));
+    let offset = (2 + first.len() as u16).to_le_bytes();
+    let data = [&offset[..], first, second].concat();
+    Packet { columns: side, rows: side, map, data }
 }
 
 /// Each byte as the vector of codes 2 to 4, for each block of 7x7: from its nine in the middle all point inside, and
@@ -194,16 +205,19 @@ fn every_near_vector_of_every_block() {
                 compared.unwrap_or_else(|difference| panic!("{packet:?}: {difference}"));
                 checked += 1;
             }
-            accepted += inside(7, number, code);
+            accepted += inside_of(7, number, code);
         }
     }
-    assert_eq!([16, 17, 18, 23, 24, 25, 30, 31, 32].map(|number| inside(7, number, 0x2)), [256; 9]);
+    assert_eq!(
+        [16, 17, 18, 23, 24, 25, 30, 31, 32].map(|number| inside_of(7, number, 0x2)),
+        [256; 9]
+    );
     assert_eq!(comparison.tally().times(Event::Accepted), 2 * accepted);
     assert_eq!(comparison.tally().times(Event::Refused(14)), 2 * (checked - accepted));
 }
 
 /// The bytes by which a copy of this code, 2, 3 or 4, lies inside a frame of `side` by `side` blocks (01's tables).
-fn inside(side: usize, number: usize, code: u8) -> usize {
+fn inside_of(side: usize, number: usize, code: u8) -> usize {
     let ahead = |b: i32| match b {
         0..56 => (8 + b % 7, b / 7),
         _ => (-14 + (b - 56) % 29, 8 + (b - 56) / 29),
@@ -213,6 +227,7 @@ fn inside(side: usize, number: usize, code: u8) -> usize {
         0x3 => (-ahead(b).0, -ahead(b).1),
         _ => (b % 16 - 8, b / 16 - 8),
     };
-    let fits = |block: usize, by: i32| (0..=8 * (side as i32 - 1)).contains(&(8 * block as i32 + by));
+    let fits =
+        |block: usize, by: i32| (0..=8 * (side as i32 - 1)).contains(&(8 * block as i32 + by));
     (0..256).map(vector).filter(|&(x, y)| fits(number % side, x) && fits(number / side, y)).count()
 }

@@ -130,15 +130,18 @@ fn is_there(name: &str) -> Option<bool> {
 
 #[test]
 fn names_are_there() {
-    let mut found = 0;
+    let (mut found, mut lost) = (0, Vec::new());
     for page in ["docs/TRACE.md", "docs/DECISIONS.md", "docs/DECISIONS-CODE.md"] {
         let text = read(&root().join(page));
         for name in text.split('`').skip(1).step_by(2) {
             let Some(there) = is_there(name) else { continue };
-            assert!(there, "{page} names {name}, which is not there");
+            if !there {
+                lost.push(format!("{page}: {name}"));
+            }
             found += 1;
         }
     }
+    assert!(lost.is_empty(), "names of what is not there:\n{}", lost.join("\n"));
     assert!(found >= 1500, "{found} names");
     for gone in ["packet/specs/Verdict.gone", "packet::gone", "packet/must-fail/gone"] {
         assert_eq!(is_there(gone), Some(false), "{gone}");

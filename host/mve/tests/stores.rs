@@ -199,7 +199,8 @@ fn listed() -> Vec<(String, Vec<String>)> {
     let lines = list.lines().map(|line| line.split('#').next().unwrap_or(line));
     let crates = lines.filter_map(|line| line.split_once(':')).map(|(name, needed)| {
         let needed = needed.split_whitespace().map(String::from).collect();
-        (name.trim().to_string(), needed)
+        // a static library says so behind its name
+        (name.split_whitespace().next().unwrap_or_default().to_string(), needed)
     });
     crates.collect()
 }

@@ -50,7 +50,7 @@ impl Texts {
     /// Those about the archive at a path.
     pub fn of(archive: &Path) -> Result<Texts, String> {
         if !archive.is_file() {
-            return Err(format!("{} is missing: run rt staticlib mve", archive.display()));
+            return Err(format!("{} is missing: run make library", archive.display()));
         }
         let [disassembly, relocations] = Texts::code_of(archive)?;
         let sections = written(archive, "objdump", &["-hw"])?;

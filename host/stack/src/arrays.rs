@@ -28,10 +28,7 @@ const OFFERED: [&str; 8] = [
 ];
 
 /// What the library uses of the kit and of the language, and why it has no array.
-const KIT: [(&str, &str); 2] = [
-    ("std::num::wrapping_add_u16", "a comparison and a sum of its two numbers"),
-    ("std::num::wrapping_sub_u16", "a comparison and a difference of its two numbers"),
-];
+const KIT: [(&str, &str); 1] = [("std::num::wrapping_add_u16", "the sum of its two numbers")];
 
 const KEYWORDS: [&str; 17] = [
     "as", "break", "continue", "else", "false", "for", "if", "in", "let", "loop", "match", "mut",

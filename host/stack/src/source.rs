@@ -22,7 +22,7 @@ pub struct Function {
     pub name: String,
     /// Where its name stands.
     pub line: usize,
-    /// Whether it is `#[no_mangle]` and `extern "C"`.
+    /// Whether it is `#[unsafe(no_mangle)]` and `extern "C"`.
     pub exported: bool,
     /// The types of its parameters and of its result, each with its line.
     pub signature: Vec<(Type, usize)>,
@@ -175,17 +175,26 @@ impl<'t> Reader<'t> {
         self.expect(">")
     }
 
+    /// Behind the attributes of the file or the module itself.
     fn items(&mut self) -> Result<Vec<Item>, String> {
         let mut items = Vec::new();
+        while self.sees("#") && self.tokens.get(self.at + 1).is_some_and(|token| token.is("!")) {
+            self.at += 2;
+            self.group("[")?;
+        }
         while self.at < self.tokens.len() {
-            items.push(self.item()?);
+            let no_mangle = self.attributes()?;
+            self.visibility()?;
+            if self.eat("use") {
+                items.extend(self.imports()?);
+            } else {
+                items.push(self.item(no_mangle)?);
+            }
         }
         Ok(items)
     }
 
-    fn item(&mut self) -> Result<Item, String> {
-        let no_mangle = self.attributes()?;
-        self.visibility()?;
+    fn item(&mut self, no_mangle: bool) -> Result<Item, String> {
         if self.sees("fn") || self.sees("extern") {
             return self.function(no_mangle).map(Item::Function);
         }
@@ -195,14 +204,13 @@ impl<'t> Reader<'t> {
             "enum" => self.read_enum().map(Item::Type),
             "type" => self.alias().map(Item::Type),
             "const" => self.constant(),
-            "use" => self.import(line),
             "mod" => self.module(),
             "impl" => self.methods(line),
             other => Err(format!("{line}: an item is expected, not {other}")),
         }
     }
 
-    /// Whether `#[no_mangle]` is among the attributes.
+    /// Whether `no_mangle` is among the attributes.
     fn attributes(&mut self) -> Result<bool, String> {
         let mut no_mangle = false;
         while self.eat("#") {
@@ -380,14 +388,36 @@ impl<'t> Reader<'t> {
         Ok(Item::Constant(name, kind))
     }
 
-    fn import(&mut self, line: usize) -> Result<Item, String> {
-        let path = self.path()?;
+    /// What stands behind `use`: a path, or several from one beginning.
+    fn imports(&mut self) -> Result<Vec<Item>, String> {
+        let mut found = Vec::new();
+        self.import(Vec::new(), &mut found)?;
+        self.expect(";")?;
+        Ok(found)
+    }
+
+    fn import(&mut self, from: Vec<String>, found: &mut Vec<Item>) -> Result<(), String> {
+        let (mut path, line) = (from, self.line());
+        path.push(self.word()?);
+        while self.eat("::") {
+            if self.sees("{") {
+                let mut inside = Reader::new(self.group("{")?);
+                while inside.at < inside.tokens.len() {
+                    inside.import(path.clone(), found)?;
+                    if inside.at < inside.tokens.len() {
+                        inside.expect(",")?;
+                    }
+                }
+                return Ok(());
+            }
+            path.push(self.word()?);
+        }
         let name = match self.eat("as") {
             true => self.word()?,
             false => path.last().cloned().unwrap_or_default(),
         };
-        self.expect(";")?;
-        Ok(Item::Import(name, path, line))
+        found.push(Item::Import(name, path, line));
+        Ok(())
     }
 
     fn module(&mut self) -> Result<Item, String> {

@@ -154,7 +154,8 @@ impl Tree {
         for line in sources.list.lines() {
             let line = line.split('#').next().unwrap_or_default();
             let Some((name, needs)) = line.split_once(':') else { continue };
-            let name = name.trim();
+            // a static library says so behind its name
+            let Some(name) = name.split_whitespace().next() else { continue };
             let needs = needs.split_whitespace().map(String::from).collect();
             tree.needs.insert(name.to_string(), needs);
             if sources.files.contains_key(&format!("crates/{name}/src/main.rt")) {

@@ -159,5 +159,5 @@ fn without_binutils() {
 #[test]
 fn without_an_archive() {
     let fault = Texts::of(&root().join("target/no/libmve.a")).expect_err("no archive");
-    assert!(fault.ends_with("libmve.a is missing: run rt staticlib mve"), "{fault}");
+    assert!(fault.ends_with("libmve.a is missing: run make library"), "{fault}");
 }

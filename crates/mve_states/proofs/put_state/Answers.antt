@@ -1,0 +1,5 @@
+use Rattle.mve_states.proofs.States.{put_state}
+use Rattle.mve_states.proofs.put_state.Goals as goal
+
+pub returns : goal.returns
+returns c = put_state _ _ _ _ _ _ c.args.st _ _ c.number.ensures c.number-2.ensures c.put_place.ensures c.put_pending.ensures c.put_unsent.ensures c.put_sound.ensures c.put_deep.ensures

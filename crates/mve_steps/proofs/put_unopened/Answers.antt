@@ -1,0 +1,11 @@
+use Rattle.mve_answers.specs.Answer.{of_rows}
+use Rattle.refusal.specs.Number.{number, block}
+use Rattle.packet.specs.declared.Touched.TheVariants.{None}
+use Rattle.mve_states.specs.State.{no_state}
+use Rattle.mve_steps.proofs.Steps.{state_put}
+use mathlib.Core.Path.{refl}
+use Rattle.mve_states.proofs.States.{zeros_count}
+use Rattle.mve_steps.proofs.put_unopened.Goals as goal
+
+pub returns : goal.returns
+returns c = let a = c.args in record { value = refl; out_after = state_put a.out.now 4 (number a.r) (block a.r) 0 0 (of_rows None) no_state c.requires zeros_count c.put_refusal.ensures c.put_no_state.ensures }

@@ -1,0 +1,28 @@
+use mathlib.Core.Path.{refl, sym, ◌∙◌}
+use native.Mathlib.Omega.{arith}
+use Rattle.packet.proofs.Strip.{finds_refused, finds_by}
+use Rattle.packet.proofs.Sizes.{pixels_few, size_is}
+use Rattle.draw.proofs.Judged.{judged_6, judged_8, judged_8_back}
+use Rattle.origin.proofs.Answers.{as_checked}
+use Rattle.origin.proofs.inspect.Goals as goal
+
+pub overflow_mul-pixels : goal.overflow_mul-pixels
+overflow_mul-pixels c = omega (arith, size_is _ _ (sym c.is_legal_size.ensures ∙ c.if-is_legal_size.true))
+
+pub overflow_mul-pixels-then-is_legal_size : goal.overflow_mul-pixels-then-is_legal_size
+overflow_mul-pixels-then-is_legal_size c = omega (arith, size_is _ _ (sym c.is_legal_size.ensures ∙ c.if-is_legal_size.true))
+
+pub overflow_mul-pixels-then-is_legal_size-2 : goal.overflow_mul-pixels-then-is_legal_size-2
+overflow_mul-pixels-then-is_legal_size-2 c = omega (arith, pixels_few _ _ (sym c.is_legal_size.ensures ∙ c.if-is_legal_size.true))
+
+pub returns-then-front-pixels : goal.returns-then-front-pixels
+returns-then-front-pixels c = finds_refused _ _ _ _ (judged_8 _ _ _ _ _ _ _ _ _ _ (sym c.is_legal_size.ensures ∙ c.if-is_legal_size.true) c.if-front-pixels.true)
+
+pub returns-then-back-pixels : goal.returns-then-back-pixels
+returns-then-back-pixels c = finds_refused _ _ _ _ (judged_8_back _ _ _ _ _ _ _ _ _ _ (sym c.is_legal_size.ensures ∙ c.if-is_legal_size.true) c.if-front-pixels.false refl c.if-back-pixels.true)
+
+pub returns-then-is_legal_size : goal.returns-then-is_legal_size
+returns-then-is_legal_size c = finds_by _ _ _ _ (as_checked _ _ _ _ _ _ (sym c.is_legal_size.ensures ∙ c.if-is_legal_size.true) c.if-front-pixels.false c.if-back-pixels.false) c.check.ensures
+
+pub returns : goal.returns
+returns c = finds_refused _ _ _ _ (judged_6 _ _ _ _ _ _ _ _ _ _ (sym c.is_legal_size.ensures ∙ c.if-is_legal_size.false))

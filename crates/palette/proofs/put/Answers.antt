@@ -1,0 +1,5 @@
+use Rattle.listed.proofs.Order.{due_inside}
+use Rattle.palette.proofs.put.Goals as goal
+
+pub bounds-palette-index : goal.bounds-palette-index
+bounds-palette-index c = due_inside _ _ _ _ _ c.requires

@@ -1,0 +1,10 @@
+use Prim.Native.Nat.{◌-◌}
+use lib.ListN.{length}
+use Rattle.video1.proofs.Frames.{Drawing}
+use Rattle.video1.proofs.paint_frame.Given as goal
+
+abbrev pub invariant-loop-k : goal.invariant-loop-k
+invariant-loop-k l = Drawing l.columns l.rows l.s l.initial.pic l.pic l.at l.k l.below l.right
+
+abbrev pub decreases-loop-k : goal.decreases-loop-k
+decreases-loop-k l = length l.s - l.at

@@ -1,0 +1,12 @@
+use Rattle.rows.proofs.Rows.{Rows}
+use Rattle.word_paint.specs.Value.{word_plan}
+use Rattle.motion.specs.Motion.{raster_index}
+use Prim.Native.Nat.{◌-◌, ◌*◌, ◌%◌}
+use mathlib.Core.Path.{◌≡◌}
+use Rattle.word_colours.proofs.word_cells.Given as goal
+
+abbrev pub invariant-loop-p : goal.invariant-loop-p
+invariant-loop-p l = (l.p % (8 * l.side) ≡ 0) × (l.to ≡ raster_index l.w l.x l.y l.p) × Rows (word_plan l.code l.s l.o l.last l.oldest l.w l.x l.y) l.initial.new l.new l.p
+
+abbrev pub decreases-loop-p : goal.decreases-loop-p
+decreases-loop-p l = 64 - l.p
