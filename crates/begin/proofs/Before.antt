@@ -13,8 +13,6 @@ use Rattle.refusal.specs.declared.Refusal.{Refusal}
 use Rattle.refusal.specs.Number.{Verdict, accept, refuse, number, block}
 use Rattle.packet.specs.Verdict.{legal, legal_size}
 use Rattle.draw.specs.declared.Allowed.{Allowed}
-use Rattle.palette.specs.declared.Updated.{Updated}
-use Rattle.palette.specs.declared.Updated.TheVariants as updated
 use Rattle.palette.specs.Update.{Update, told, verdict_for, verdict_on, change_of, change_by, change_on, palette_after}
 use Rattle.palette.specs.Gradient.{create_gradient}
 use Rattle.palette.specs.Entries.{set_palette}
@@ -26,8 +24,9 @@ use Rattle.sound.specs.declared.Heard.{Heard}
 use Rattle.sound.specs.Format.{chosen}
 use Rattle.sound.specs.Sound.{heard_as, answer, initialize_audio, audio_data, audio_silence}
 use Rattle.state.specs.declared.Cursor.{Cursor}
-use Rattle.state.specs.declared.Map.{Map}
-use Rattle.state.specs.declared.Map.TheVariants.{Missing, Part}
+use Rattle.state.specs.declared.Part.{Part}
+use Rattle.std.specs.Prelude.{Option, Some, None, Result, Ok, Err}
+use Rattle.state.specs.State.{some_part}
 use Rattle.state.specs.declared.State.{State}
 use Rattle.state.specs.Moves.{behind, into, mapped}
 use Rattle.state.specs.State.{area, lent_verdict}
@@ -46,7 +45,7 @@ use Rattle.begin.specs.Begin.{allowance, Course, goes, stops, course_of, Early, 
 
 -- ---- sound
 
-module _ (st : State) (kind version : ℕ) (body : List ℕ) (p : ℕ) (x : Step) (h : Heard) (f : x ≡ heard_step st p (heard_as h)) (l : Lent) where
+module _ (st : State) (kind version : ℕ) (body : List ℕ) (p : ℕ) (x : Step) (h : Result Heard Refusal) (f : x ≡ heard_step st p (heard_as h)) (l : Lent) where
   pub drops_format : kind ≡ 3 → heard_as h ≡ answer (initialize_audio st.sound version body) → x ≡ (hear st kind version body p l).step
   drops_format e q = ap (λ (o : Outcome). o.step) (laws.hears_format st kind version body p l x h f e q)
 
@@ -62,12 +61,12 @@ module _ (st : State) (kind version : ℕ) (body : List ℕ) (p : ℕ) (x : Step
 abbrev pub unable : State → List ℕ → ℕ
 unable st body = cond (is_body_short st.deep (length body)) 5 9
 
-unmapped : (m : Map) (film : List ℕ) (st : State) (body : List ℕ) (p : ℕ) (allowed : Allowed) (l : Lent) → false ≡ is_body_short st.deep (length body) → st.columns ≡ 0
+unmapped : (m : Option Part) (film : List ℕ) (st : State) (body : List ℕ) (p : ℕ) (allowed : Allowed) (l : Lent) → false ≡ is_body_short st.deep (length body) → st.columns ≡ 0
     → after (quiet (refused 9 0)) l ≡ draw_by m film st body p allowed l
-unmapped Missing film st body p allowed l g z = laws.no_map Missing film st body p allowed l false g refl refl
-unmapped (Part start long) film st body p allowed l g z = laws.no_size (Part start long) film st body p allowed l false g refl start long refl z
+unmapped None film st body p allowed l g z = laws.no_map None film st body p allowed l false g refl refl
+unmapped (Some map) film st body p allowed l g z = laws.no_size (Some map) film st body p allowed l false g refl map refl z
 
-undrawn : (m : Map) (film : List ℕ) (st : State) (body : List ℕ) (p : ℕ) (allowed : Allowed) (l : Lent) → st.columns ≡ 0
+undrawn : (m : Option Part) (film : List ℕ) (st : State) (body : List ℕ) (p : ℕ) (allowed : Allowed) (l : Lent) → st.columns ≡ 0
     → after (quiet (refused (unable st body) 0)) l ≡ draw_by m film st body p allowed l
 undrawn m film st body p allowed l z = by (is_body_short st.deep (length body)) refl
   where
@@ -85,12 +84,12 @@ ample = omega arith
 
 -- ---- 0B, 0C, 0D
 
-module _ (st : State) (p : ℕ) (u : Updated) where
-  pub judged_taken : (x : State) → u ≡ updated.Taken → x ≡ behind st p → quiet (taken x) ≡ quiet (judged st p (told u))
+module _ (st : State) (p : ℕ) (u : Result Unit Refusal) where
+  pub judged_taken : (x : State) → u ≡ Ok tt → x ≡ behind st p → quiet (taken x) ≡ quiet (judged st p (told u))
   unfolding judged
   judged_taken x e f = rw (e, f)
 
-  pub judged_refused : (r : Refusal) → u ≡ updated.Refused r → quiet (refused (number r) (block r)) ≡ quiet (judged st p (told u))
+  pub judged_refused : (r : Refusal) → u ≡ Err r → quiet (refused (number r) (block r)) ≡ quiet (judged st p (told u))
   unfolding judged
   judged_refused r e = rw e
 
@@ -110,7 +109,7 @@ module _ (film : List ℕ) (st : State) (kind version s : ℕ) (body : List ℕ)
   some : allowed.stores ≡ 0 → ⊥
   some z = omega (arith, big)
 
-  pub acts_map : kind ≡ 15 → after (stored (taken (mapped st p (Part s (p - s)))) 1) (with_pictures l l.first l.second 0) ≡ act film st kind version s body p allowed l
+  pub acts_map : kind ≡ 15 → after (stored (taken (mapped st p (some_part s (p - s)))) 1) (with_pictures l l.first l.second 0) ≡ act film st kind version s body p allowed l
   acts_map e = laws.act_map film st kind version s body p allowed l _ 0 e some refl refl
 
   pub acts_draw : kind ≡ 17 → st.columns ≡ 0 → after (quiet (refused (unable st body) 0)) l ≡ act film st kind version s body p allowed l
@@ -123,7 +122,7 @@ module _ (film : List ℕ) (st : State) (kind version s : ℕ) (body : List ℕ)
   says : (o : Outcome) → o ≡ act film st kind version s body p allowed l → Says o.step.answer
   says o e = ap (λ (o : Outcome). o.step.answer) e
 
-  module _ (n : ℕ) (g : length l.palette ≡ n) (u : Updated) (x : Step) (f : x ≡ quiet (judged st p (told u))) where
+  module _ (n : ℕ) (g : length l.palette ≡ n) (u : Result Unit Refusal) (x : Step) (f : x ≡ quiet (judged st p (told u))) where
     said : (w : Update) → told u ≡ verdict_for w n → (verdict_on w l.palette ≡ accept → length w.stores ≤ 1536)
         → x.answer ≡ (palette_step st p (change_on w allowed.stores l.palette)).answer
     said w v few =
@@ -145,7 +144,7 @@ module _ (film : List ℕ) (st : State) (kind version s : ℕ) (body : List ℕ)
         said (set_palette_compressed body) v (λ a. groups_few body)
         ∙ says _ (laws.act_masks film st kind version s body p allowed l _ _ _ refl e refl refl)
 
-  pub judges_map : (x : State) → kind ≡ 15 → x ≡ mapped st p (Part s (p - s)) → Says (taken x)
+  pub judges_map : (x : State) → kind ≡ 15 → x ≡ mapped st p (some_part s (p - s)) → Says (taken x)
   judges_map x e f = says _ (laws.act_map film st kind version s body p allowed l x 0 e some f refl)
 
   pub judges_draw : kind ≡ 17 → st.columns ≡ 0 → st.deep ≡ false → Says (refused 9 0)
@@ -201,8 +200,8 @@ module _ (film : List ℕ) (st : State) (o : Opcode) (b c : Bool) (e : b ≡ cho
 -- ---- a step
 
 -- by what code found
-pub turn_as : (x y : Stepped) → x ≡ y → course_of (stepped_as y).answer ≡ course_of (stepped_as x).answer
-turn_as x y e = ap (λ (s : Stepped). course_of (stepped_as s).answer) (sym e)
+pub turn_as : (x y : Result Stepped Refusal) → x ≡ y → course_of (stepped_as y).answer ≡ course_of (stepped_as x).answer
+turn_as x y e = ap (λ (s : Result Stepped Refusal). course_of (stepped_as s).answer) (sym e)
 
 -- without a size no picture is too short
 no_area : (columns rows : ℕ) → columns ≡ 0 → area columns rows ≡ 0
@@ -228,12 +227,12 @@ unfolding next_of on lent_verdict
 short_palette film st n s e h = rw (e.possible, ne_eqb n 768 h)
 
 -- an opcode that stands there is there in full
-pub early_ready : (film : List ℕ) (st : State) (b : Bool) (x : Next) (o : Opcode) → Early (length film) st → b ≡ chosen st.sound.stream → next_as x ≡ standing_at b film st.cursor
-    → x ≡ found.Opcode o → Ready (length film) st.cursor o
+pub early_ready : (film : List ℕ) (st : State) (b : Bool) (x : Result Next Refusal) (o : Opcode) → Early (length film) st → b ≡ chosen st.sound.stream → next_as x ≡ standing_at b film st.cursor
+    → x ≡ Ok (found.Opcode o) → Ready (length film) st.cursor o
 early_ready film st b x o e h f q =
     (laws.step_ready film st 768 0 x o (f ∙ ap (λ (c : Bool). standing_at c film st.cursor) h ∙ sym (next_early film st 0 e)) q).1
 
-module _ (film : List ℕ) (st : State) (y : Early (length film) st) (b : Bool) (h : b ≡ chosen st.sound.stream) (x : Next) (e : next_as x ≡ standing_at b film st.cursor)
+module _ (film : List ℕ) (st : State) (y : Early (length film) st) (b : Bool) (h : b ≡ chosen st.sound.stream) (x : Result Next Refusal) (e : next_as x ≡ standing_at b film st.cursor)
     (l : Lent) (allowed : Allowed) (g : length l.palette ≡ 768) where
   stands : next_as x ≡ stands_at film st l
   stands =
@@ -247,19 +246,19 @@ module _ (film : List ℕ) (st : State) (y : Early (length film) st) (b : Bool) 
   leads : (o : Outcome) → o ≡ step_of film st allowed l → Leads (course_of o.step.answer)
   leads o f = ap (λ (o : Outcome). course_of o.step.answer) f
 
-  pub sees_refusal : (r : Refusal) → x ≡ found.Refused r → Leads (stops (number r) (block r))
+  pub sees_refusal : (r : Refusal) → x ≡ Err r → Leads (stops (number r) (block r))
   unfolding course_of
   sees_refusal r q = leads _ (laws.step_refused film st allowed l x (shortest st l) refl stands r q)
 
-  pub sees_end : x ≡ found.Ended → Leads (stops 21 0)
+  pub sees_end : x ≡ Ok found.Ended → Leads (stops 21 0)
   unfolding course_of
   sees_end q = leads _ (laws.step_ended film st allowed l x (shortest st l) refl stands q)
 
-  pub sees_chunk : (c : Cursor) (y : State) → x ≡ found.Chunk c → y ≡ into st c → Leads (goes y)
+  pub sees_chunk : (c : Cursor) (y : State) → x ≡ Ok (found.Chunk c) → y ≡ into st c → Leads (goes y)
   unfolding course_of
   sees_chunk c y q f = leads _ (laws.step_chunk film st allowed l x (shortest st l) refl stands c y q f)
 
-  pub sees_opcode : (o : Opcode) (y : Answer) (c : Course) → x ≡ found.Opcode o → c ≡ course_of y → y ≡ (take_on film st o allowed l).step.answer → Leads c
+  pub sees_opcode : (o : Opcode) (y : Answer) (c : Course) → x ≡ Ok (found.Opcode o) → c ≡ course_of y → y ≡ (take_on film st o allowed l).step.answer → Leads c
   sees_opcode o y c q f h = f ∙ ap course_of h ∙ leads _ (laws.step_opcode film st allowed l x (shortest st l) refl stands o _ q refl)
 
   -- what the step leaves
@@ -269,16 +268,16 @@ module _ (film : List ℕ) (st : State) (y : Early (length film) st) (b : Bool) 
   keeps : (o : Outcome) → o ≡ step_of film st allowed l → Kept o.lent.palette o.lent.place
   keeps o f = (ap (λ (o : Outcome). o.lent.palette) f, ap (λ (o : Outcome). o.lent.place) f)
 
-  pub keeps_refused : (r : Refusal) → x ≡ found.Refused r → Kept l.palette l.place
+  pub keeps_refused : (r : Refusal) → x ≡ Err r → Kept l.palette l.place
   keeps_refused r q = keeps _ (laws.step_refused film st allowed l x (shortest st l) refl stands r q)
 
-  pub keeps_ended : x ≡ found.Ended → Kept l.palette l.place
+  pub keeps_ended : x ≡ Ok found.Ended → Kept l.palette l.place
   keeps_ended q = keeps _ (laws.step_ended film st allowed l x (shortest st l) refl stands q)
 
-  pub keeps_chunk : (c : Cursor) → x ≡ found.Chunk c → Kept l.palette l.place
+  pub keeps_chunk : (c : Cursor) → x ≡ Ok (found.Chunk c) → Kept l.palette l.place
   keeps_chunk c q = keeps _ (laws.step_chunk film st allowed l x (shortest st l) refl stands c (into st c) q refl)
 
-  module _ (o : Opcode) (f : x ≡ found.Opcode o) (c : Bool) (i : c ≡ hears b o.kind) where
+  module _ (o : Opcode) (f : x ≡ Ok (found.Opcode o)) (c : Bool) (i : c ≡ hears b o.kind) where
     step_is : (y : Outcome) → y ≡ take_on film st o allowed l → y ≡ step_of film st allowed l
     step_is y j = laws.step_opcode film st allowed l x (shortest st l) refl stands o y f j
 

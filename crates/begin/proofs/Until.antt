@@ -13,11 +13,9 @@ use Rattle.draw.specs.declared.Allowed.{Allowed}
 use Rattle.sound.specs.Step.{enough}
 use Rattle.sound.specs.Format.{first_sound}
 use Rattle.sound.specs.declared.Sound.{Sound}
-use Rattle.state.specs.declared.Map.TheVariants.{Missing}
+use Rattle.std.specs.Prelude.{None, Result, Ok, Err}
 use Rattle.state.specs.declared.State.{State}
 use Rattle.state.specs.State.{state_verdict}
-use Rattle.opening.specs.declared.Opened.{Opened}
-use Rattle.opening.specs.declared.Opened.TheVariants as opened
 use Rattle.opening.specs.Opening.{opened_as, opening_of}
 use Rattle.opcodes.specs.Opcodes.{Answer, taken, whole, unfinished, ended, refused}
 use Rattle.film.specs.Film.{Words, words, Lent, lent, standing, step_of}
@@ -26,7 +24,6 @@ use Rattle.walk.specs.Play.{most}
 use Rattle.walk.proofs.Walk.{step_moves}
 use Rattle.walk.proofs.View.{view_of}
 use Rattle.walk.proofs.Play.{done}
-use Rattle.begin.specs.declared.Turn.{Turn}
 use Rattle.begin.specs.Begin.{zeros, allowance, step_before, goes, stops, course_of, Early, turn_as, Beginning, sized, stopped, Came, came, follow, until, to_size, kept_by, kept, nowhere, begin_at, begin_of}
 use Rattle.begin.proofs.Before.{ample, short_palette}
 use Rattle.begin.proofs.Twin.{step_long}
@@ -127,7 +124,7 @@ short_stops film st palette place y h =
 
 -- ---- a turn, by what `foresee` says
 
-abbrev pub Foreseen : List ℕ → State → Turn → Type 0
+abbrev pub Foreseen : List ℕ → State → Result State Refusal → Type 0
 Foreseen film st r = (l : Lent) → length l.palette ≡ 768 → enough ≤ length l.room → turn_as r ≡ course_of (step_of film st allowance l).step.answer
 
 zeros_long : (n : ℕ) → length (zeros n) ≡ n
@@ -137,7 +134,7 @@ zeros_long n = length-replicate n 0
 pub roomy : enough ≤ length (zeros enough)
 roomy = omega (arith, zeros_long enough)
 
-module _ (film : List ℕ) (st : State) (y : Early (length film) st) (r : Turn) (s : Foreseen film st r) (t : State) (q : turn_as r ≡ goes t) where
+module _ (film : List ℕ) (st : State) (y : Early (length film) st) (r : Result State Refusal) (s : Foreseen film st r) (t : State) (q : turn_as r ≡ goes t) where
   abbrev some : Lent
   some = lent (zeros 768) [] [] 0 (zeros enough) (words [] [] [])
 
@@ -230,7 +227,7 @@ module _ (film : List ℕ) (first : State) (palette₀ : List ℕ) (place₀ : �
         let s = stored e in
         kept_sized palette₀ place₀ _ s.reached s.end _ (onward_sized film first palette₀ place₀ st palette place s.onward h)
 
-    module _ (z : st.columns ≡ 0) (r : Turn) (s : Foreseen film st r) where
+    module _ (z : st.columns ≡ 0) (r : Result State Refusal) (s : Foreseen film st r) where
       said : (q : List ℕ) (k : ℕ) → length q ≡ 768 → turn_as r ≡ course_of (step_before film st q k).step.answer
       said q k h = s (lent q [] [] k (zeros enough) (words [] [] [])) h roomy
 
@@ -306,19 +303,19 @@ again_less storing film a b e = rw e (omega arith)
 
 -- ---- opening
 
-module _ (film : List ℕ) (stream : ℕ) (palette : List ℕ) (place : ℕ) (o : Opened) (e : opened_as o ≡ opening_of film stream) where
-  pub begins : (st : State) → o ≡ opened.First st → (c : Came) → c ≡ kept palette place (to_size film st palette place) → c ≡ begin_of film stream palette place
+module _ (film : List ℕ) (stream : ℕ) (palette : List ℕ) (place : ℕ) (o : Result State Refusal) (e : opened_as o ≡ opening_of film stream) where
+  pub begins : (st : State) → o ≡ Ok st → (c : Came) → c ≡ kept palette place (to_size film st palette place) → c ≡ begin_of film stream palette place
   unfolding begin_at
   begins st q c f = rw (← e, q) f
 
-  pub begins_not : (r : Refusal) → o ≡ opened.Refused r → (s : State) → s ≡ nowhere → came (stopped (number r) (block r) s) palette place ≡ begin_of film stream palette place
+  pub begins_not : (r : Refusal) → o ≡ Err r → (s : State) → s ≡ nowhere → came (stopped (number r) (block r) s) palette place ≡ begin_of film stream palette place
   unfolding begin_at
   begins_not r q s f = rw (← e, q, f)
 
-pub begin_early : (film : List ℕ) (stream : ℕ) (o : Opened) (st : State) → opened_as o ≡ opening_of film stream → o ≡ opened.First st → Early (length film) st
+pub begin_early : (film : List ℕ) (stream : ℕ) (o : Result State Refusal) (st : State) → opened_as o ≡ opening_of film stream → o ≡ Ok st → Early (length film) st
 begin_early film stream o st e q = first_early film stream st (sym e ∙ ap opened_as q)
 
 pub is_nowhere : (s : Sound) → s ≡ first_sound 0
-    → record { cursor = record { position = 0; chunk_end = 0 }; columns = 0; rows = 0; deep = false; front = 0; map = Missing; unsent = false; sound = s } ≡ nowhere
+    → record { cursor = record { position = 0; chunk_end = 0 }; columns = 0; rows = 0; deep = false; front = 0; map = None; unsent = false; sound = s } ≡ nowhere
 unfolding nowhere
 is_nowhere s e = rw e

@@ -1,13 +1,13 @@
 -- One opening call (document 02, W8): open a film, then step until a size appears. It is told by the definitions of opening and of a step.
 -- Assumes nothing.
-use Rattle.std.specs.Prelude.{◌≡◌, false, cond, List, [], ℕ, zero, suc, eqb, length, replicate}
+use Rattle.std.specs.Prelude.{◌≡◌, false, cond, List, [], ℕ, zero, suc, eqb, length, replicate, None, Result, Ok, Err}
+use Rattle.refusal.specs.declared.Refusal.{Refusal}
 use Rattle.refusal.specs.Number.{Verdict, accept, refuse, number, block}
 use Rattle.packet.specs.Verdict.{default}
 use Rattle.draw.specs.declared.Allowed.{Allowed}
 use Rattle.draw.specs.Call.{within}
 use Rattle.sound.specs.Step.{enough}
 use Rattle.sound.specs.Format.{first_sound}
-use Rattle.state.specs.declared.Map.TheVariants.{Missing}
 use Rattle.state.specs.declared.State.{State}
 use Rattle.state.specs.Moves.{behind}
 use Rattle.state.specs.State.{state_verdict}
@@ -15,10 +15,7 @@ use Rattle.opening.specs.Opening.{Opening, started, refuses, opening_of}
 use Rattle.opcodes.specs.Opcodes.{Answer, taken, whole, unfinished, ended, refused}
 use Rattle.film.specs.Film.{words, lent, Outcome, step_of}
 use Rattle.walk.specs.Play.{most}
-use Rattle.begin.specs.declared.Turn.{Turn}
-use Rattle.begin.specs.declared.Turn.TheVariants.{On, Off}
-use Rattle.begin.specs.declared.Begun.{Begun}
-use Rattle.begin.specs.declared.Begun.TheVariants.{Sized, Refused}
+use Rattle.begin.specs.declared.Stopped.{Stopped}
 
 -- ---- a step
 
@@ -58,9 +55,9 @@ judged st p accept = taken (behind st p)
 judged st p (refuse n k) = refused n k
 
 -- document 01's values
-abbrev pub turn_as : Turn → Course
-turn_as (On st) = goes st
-turn_as (Off r) = stops (number r) (block r)
+abbrev pub turn_as : Result State Refusal → Course
+turn_as (Ok st) = goes st
+turn_as (Err r) = stops (number r) (block r)
 
 -- ---- steps until a size appears
 
@@ -69,9 +66,9 @@ pub data Beginning : Type 0 where
   sized : State → Beginning
   stopped : ℕ → ℕ → State → Beginning
 
-abbrev pub begun_as : Begun → Beginning
-begun_as (Sized st) = sized st
-begun_as (Refused r st) = stopped (number r) (block r) st
+abbrev pub begun_as : Result State Stopped → Beginning
+begun_as (Ok st) = sized st
+begun_as (Err s) = stopped (number s.refusal) (block s.refusal) s.state
 
 -- an answer, and the palette and the place that are left
 pub record Came : Type 0 where
@@ -112,7 +109,7 @@ kept palette place c = kept_by c.answer palette place c
 -- a state of zeros
 unfoldable pub nowhere : State
 nowhere =
-    record { cursor = record { position = 0; chunk_end = 0 }; columns = 0; rows = 0; deep = false; front = 0; map = Missing; unsent = false; sound = first_sound 0 }
+    record { cursor = record { position = 0; chunk_end = 0 }; columns = 0; rows = 0; deep = false; front = 0; map = None; unsent = false; sound = first_sound 0 }
 
 unfoldable pub begin_at : Opening → List ℕ → List ℕ → ℕ → Came
 begin_at (started st) film palette place = kept palette place (to_size film st palette place)

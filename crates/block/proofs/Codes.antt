@@ -1,7 +1,6 @@
 -- Laws of a block's code: each code's data bytes and copy, as the code's own functions find them.
 -- Assumes nothing.
 use mathlib.Core.Path.{◌≡◌, refl, sym, ap, ◌∙◌, subst}
-use mathlib.Core.Logic.{◌⊎◌, inl, inr}
 use mathlib.Core.Bool.{Bool, true, false, cond}
 use mathlib.Core.List.{List}
 use Prim.Native.Nat.{ℕ, zero, suc, ◌+◌, ◌*◌, ◌^◌, ◌/◌, ◌%◌, ◌≤◌, ◌<◌}
@@ -22,7 +21,7 @@ use Rattle.motion.proofs.Vectors.{ahead_onward, ahead_short, negated_short, near
 use Rattle.block.specs.declared.Picture.{Picture}
 use Rattle.block.specs.declared.Picture.TheVariants.{Last, New, Oldest}
 use Rattle.block.specs.Block.{Side, one, two, four, eight, pixels, Kind, same, kept, copied, patterned, celled, dithered, refused, kinds, kind_of, colour_bytes, data_length, offset_length, is_refused, copy_inside, cell_source, dither_source}
-use Rattle.block.specs.Asked.{Fixed, Sided, last_copied, first_offset, vector_at}
+use Rattle.block.specs.Asked.{Sided, last_copied, first_offset, vector_at}
 
 -- what holds of each of the sixteen codes holds of every code
 pub each_code : (P : ℕ → Type 0) → P 0 → P 1 → P 2 → P 3 → P 4 → P 5 → P 6 → P 7 → P 8 → P 9 → P 10 → P 11 → P 12 → P 13 → P 14 → P 15 → (c : ℕ) → c < 16 → P c
@@ -231,42 +230,71 @@ module _ (deep : Bool) (s o : List ℕ) where
   unfolding kind_of kinds data_length form_a
   length_A = halves_A deep (falling deep s 0) (falling deep s (4 * bytes deep + 8))
 
-  -- the same by the tests that code found; where deep is known, each sum computes to the number that code has
-  module _ (r : ℕ) (a : Bool) (f : a ≡ falling deep s 0) where
-    pub found_7 : r ≡ cond a (2 * bytes deep + 2) (2 * bytes deep + 8) → r ≡ data_length deep (kind_of deep 7 s o)
-    found_7 q = q ∙ rw f length_7
+  -- the same by the bytes n of a pixel and the tests that code found
+  module _ (r n : ℕ) (a : Bool) (e : n ≡ bytes deep) (f : a ≡ falling deep s 0) where
+    pub found_7 : (c : ℕ) → c ≡ 7 → r ≡ cond a (2 * n + 2) (2 * n + 8) → r ≡ data_length deep (kind_of deep c s o)
+    found_7 c k q = rw (q, k, e, f) length_7
 
-    pub found_8 : r ≡ cond a (4 * bytes deep + 8) (8 * bytes deep + 8) → r ≡ data_length deep (kind_of deep 8 s o)
-    found_8 q = q ∙ rw f length_8
+    pub found_8 : (c : ℕ) → c ≡ 8 → r ≡ cond a (4 * n + 8) (8 * n + 8) → r ≡ data_length deep (kind_of deep c s o)
+    found_8 c k q = rw (q, k, e, f) length_8
 
-    pub found_9 : (b : Bool) (t : ℕ) → b ≡ falling deep s (2 * bytes deep) → t ≡ cond b (4 * bytes deep + 4) (4 * bytes deep + 16) → r ≡ cond a (4 * bytes deep + 8) t
-        → r ≡ data_length deep (kind_of deep 9 s o)
-    found_9 b t g p q = q ∙ ap (cond a (4 * bytes deep + 8)) p ∙ rw (f, g) length_9
+    pub found_9 : (b : Bool) (t : ℕ) → b ≡ falling deep s (2 * n) → t ≡ cond b (4 * n + 4) (4 * n + 16) → r ≡ cond a (4 * n + 8) t → r ≡ data_length deep (kind_of deep 9 s o)
+    found_9 b t g p q = rw (q, p, g, e, f) length_9
 
-    -- of the codes 7 to A the one that is none of 7 to 9
-    pub found_A : (c : ℕ) → (6 < c) × (c < 11) → (c ≡ 7 → ⊥) → (c ≡ 8 → ⊥) → (c ≡ 9 → ⊥) → r ≡ cond a (8 * bytes deep + 16) (16 * bytes deep + 16)
-        → r ≡ data_length deep (kind_of deep c s o)
-    found_A c l n7 n8 n9 q = rw (let e : c ≡ 10 = omega arith in e) (q ∙ rw f length_A)
+    pub found_A : (c : ℕ) → c ≡ 10 → r ≡ cond a (8 * n + 16) (16 * n + 16) → r ≡ data_length deep (kind_of deep c s o)
+    found_A c k q = rw (q, k, e, f) length_A
 
--- none of codes 7 to A is fixed
-pub not_fixed : {A : Type 0} (c : ℕ) → Fixed c → 6 < c → c < 11 → A
-not_fixed c (inl h) g l = absurd (let z : ⊥ = omega arith in z)
-not_fixed c (inr h) g l = absurd (let z : ⊥ = omega arith in z)
+-- codes 0 to 6 and B to F, by the bytes n of a pixel
+module _ (deep : Bool) (s o : List ℕ) where
+  pub length_low : (c : ℕ) → c < 2 → 0 ≡ data_length deep (kind_of deep c s o)
+  unfolding kind_of kinds data_length
+  length_low zero l = refl
+  length_low (suc zero) l = by deep
+    where
+      by : (d : Bool) → 0 ≡ data_length d (cond d (same Oldest) kept)
+      by false = refl
+      by true = refl
+  length_low (suc (suc c)) l = absurd (let z : ⊥ = omega arith in z)
 
--- the codes that have no data in a film with true colour
-Empty : List ℕ → List ℕ → ℕ → Type 0
-Empty s o c = (c < 5) ⊎ (14 < c) → 0 ≡ data_length true (kind_of true c s o)
+  pub length_beside : (c : ℕ) → 1 < c → c < 5 → cond deep 0 1 ≡ data_length deep (kind_of deep c s o)
+  unfolding kind_of kinds data_length
+  length_beside zero g l = absurd (let z : ⊥ = omega arith in z)
+  length_beside (suc zero) g l = absurd (let z : ⊥ = omega arith in z)
+  length_beside (suc (suc zero)) g l = refl
+  length_beside (suc (suc (suc zero))) g l = refl
+  length_beside (suc (suc (suc (suc zero)))) g l = refl
+  length_beside (suc (suc (suc (suc (suc c))))) g l = absurd (let z : ⊥ = omega arith in z)
 
-pub word_none : (s o : List ℕ) (c : ℕ) → c < 16 → (c < 5) ⊎ (14 < c) → 0 ≡ data_length true (kind_of true c s o)
-unfolding Empty kind_of kinds data_length
-word_none s o =
-    each_code (Empty s o) (λ h. refl) (λ h. refl) (λ h. refl) (λ h. refl) (λ h. refl) (none 5 (omega arith) (omega arith)) (none 6 (omega arith) (omega arith)) (none 7 (omega arith) (omega arith))
-    (none 8 (omega arith) (omega arith)) (none 9 (omega arith) (omega arith)) (none 10 (omega arith) (omega arith)) (none 11 (omega arith) (omega arith)) (none 12 (omega arith) (omega arith))
-    (none 13 (omega arith) (omega arith)) (none 14 (omega arith) (omega arith)) (λ h. refl)
-  where
-    none : (c : ℕ) → 4 < c → c < 15 → Empty s o c
-    none c a b (inl h) = absurd (let z : ⊥ = omega arith in z)
-    none c a b (inr h) = absurd (let z : ⊥ = omega arith in z)
+  pub length_5 : (c : ℕ) → c ≡ 5 → 2 ≡ data_length deep (kind_of deep c s o)
+  unfolding kind_of kinds data_length
+  length_5 c e = rw e
+
+  pub length_6 : (c : ℕ) → c ≡ 6 → cond deep 2 0 ≡ data_length deep (kind_of deep c s o)
+  unfolding kind_of kinds data_length
+  length_6 c e = rw e (by deep)
+    where
+      by : (d : Bool) → cond d 2 0 ≡ data_length d (cond d (copied Oldest (far_vector (get_or s 0 0) (get_or s 1 0)) 2 0) refused)
+      by false = refl
+      by true = refl
+
+  pub length_F : (c : ℕ) → c ≡ 15 → cond deep 0 2 ≡ data_length deep (kind_of deep c s o)
+  unfolding kind_of kinds data_length
+  length_F c e = rw e (by deep)
+    where
+      by : (d : Bool) → cond d 0 2 ≡ data_length d (cond d (same Oldest) dithered)
+      by false = refl
+      by true = refl
+
+  pub length_celled : (c n : ℕ) (a : Side) → kind_of deep c s o ≡ celled a → n ≡ bytes deep → 8 / pixels a * (8 / pixels a) * n ≡ data_length deep (kind_of deep c s o)
+  unfolding data_length
+  length_celled c n a k e = rw (k, e) (by deep)
+    where
+      by : (d : Bool) → 8 / pixels a * (8 / pixels a) * bytes d ≡ colour_bytes d (8 / pixels a * (8 / pixels a))
+      by false = omega arith
+      by true = omega arith
+
+-- those that are not celled
+pub ruleset lengths = (length_low, length_beside, length_5, length_6, length_F)
 
 -- ---- the second part
 

@@ -7,7 +7,7 @@ ghost use Rattle.block.specs.Block.{code_at, kind_of, data_length, offset_length
 ghost use Rattle.block.specs.Asked.{Fixed, Sided, last_copied, first_offset, vector_at};
 
 use motion::{Vector, ahead_vector, behind_vector, far_vector, near_vector, points_inside};
-use pattern::is_falling;
+use pattern::{bytes_of, is_falling};
 use words::byte_at;
 
 // The pictures that are read: the shown one, the one that is drawn on, and the one two frames old, which in 8-bit films is drawn on.
@@ -25,7 +25,8 @@ pub enum Source {
     Copied(Picture, usize),
 }
 
-// The code of block k. By a shift: a choice between two nibbles costs more.
+// The code of block k: a nibble of the map and no enum, since the rules, the definitions and their laws name codes by number. By a shift: a choice between two nibbles costs more.
+#[tactic(auto, using(crate::proofs::Codes::nibble), unfolding(crate::specs::Block::code_at))]
 pub fn code_at(map: &[u8], k: usize) -> u8
     requires { k / 2 < length map.now }
     ensures { (result ≡ code_at map.now k) × (result < 16) }
@@ -33,169 +34,111 @@ pub fn code_at(map: &[u8], k: usize) -> u8
     (map[k / 2] >> (4 * (k % 2))) % 16
 }
 
-fn choose(test: bool, a: usize, b: usize) -> usize
+// One of two values. Both are worked out before: of numbers the compiler then chooses by a conditional move.
+pub fn choose<T: Copy>(test: bool, a: T, b: T) -> T
     ensures { result ≡ cond test a b }
 {
-    if test {
-        return a;
-    }
-    b
+    if test { a } else { b }
 }
 
-// The data bytes of a block of any code but 7 to A, which are not met here, in an 8-bit film; with them the match is dense, so that the compiler may make it a table.
-fn byte_length(code: u8) -> usize
+// The data bytes of a block of any code but 7 to A, which are not met here; with them, and with an arm a code, the match is dense, so that the compiler may make it a table.
+// DEEP: the film has true colour.
+#[tactic(auto, using(crate::proofs::Codes::lengths))]
+fn fixed_length<const DEEP: bool>(code: u8) -> usize
     requires { (code < 16) × Fixed code }
-    ensures { (s o : List ℕ) → result ≡ data_length false (kind_of false code s o) }
+    ensures { (s o : List ℕ) → result ≡ data_length DEEP (kind_of DEEP code s o) }
 {
+    let n = bytes_of(DEEP);
     match code {
         0 => 0,
         1 => 0,
-        2 => 1,
-        3 => 1,
-        4 => 1,
+        2 => choose(DEEP, 0, 1),
+        3 => choose(DEEP, 0, 1),
+        4 => choose(DEEP, 0, 1),
         5 => 2,
-        6 => 0,
+        6 => choose(DEEP, 2, 0),
         7 => 0,
         8 => 0,
         9 => 0,
         10 => 0,
-        11 => 64,
-        12 => 16,
-        13 => 4,
-        14 => 1,
-        _ => 2,
+        11 => 64 * n,
+        12 => 16 * n,
+        13 => 4 * n,
+        14 => n,
+        _ => choose(DEEP, 0, 2),
     }
 }
 
-// The same in a film with true colour.
-fn word_length(code: u8) -> usize
-    requires { (code < 16) × Fixed code }
-    ensures { (s o : List ℕ) → result ≡ data_length true (kind_of true code s o) }
+// Code 9. Both pairs are compared before either result is tested, so that the compiler needs no branch.
+#[tactic(auto, using(crate::proofs::Codes::found_9))]
+fn length_of_9<const DEEP: bool>(s: &[u8]) -> usize
+    ensures { (o : List ℕ) → result ≡ data_length DEEP (kind_of DEEP 9 s.now o) }
 {
-    match code {
-        0 => 0,
-        1 => 0,
-        2 => 0,
-        3 => 0,
-        4 => 0,
-        5 => 2,
-        6 => 2,
-        7 => 0,
-        8 => 0,
-        9 => 0,
-        10 => 0,
-        11 => 128,
-        12 => 32,
-        13 => 8,
-        14 => 2,
-        _ => 0,
-    }
+    let n = bytes_of(DEEP);
+    let second = is_falling(DEEP, s, 2 * n);
+    let fine = choose(second, 4 * n + 4, 4 * n + 16);
+    choose(is_falling(DEEP, s, 0), 4 * n + 8, fine)
 }
 
-// Code 9 of an 8-bit film. Both pairs are compared before either result is tested, so that the compiler needs no branch.
-fn byte_length_of_9(s: &[u8]) -> usize
-    ensures { (o : List ℕ) → result ≡ data_length false (kind_of false 9 s.now o) }
-{
-    let second = is_falling(false, s, 2);
-    choose(is_falling(false, s, 0), 12, choose(second, 8, 20))
-}
-
-// The same in a film with true colour.
-fn word_length_of_9(s: &[u8]) -> usize
-    ensures { (o : List ℕ) → result ≡ data_length true (kind_of true 9 s.now o) }
-{
-    let second = is_falling(true, s, 4);
-    choose(is_falling(true, s, 0), 16, choose(second, 12, 24))
-}
-
-// Codes 7 to A of an 8-bit film, whose data begins with s.
-fn byte_pattern_length(code: u8, s: &[u8]) -> usize
+// Codes 7 to A of a block whose data begins with s.
+#[tactic(auto, using(crate::proofs::Codes::found_7, crate::proofs::Codes::found_8, crate::proofs::Codes::found_A))]
+fn pattern_length<const DEEP: bool>(code: u8, s: &[u8]) -> usize
     requires { (6 < code) × (code < 11) }
-    ensures { (o : List ℕ) → result ≡ data_length false (kind_of false code s.now o) }
+    ensures { (o : List ℕ) → result ≡ data_length DEEP (kind_of DEEP code s.now o) }
 {
+    let n = bytes_of(DEEP);
     match code {
-        7 => choose(is_falling(false, s, 0), 4, 10),
-        8 => choose(is_falling(false, s, 0), 12, 16),
-        9 => byte_length_of_9(s),
-        _ => choose(is_falling(false, s, 0), 24, 32),
-    }
-}
-
-// The same in a film with true colour.
-fn word_pattern_length(code: u8, s: &[u8]) -> usize
-    requires { (6 < code) × (code < 11) }
-    ensures { (o : List ℕ) → result ≡ data_length true (kind_of true code s.now o) }
-{
-    match code {
-        7 => choose(is_falling(true, s, 0), 6, 12),
-        8 => choose(is_falling(true, s, 0), 16, 24),
-        9 => word_length_of_9(s),
-        _ => choose(is_falling(true, s, 0), 32, 48),
+        7 => choose(is_falling(DEEP, s, 0), 2 * n + 2, 2 * n + 8),
+        8 => choose(is_falling(DEEP, s, 0), 4 * n + 8, 8 * n + 8),
+        9 => length_of_9::<DEEP>(s),
+        _ => choose(is_falling(DEEP, s, 0), 8 * n + 16, 16 * n + 16),
     }
 }
 
 // Whether a code is refused: 6 in an 8-bit film.
+#[tactic(auto, using(crate::proofs::Codes::refused_flat, crate::proofs::Codes::refused_deep))]
 pub fn is_refused(deep: bool, code: u8) -> bool
     requires { code < 16 }
     ensures { (s o : List ℕ) → result ≡ is_refused (kind_of deep code s o) }
 {
-    if deep {
-        return false;
-    }
-    code == 6
+    !deep && code == 6
 }
 
 // Whether a block's offset stands in the second part: codes 2 to 4 of a film with true colour.
 fn is_beside(deep: bool, code: u8) -> bool
     ensures { result ≡ cond deep (ltb code 5) false }
 {
-    if deep {
-        return code < 5;
-    }
-    false
+    deep && code < 5
 }
 
 // The bytes of the second part that a block takes.
+#[tactic(auto, using(crate::proofs::Codes::offset_low, crate::proofs::Codes::offset_high))]
 pub fn offset_length(deep: bool, code: u8) -> usize
     requires { code < 16 }
     ensures { (s o : List ℕ) → result ≡ offset_length (kind_of deep code s o) }
 {
     if code < 2 {
-        return 0;
+        0
+    } else {
+        choose(is_beside(deep, code), 1, 0)
     }
-    choose(is_beside(deep, code), 1, 0)
 }
 
-// The data bytes of a block of an 8-bit film whose data begins with s. Each film has a function of its own: one for both, chosen by a flag, is not inlined, and then a check takes
-// up to three times as long.
-pub fn data_length(code: u8, s: &[u8]) -> usize
+// The data bytes of a block whose data begins with s. DEEP: the film has true colour. A const parameter and no flag: a function for both films is not inlined, and then a check
+// takes up to three times as long.
+pub fn data_length<const DEEP: bool>(code: u8, s: &[u8]) -> usize
     requires { code < 16 }
-    ensures { (o : List ℕ) → result ≡ data_length false (kind_of false code s.now o) }
+    ensures { (o : List ℕ) → result ≡ data_length DEEP (kind_of DEEP code s.now o) }
 {
-    if code < 7 {
-        return byte_length(code);
+    if code < 7 || 10 < code {
+        fixed_length::<DEEP>(code)
+    } else {
+        pattern_length::<DEEP>(code, s)
     }
-    if 10 < code {
-        return byte_length(code);
-    }
-    byte_pattern_length(code, s)
 }
 
-// The same in a film with true colour.
-pub fn word_data_length(code: u8, s: &[u8]) -> usize
-    requires { code < 16 }
-    ensures { (o : List ℕ) → result ≡ data_length true (kind_of true code s.now o) }
-{
-    if code < 7 {
-        return word_length(code);
-    }
-    if 10 < code {
-        return word_length(code);
-    }
-    word_pattern_length(code, s)
-}
-
-// One of two vectors, chosen number by number: conditional moves instead of a branch.
+// One of two vectors, chosen number by number: conditional moves instead of a branch. By `choose` of whole vectors the test of a copy takes a quarter longer.
+#[tactic(auto, using(crate::proofs::Codes::each_chosen))]
 fn choose_vector(test: bool, a: Vector, b: Vector) -> Vector
     ensures { result ≡ cond test a b }
 {
@@ -208,13 +151,15 @@ fn choose_vector(test: bool, a: Vector, b: Vector) -> Vector
 }
 
 // The first byte of a copied block's offsets: in the block's data s or in the second part o.
+#[tactic(auto, unfolding(crate::specs::Asked::first_offset))]
 fn first_offset(deep: bool, code: u8, s: &[u8], o: &[u8]) -> u8
     ensures { result ≡ first_offset deep code s.now o.now }
 {
     if is_beside(deep, code) {
-        return byte_at(o, 0);
+        byte_at(o, 0)
+    } else {
+        byte_at(s, 0)
     }
-    byte_at(s, 0)
 }
 
 // The vector of a block of code 2 to 6.
@@ -223,22 +168,21 @@ pub fn copied_vector(deep: bool, code: u8, s: &[u8], o: &[u8]) -> Vector
 {
     let b = first_offset(deep, code, s, o);
     if code < 4 {
-        return choose_vector(code == 3, behind_vector(b), ahead_vector(b));
+        choose_vector(code == 3, behind_vector(b), ahead_vector(b))
+    } else {
+        choose_vector(code == 4, near_vector(b), far_vector(b, byte_at(s, 1)))
     }
-    choose_vector(code == 4, near_vector(b), far_vector(b, byte_at(s, 1)))
 }
 
 // The last code that is copied by a vector.
 fn last_copied(deep: bool) -> u8
     ensures { result ≡ last_copied deep }
 {
-    if deep {
-        return 6;
-    }
-    5
+    if deep { 6 } else { 5 }
 }
 
 // Whether the 8x8 that a block at x, y is copied from lies inside the picture w by h.
+#[tactic(auto, using(crate::proofs::Codes::copy_low, crate::proofs::Codes::copy_high, crate::proofs::Codes::copy_judged))]
 pub fn copy_inside(
     deep: bool,
     code: u8,
@@ -252,16 +196,13 @@ pub fn copy_inside(
     requires { (code < 16) × (w ≤ 640) × (h ≤ 480) × (x ≤ 640) × (y ≤ 480) }
     ensures { result ≡ copy_inside (kind_of deep code s.now o.now) w h x y }
 {
-    if code < 2 {
-        return true;
-    }
-    if last_copied(deep) < code {
-        return true;
-    }
-    points_inside(copied_vector(deep, code, s, o), w, h, x, y)
+    code < 2
+        || last_copied(deep) < code
+        || points_inside(copied_vector(deep, code, s, o), w, h, x, y)
 }
 
 // The number of the colour of pixel i where each cell, side pixels wide and high, has one.
+#[tactic(auto, using(crate::proofs::Codes::cell), unfolding(crate::specs::Block::cell_source))]
 pub fn cell_source(side: usize, i: usize) -> usize
     requires { Sided side × (i < 64) }
     ensures { result ≡ cell_source side i }
@@ -270,6 +211,7 @@ pub fn cell_source(side: usize, i: usize) -> usize
 }
 
 // The number of the colour of pixel i of a dithered block.
+#[tactic(auto, unfolding(crate::specs::Block::dither_source))]
 pub fn dither_source(i: usize) -> usize
     requires { i < 64 }
     ensures { result ≡ dither_source i }

@@ -11,8 +11,8 @@ use Rattle.refusal.specs.Number.{Verdict, accept, refuse}
 use Rattle.block.specs.Block.{kind_of}
 use Rattle.block.proofs.Agree.{no_second}
 use Rattle.paint.specs.Value.{pixel_count}
-use Rattle.packet.specs.declared.Touched.{Touched}
-use Rattle.packet.specs.declared.Touched.TheVariants.{None, Rows}
+use Rattle.std.specs.Prelude.{Option, Some, None}
+use Rattle.packet.specs.declared.Rows.{Rows}
 use Rattle.packet.specs.Packet.{Packet, packet_in, blocks, width, left, top, code, kind, data_of, offsets_of}
 use Rattle.packet.specs.Rows.{untouched, touched, TouchedIn, Spans, Outside}
 use Rattle.packet.proofs.Strip.{touched_spans}
@@ -55,13 +55,13 @@ module _ (p : Packet) (some : 0 < p.columns) (t : ℕ) where
   unfolding size_at
   small k i l = omega (arith, l, count_few (kind p k))
 
-  off_by : (u : Touched) → Spans p u → Outside p.columns u t → (k : ℕ) → k < blocks p → (i : ℕ) → i < size_at p k → target_at p k i ≡ t → ⊥
+  off_by : (u : Option Rows) → Spans p u → Outside p.columns u t → (k : ℕ) → k < blocks p → (i : ℕ) → i < size_at p k → target_at p k i ≡ t → ⊥
   unfolding Spans Outside
   off_by None s o k h i l e = (stores_touched k i h l).other (s k h)
-  off_by (Rows first last) s o k h i l e =
+  off_by (Some u) s o k h i l e =
       let w = s.within (k / p.columns) k (stores_touched k i h l) in
       let r = row_is k i (small k i l) e in
-      ⊎_elim (λ (q : t / (8 * p.columns) / 8 < first). omega (arith, w.0, r)) (λ (q : last < t / (8 * p.columns) / 8). omega (arith, w.1, r)) o
+      ⊎_elim (λ (q : t / (8 * p.columns) / 8 < u.first). omega (arith, w.0, r)) (λ (q : u.last < t / (8 * p.columns) / 8). omega (arith, w.1, r)) o
 
 module _ (c : Request) (m : Memory) (e : draw_verdict c m ≡ accept) (t : ℕ) (o : Outside c.columns (touched (packet_of c)) t) where
   stays : (n : ℕ) → get_or (after (call_plan c) m n).picture t 0 ≡ get_or m.picture t 0
@@ -107,7 +107,7 @@ unfolding outcome comes Outside
 outside_as r c m t (refuse n k) f o = tt
 outside_as r c m t accept f o =
     let s = f refl in
-    subst (λ (x : ℕ). Outside x (touched (packet_of r)) t) (sym s.columns) (subst (λ (u : Touched). Outside c.columns u t) (sym (same_rows r c s)) o)
+    subst (λ (x : ℕ). Outside x (touched (packet_of r)) t) (sym s.columns) (subst (λ (u : Option Rows). Outside c.columns u t) (sym (same_rows r c s)) o)
 
 pub list_unchanged : (c : Request) (m : Memory) (es : List (Event Request)) → OnlyRefusedDiffer c m es → (t : ℕ) → Outside c.columns (touched (packet_of c)) t
     → get_or (finally calling m es).picture t 0 ≡ get_or m.picture t 0

@@ -81,9 +81,6 @@ pub record Alike (f g : ℕ → ℕ) (n : ℕ) : Type 0 where
   pub at : (j : ℕ) → j < n → f j ≡ g j
 
 module _ (f g : ℕ → ℕ) where
-  pub alike_none : Alike f g 0
-  alike_none = record { at = λ j h. absurd (let z : ⊥ = omega arith in z) }
-
   pub alike_more : (n n' : ℕ) → Alike f g n → n' ≡ suc n → f n ≡ g n → Alike f g n'
   alike_more n n' h e q =
       record { at = λ j l. ⊎_elim (λ (z : suc j ≡ n'). let y : j ≡ n = omega arith in rw y q) (λ z. h.at j (omega arith)) (eq-or-lt_of_le l) }
@@ -153,14 +150,6 @@ module _ (f g : ℕ → ℕ) where
       first_one (λ i. eqb (f i) (g i)) 0 64 64 (first_differing f g)
       (record { most = omega arith; least = omega arith; clear = λ j _ z. eq-eqb _ _ (h.at j (omega arith)); fails = λ z. absurd (let y : ⊥ = omega arith in y) })
       (first 64 (λ i. eqb (f i) (g i)) 0)
-
-  -- the number that is found says whether they are the same
-  pub found_same : (r : ℕ) → r ≡ first_differing f g → r ≡ 64 → same_all f g ≡ true
-  found_same r e q = to_is f g 64 (record { at = λ i h. differs.before i (omega (arith, e)) })
-
-  pub found_other : (r : ℕ) → r ≡ first_differing f g → (r ≡ 64 → ⊥) → same_all f g ≡ false
-  found_other r e n =
-      ⊎_elim (λ q. absurd (n (e ∙ q))) (λ q. to_not f g 64 (first_differing f g) q (differs.there q)) (eq-or-lt_of_le differs.most)
 
 -- where row r, column c of the 8x8 at x, y stands
 pub raster_at : (w x y r c from n : ℕ) → c < 8 → from ≡ (y + r) * w + x → n ≡ 8 * r + c → from + c ≡ raster_index w x y n

@@ -1,10 +1,9 @@
 // What each 8x8 of a wanted picture is given by: tests of its 64 pixels, the common ones first.
 #![tactic(auto)]
 
-ghost use Rattle.std.specs.Prelude.{◌≡◌, cond, eqb, ◌+◌, ◌-◌, ◌*◌, ◌/◌, ◌%◌, ◌^◌, ◌<◌, ◌≤◌, length, get_or};
-ghost use Rattle.paint.specs.Asked.{Square};
-ghost use Rattle.choice.specs.Choice.{code_of, length_by, pixel_at, first_differing, same_to, celled_by, dithered_by, other, two_colours, drawn_by, choice};
-ghost use Rattle.choice.specs.Asked.{Cells, beside};
+ghost use Rattle.std.specs.Prelude.{◌≡◌, cond, eqb, ◌+◌, ◌-◌, ◌*◌, ◌/◌, ◌%◌, ◌^◌, ◌<◌, length};
+ghost use Rattle.choice.specs.Choice.{code_of, length_by, first_differing, same_to, celled_by, dithered_by, other, two_colours, drawn_by, choice};
+ghost use Rattle.choice.specs.Asked.{Cells, Stands, pixels_in, Within, pixels_of, Row, byte_at};
 
 use motion::raster_index;
 use words::wide;
@@ -23,151 +22,66 @@ pub enum Way {
     Raw,
 }
 
-// The data bytes of each.
-pub fn length_of(way: Way) -> usize
-    ensures { result ≡ length_by way }
-{
-    match way {
-        Way::Same => 0,
-        Way::Kept => 0,
-        Way::One => 1,
-        Way::Dither => 2,
-        Way::Coarse => 4,
-        Way::Four => 4,
-        Way::Fine => 10,
-        Way::Two => 16,
-        Way::Raw => 64,
-    }
-}
-
-// The code of each.
-pub fn code_of(way: Way) -> u8
-    ensures { result ≡ code_of way }
-{
-    match way {
-        Way::Same => 0,
-        Way::Kept => 1,
-        Way::One => 14,
-        Way::Dither => 15,
-        Way::Coarse => 7,
-        Way::Four => 13,
-        Way::Fine => 7,
-        Way::Two => 12,
-        Way::Raw => 11,
-    }
-}
-
-// The first pixel in which the 8x8 at x, y of two pictures w pixels wide differ; 64 where they are the same. Finding it leaves both loops at once.
-pub fn first_differing(a: &[u8], b: &[u8], w: usize, x: usize, y: usize) -> usize
-    requires { Square w x y (length a.now) × Square w x y (length b.now) }
-    ensures { result ≡ first_differing (pixel_at a.now w x y) (pixel_at b.now w x y) }
-{
-    let mut found = 64;
-    let mut row = 0;
-    'rows: while row < 8 {
-        let from = (y + row) * w + x;
-        let mut column = 0;
-        while column < 8 {
-            if a[from + column] != b[from + column] {
-                found = 8 * row + column;
-                break 'rows;
-            }
-            column += 1;
+impl Way {
+    // The data bytes of each.
+    pub fn length(self) -> usize
+        ensures { result ≡ length_by self }
+    {
+        match self {
+            Way::Same => 0,
+            Way::Kept => 0,
+            Way::One => 1,
+            Way::Dither => 2,
+            Way::Coarse => 4,
+            Way::Four => 4,
+            Way::Fine => 10,
+            Way::Two => 16,
+            Way::Raw => 64,
         }
-        row += 1;
     }
-    found
-}
 
-// Whether eight pixels, from index from on, are those of their cells' first row, from index top on: the first of each cell for all of it.
-fn is_cells_row(a: &[u8], from: usize, top: usize, e: usize, side: usize) -> bool
-    requires { Cells e side × (from + 8 ≤ length a.now) × (top + 8 ≤ length a.now) }
-    ensures { result ≡ same_to 8 (beside a.now from) (λ j. get_or a.now (top + j / 2 ^ e * side) 0) }
-{
-    let mut j = 0;
-    while j < 8 {
-        if a[from + j] != a[top + (j >> e) * side] {
-            return false;
+    // The code of each.
+    pub fn code(self) -> u8
+        ensures { result ≡ code_of self }
+    {
+        match self {
+            Way::Same => 0,
+            Way::Kept => 1,
+            Way::One => 14,
+            Way::Dither => 15,
+            Way::Coarse => 7,
+            Way::Four => 13,
+            Way::Fine => 7,
+            Way::Two => 12,
+            Way::Raw => 11,
         }
-        j += 1;
     }
-    true
 }
 
-// Whether the 8x8 at x, y is made of cells of one colour each.
-fn is_celled(a: &[u8], w: usize, x: usize, y: usize, e: usize, side: usize) -> bool
-    requires { Cells e side × Square w x y (length a.now) }
-    ensures { result ≡ celled_by side (pixel_at a.now w x y) }
+// Whether a row of eight pixels is that of its cells' first pixels, whose row is top: the first of each cell for all of it.
+fn is_cells_row(row: &[u8], top: &[u8], e: usize, side: usize) -> bool
+    requires { Cells e side × (length row.now ≡ 8) × (length top.now ≡ 8) }
+    ensures { result ≡ same_to 8 (byte_at row.now) (λ j. byte_at top.now (j / 2 ^ e * side)) }
 {
-    let mut row = 0;
-    while row < 8 {
-        let from = (y + row) * w + x;
-        let top = (y + (row >> e) * side) * w + x;
-        if is_cells_row(a, from, top, e, side) {
-            row += 1;
-        } else {
+    for j in 0..8 {
+        if row[j] != top[(j >> e) * side] {
             return false;
         }
     }
     true
 }
 
-// Whether eight pixels, from index from on, are u and v in turn.
-fn is_turn_row(a: &[u8], from: usize, u: u8, v: u8) -> bool
-    requires { from + 8 ≤ length a.now }
-    ensures { result ≡ same_to 8 (beside a.now from) (λ j. cond (eqb (j % 2) 0) u v) }
+// Whether a row of eight pixels is u and v in turn.
+fn is_turn_row(row: &[u8], u: u8, v: u8) -> bool
+    requires { length row.now ≡ 8 }
+    ensures { result ≡ same_to 8 (byte_at row.now) (λ j. cond (eqb (j % 2) 0) u v) }
 {
-    let mut j = 0;
-    while j < 8 {
-        if a[from + j] != u {
-            return false;
-        }
-        if a[from + j + 1] != v {
-            return false;
-        }
-        j += 2;
-    }
-    true
-}
-
-// Whether the 8x8 at x, y is two colours in turn, rows in turn.
-fn is_dithered(a: &[u8], w: usize, x: usize, y: usize) -> bool
-    requires { Square w x y (length a.now) }
-    ensures { result ≡ dithered_by (pixel_at a.now w x y) }
-{
-    let mut from = y * w + x;
-    let mut u = a[from];
-    let mut v = a[from + 1];
-    let mut row: usize = 0;
-    while row < 8 {
-        if is_turn_row(a, from, u, v) {
-            let t = u;
-            u = v;
-            v = t;
-            from += w;
-            row += 1;
-        } else {
+    for j in 0..4 {
+        if row[2 * j] != u || row[2 * j + 1] != v {
             return false;
         }
     }
     true
-}
-
-// The colour of the first pixel that is not pixel 0's; pixel 0's where there is none.
-pub fn other_colour(a: &[u8], w: usize, x: usize, y: usize) -> u8
-    requires { Square w x y (length a.now) }
-    ensures { result ≡ other (pixel_at a.now w x y) }
-{
-    let z = a[raster_index(w, x, y, 0)];
-    let mut i = 0;
-    while i < 64 {
-        let v = a[raster_index(w, x, y, i)];
-        if v != z {
-            return v;
-        }
-        i += 1;
-    }
-    z
 }
 
 // How far v is above u, counted round from 255 to 0: 0 where they are the same.
@@ -177,76 +91,168 @@ fn apart(u: u8, v: u8) -> usize
     (wide(v) + 256 - wide(u)) % 256
 }
 
-// Whether eight pixels, from index from on, have the colours z and o alone. One product tests both, so that no branch hangs on a pixel.
-fn is_colours_row(a: &[u8], from: usize, z: u8, o: u8) -> bool
-    requires { from + 8 ≤ length a.now }
-    ensures { result ≡ same_to 8 (beside a.now from) (λ j. cond (eqb (beside a.now from j) z) z o) }
+// Whether a row of eight pixels has the colours z and o alone. One product tests both, so that no branch hangs on a pixel.
+fn is_colours_row(row: &[u8], z: u8, o: u8) -> bool
+    requires { length row.now ≡ 8 }
+    ensures { result ≡ same_to 8 (byte_at row.now) (λ j. cond (eqb (byte_at row.now j) z) z o) }
 {
-    let mut j = 0;
-    while j < 8 {
-        let v = a[from + j];
-        if apart(z, v) * apart(o, v) != 0 {
+    for j in 0..8 {
+        if apart(z, row[j]) * apart(o, row[j]) != 0 {
             return false;
         }
-        j += 1;
     }
     true
 }
 
-// Whether the 8x8 at x, y has two colours at most.
-fn has_two_colours(a: &[u8], w: usize, x: usize, y: usize) -> bool
-    requires { Square w x y (length a.now) }
-    ensures { result ≡ two_colours (pixel_at a.now w x y) }
-{
-    let o = other_colour(a, w, x, y);
-    let z = a[raster_index(w, x, y, 0)];
-    let mut row = 0;
-    while row < 8 {
-        if is_colours_row(a, (y + row) * w + x, z, o) {
-            row += 1;
+// An 8x8 of a picture w pixels wide, its first pixel at x, y.
+#[derive(Clone, Copy)]
+pub struct Square<'a> {
+    pub picture: &'a [u8],
+    pub w: usize,
+    pub x: usize,
+    pub y: usize,
+}
+
+impl<'a> Square<'a> {
+    // Pixel i of the 64.
+    pub fn pixel(&self, i: usize) -> u8
+        requires { Within self.now × (i < 64) }
+        ensures { result ≡ pixels_of self.now i }
+    {
+        self.picture[raster_index(self.w, self.x, self.y, i)]
+    }
+
+    // Row r of the eight.
+    fn row(&self, r: usize) -> &'a [u8]
+        requires { Within self.now × (r < 8) }
+        ensures { Row (pixels_of self.now) r result.now }
+    {
+        let from = (self.y + r) * self.w + self.x;
+        &self.picture[from..from + 8]
+    }
+
+    // Whether it is made of cells of one colour each.
+    fn is_celled(&self, e: usize, side: usize) -> bool
+        requires { Cells e side × Within self.now }
+        ensures { result ≡ celled_by side (pixels_of self.now) }
+    {
+        for r in 0..8 {
+            if !is_cells_row(self.row(r), self.row((r >> e) * side), e, side) {
+                return false;
+            }
+        }
+        true
+    }
+
+    // Whether it is two colours in turn, rows in turn.
+    fn is_dithered(&self) -> bool
+        requires { Within self.now }
+        ensures { result ≡ dithered_by (pixels_of self.now) }
+    {
+        let mut u = self.pixel(0);
+        let mut v = self.pixel(1);
+        for r in 0..8 {
+            if !is_turn_row(self.row(r), u, v) {
+                return false;
+            }
+            // no assignment to a tuple: who reads the sources for stores takes it for one
+            let t = u;
+            u = v;
+            v = t;
+        }
+        true
+    }
+
+    // The colour of the first pixel that is not pixel 0's; pixel 0's where there is none.
+    pub fn other_colour(&self) -> u8
+        requires { Within self.now }
+        ensures { result ≡ other (pixels_of self.now) }
+    {
+        let z = self.pixel(0);
+        for i in 0..64 {
+            let v = self.pixel(i);
+            if v != z {
+                return v;
+            }
+        }
+        z
+    }
+
+    // Whether it has two colours at most.
+    fn has_two_colours(&self) -> bool
+        requires { Within self.now }
+        ensures { result ≡ two_colours (pixels_of self.now) }
+    {
+        let z = self.pixel(0);
+        let o = self.other_colour();
+        for r in 0..8 {
+            if !is_colours_row(self.row(r), z, o) {
+                return false;
+            }
+        }
+        true
+    }
+
+    // The way that gives it by data bytes. Cells of four pixels are of two as well: where the one test fails the other is not made.
+    #[tactic(auto, using(crate::proofs::Rows::no_four), unfolding(crate::specs::Choice::drawn_by))]
+    fn drawn_way(&self) -> Way
+        requires { Within self.now }
+        ensures { result ≡ drawn_by (pixels_of self.now) }
+    {
+        if self.is_celled(3, 8) {
+            Way::One
+        } else if self.is_dithered() {
+            Way::Dither
+        } else if self.is_celled(1, 2) {
+            if self.has_two_colours() {
+                Way::Coarse
+            } else if self.is_celled(2, 4) {
+                Way::Four
+            } else {
+                Way::Two
+            }
+        } else if self.has_two_colours() {
+            Way::Fine
         } else {
-            return false;
+            Way::Raw
         }
     }
-    true
-}
 
-// The way that gives an 8x8 by data bytes. Cells of four pixels are of two as well: where the one test fails the other is not made.
-fn drawn_way(a: &[u8], w: usize, x: usize, y: usize) -> Way
-    requires { Square w x y (length a.now) }
-    ensures { result ≡ drawn_by (pixel_at a.now w x y) }
-{
-    if is_celled(a, w, x, y, 3, 8) {
-        return Way::One;
-    }
-    if is_dithered(a, w, x, y) {
-        return Way::Dither;
-    }
-    if is_celled(a, w, x, y, 1, 2) {
-        if has_two_colours(a, w, x, y) {
-            return Way::Coarse;
+    // The first pixel in which it and the 8x8 in its place of another picture differ; 64 where they are the same. Finding it leaves both loops at once.
+    pub fn first_differing(&self, other: &[u8]) -> usize
+        requires { Within self.now × Stands self.now other.now }
+        ensures { result ≡ first_differing (pixels_of self.now) (pixels_in self.now other.now) }
+    {
+        let there = Square {
+            picture: other,
+            ..*self
+        };
+        let mut found = 64;
+        'rows: for r in 0..8 {
+            let s = self.row(r);
+            let t = there.row(r);
+            for j in 0..8 {
+                if s[j] != t[j] {
+                    found = 8 * r + j;
+                    break 'rows;
+                }
+            }
         }
-        if is_celled(a, w, x, y, 2, 4) {
-            return Way::Four;
-        }
-        return Way::Two;
+        found
     }
-    if has_two_colours(a, w, x, y) {
-        return Way::Fine;
-    }
-    Way::Raw
-}
 
-// The way of an 8x8.
-pub fn way_of(wanted: &[u8], front: &[u8], back: &[u8], w: usize, x: usize, y: usize) -> Way
-    requires { Square w x y (length wanted.now) × Square w x y (length front.now) × Square w x y (length back.now) }
-    ensures { result ≡ choice (pixel_at wanted.now w x y) (pixel_at front.now w x y) (pixel_at back.now w x y) }
-{
-    if first_differing(wanted, front, w, x, y) == 64 {
-        return Way::Same;
+    // Its way, where it is wanted, and the two pictures that are lent are as wide as its own.
+    #[tactic(auto, unfolding(crate::specs::Choice::choice, crate::specs::Choice::same_to, crate::specs::Choice::first_differing))]
+    pub fn way(&self, front: &[u8], back: &[u8]) -> Way
+        requires { Within self.now × Stands self.now front.now × Stands self.now back.now }
+        ensures { result ≡ choice (pixels_of self.now) (pixels_in self.now front.now) (pixels_in self.now back.now) }
+    {
+        if self.first_differing(front) == 64 {
+            Way::Same
+        } else if self.first_differing(back) == 64 {
+            Way::Kept
+        } else {
+            self.drawn_way()
+        }
     }
-    if first_differing(wanted, back, w, x, y) == 64 {
-        return Way::Kept;
-    }
-    drawn_way(wanted, w, x, y)
 }

@@ -1,7 +1,8 @@
 -- The chunks of a film and their opcodes (document 02, W13): an opcode is refused 3, 4 or 5 as by a step that acts on sound, whatever the stream, and 0C and 0D are
 -- refused 5 by their content. Of a chunk the first of these is its refusal.
 -- Assumes nothing.
-use Rattle.std.specs.Prelude.{Bool, true, false, cond, not, List, ℕ, zero, suc, ◌+◌, eqb, length}
+use Rattle.std.specs.Prelude.{Bool, true, false, cond, not, Result, Ok, Err, List, ℕ, zero, suc, ◌+◌, eqb, length}
+use Rattle.refusal.specs.declared.Refusal.{Refusal}
 use Rattle.refusal.specs.Number.{Verdict, accept, refuse, number}
 use Rattle.parts.specs.Parts.{part}
 use Rattle.palette.specs.Entries.{set_palette}
@@ -10,8 +11,6 @@ use Rattle.state.specs.declared.Cursor.{Cursor}
 use Rattle.state.specs.Moves.{cursor, cursor_behind}
 use Rattle.heads.specs.declared.Opcode.{Opcode}
 use Rattle.next.specs.Next.{Standing, refused, ended, chunk, opcode, standing_at}
-use Rattle.chunks.specs.declared.Tested.{Tested}
-use Rattle.chunks.specs.declared.Tested.TheVariants.{Intact, Scratched}
 use Rattle.chunks.specs.declared.Ahead.{Ahead}
 use Rattle.chunks.specs.declared.Ahead.TheVariants.{FilmEnd, PastEnd, ChunkTo}
 
@@ -86,9 +85,9 @@ following_at film e = following film (standing_at true film (cursor e e))
 
 -- ---- the values of each answer
 
-abbrev pub condition_as : Tested → Condition
-condition_as (Intact b) = intact b
-condition_as (Scratched r) = scratched (number r)
+abbrev pub condition_as : Result Bool Refusal → Condition
+condition_as (Ok b) = intact b
+condition_as (Err r) = scratched (number r)
 
 abbrev pub following_as : Ahead → Following
 following_as FilmEnd = film_end

@@ -8,7 +8,7 @@ use native.Mathlib.Omega.{arith}
 use lib.Dec.{eqb}
 use lib.ListN.{length}
 use Rattle.words.specs.Word.{word_at}
-use Rattle.packet.specs.declared.Touched.{Touched}
+use Rattle.packet.specs.declared.Rows.{Rows}
 use Rattle.packet.specs.Verdict.{legal_size}
 use Rattle.stores.specs.Stores.{memory}
 use Rattle.stores.specs.Calls.{step}
@@ -26,8 +26,9 @@ use Rattle.sound.specs.Step.{room_after}
 use Rattle.sound.specs.Sound.{answer}
 use Rattle.sound.specs.Sound as sound
 use Rattle.state.specs.declared.Cursor.{Cursor}
-use Rattle.state.specs.declared.Map.{Map}
-use Rattle.state.specs.declared.Map.TheVariants.{Missing, Part}
+use Rattle.state.specs.declared.Part.{Part}
+use Rattle.std.specs.Prelude.{Option, Some, None}
+use Rattle.state.specs.State.{some_part}
 use Rattle.state.specs.declared.State.{State}
 use Rattle.state.specs.Moves.{at, shown_next, sized, sent, mapped, heard, finished}
 use Rattle.heads.specs.declared.Opcode.{Opcode}
@@ -57,7 +58,7 @@ module _ (film film' : List ℕ) (st st' : State) (h : Alike film st film' st') 
 
   -- ---- drawing
 
-  drawn_same : (p p' : ℕ) (x : drawing.Answer Reason) (n : ℕ) (t : Touched) (l : Lent) → Same (after (drawn_as st p x n t) l) (after (drawn_as st' p' x n t) l)
+  drawn_same : (p p' : ℕ) (x : drawing.Answer Reason) (n : ℕ) (t : Option Rows) (l : Lent) → Same (after (drawn_as st p x n t) l) (after (drawn_as st' p' x n t) l)
   unfolding drawn_as finished pending
   drawn_same p p' drawing.whole n t l =
       record { answer = both_whole (record { columns = h.columns; rows = h.rows; deep = h.deep; front = h.front; map = refl; unsent = refl; sound = h.sound }); stores = refl; bytes = refl; rows = refl; lent = refl }
@@ -82,18 +83,18 @@ module _ (film film' : List ℕ) (st st' : State) (h : Alike film st film' st') 
       comes : Turn → Request → Outcome
       comes x q = after (drawn_step st' p' (report (memory (new_in x l) l.place) q)) (with_new x l (step calling (memory (new_in x l) l.place) q))
 
-  mapped_same : (m m' : Map) → pending film m ≡ pending film' m' → (body : List ℕ) (p p' : ℕ) (allowed : Allowed) (l : Lent)
+  mapped_same : (m m' : Option Part) → pending film m ≡ pending film' m' → (body : List ℕ) (p p' : ℕ) (allowed : Allowed) (l : Lent)
       → Same (draw_mapped m film st body p allowed l) (draw_mapped m' film' st' body p' allowed l)
   unfolding draw_mapped pending
-  mapped_same Missing Missing e body p p' allowed l = refuses 9 0 l
-  mapped_same Missing (Part s n) e body p p' allowed l = absurd (let z : ◌≡◌ {A = ℕ} 0 1 = cc in let y : ⊥ = omega arith in y)
-  mapped_same (Part s n) Missing e body p p' allowed l = absurd (let z : ◌≡◌ {A = ℕ} 0 1 = cc in let y : ⊥ = omega arith in y)
-  mapped_same (Part s n) (Part s' n') e body p p' allowed l =
-      let q : part film s (s + n) ≡ part film' s' (s' + n') = cc in
+  mapped_same None None e body p p' allowed l = refuses 9 0 l
+  mapped_same None (Some m) e body p p' allowed l = absurd (let z : ◌≡◌ {A = ℕ} 0 1 = cc in let y : ⊥ = omega arith in y)
+  mapped_same (Some m) None e body p p' allowed l = absurd (let z : ◌≡◌ {A = ℕ} 0 1 = cc in let y : ⊥ = omega arith in y)
+  mapped_same (Some m) (Some m') e body p p' allowed l =
+      let q : part film m.start (m.start + m.long) ≡ part film' m'.start (m'.start + m'.long) = cc in
       same_test _ _ (ap (λ (n : ℕ). eqb n 0) h.columns) (refuses 9 0 l)
-      (rw (← q) (on_same p p' (part film s (s + n)) (part body 14 (length body)) allowed l))
+      (rw (← q) (on_same p p' (part film m.start (m.start + m.long)) (part body 14 (length body)) allowed l))
 
-  by_same : (m m' : Map) → pending film m ≡ pending film' m' → (body : List ℕ) (p p' : ℕ) (allowed : Allowed) (l : Lent)
+  by_same : (m m' : Option Part) → pending film m ≡ pending film' m' → (body : List ℕ) (p p' : ℕ) (allowed : Allowed) (l : Lent)
       → Same (draw_by m film st body p allowed l) (draw_by m' film' st' body p' allowed l)
   unfolding draw_by
   by_same m m' e body p p' allowed l =
@@ -141,7 +142,7 @@ module _ (film film' : List ℕ) (st st' : State) (h : Alike film st film' st') 
 
   -- 0F: the body is the map
   map_same : (s s' n n' : ℕ) → part film s (s + n) ≡ part film' s' (s' + n')
-      → Alike film (mapped st (s + n) (Part s (s + n - s))) film' (mapped st' (s' + n') (Part s' (s' + n' - s')))
+      → Alike film (mapped st (s + n) (some_part s (s + n - s))) film' (mapped st' (s' + n') (some_part s' (s' + n' - s')))
   unfolding mapped pending
   map_same s s' n n' e =
       let q : s + n - s ≡ n = omega arith in

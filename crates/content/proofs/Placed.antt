@@ -8,7 +8,7 @@ use borrow.Author.Tests.{ne_eqb}
 use lib.Dec.{eqb}
 use lib.ListN.{length}
 use Rattle.words.specs.Word.{word_at}
-use Rattle.packet.specs.declared.Touched.{Touched}
+use Rattle.packet.specs.declared.Rows.{Rows}
 use Rattle.packet.specs.Verdict.{legal_size}
 use Rattle.stores.specs.Calls as drawing
 use Rattle.draw.specs.declared.Allowed.{Allowed}
@@ -20,8 +20,9 @@ use Rattle.palette.specs.Entries.{set_palette}
 use Rattle.palette.specs.Mask.{set_palette_compressed}
 use Rattle.sound.specs.Format.{chosen}
 use Rattle.sound.specs.Sound as sound
-use Rattle.state.specs.declared.Map.{Map}
-use Rattle.state.specs.declared.Map.TheVariants.{Missing, Part}
+use Rattle.state.specs.declared.Part.{Part}
+use Rattle.std.specs.Prelude.{Option, Some, None}
+use Rattle.state.specs.State.{some_part}
 use Rattle.state.specs.declared.State.{State}
 use Rattle.state.specs.Moves.{cursor_behind, at, at_end, sized, sent, mapped, heard, finished}
 use Rattle.heads.specs.declared.Opcode.{Opcode}
@@ -44,18 +45,18 @@ module _ (film : List ℕ) (st : State) (p : ℕ) (allowed : Allowed) (l : Lent)
   placed_by true u v = u
   placed_by false u v = v
 
-  drawn_placed : (x : drawing.Answer Reason) (n : ℕ) (t : Touched) → Placed st p (drawn_as st p x n t).answer
+  drawn_placed : (x : drawing.Answer Reason) (n : ℕ) (t : Option Rows) → Placed st p (drawn_as st p x n t).answer
   unfolding drawn_as finished
   drawn_placed drawing.whole n t = on_whole refl
   drawn_placed drawing.unfinished n t = stays
   drawn_placed (drawing.refusal r) n t = is_refused _ _
 
-  mapped_placed : (map : Map) (body : List ℕ) → At st p (draw_mapped map film st body p allowed l)
+  mapped_placed : (map : Option Part) (body : List ℕ) → At st p (draw_mapped map film st body p allowed l)
   unfolding draw_mapped draw_on
-  mapped_placed Missing body = record { is = is_refused _ _ }
-  mapped_placed (Part s n) body = placed_by (eqb st.columns 0) (record { is = is_refused _ _ }) (record { is = drawn_placed _ _ _ })
+  mapped_placed None body = record { is = is_refused _ _ }
+  mapped_placed (Some map) body = placed_by (eqb st.columns 0) (record { is = is_refused _ _ }) (record { is = drawn_placed _ _ _ })
 
-  by_placed : (map : Map) (body : List ℕ) → At st p (draw_by map film st body p allowed l)
+  by_placed : (map : Option Part) (body : List ℕ) → At st p (draw_by map film st body p allowed l)
   unfolding draw_by
   by_placed map body = placed_by (is_body_short st.deep (length body)) (record { is = is_refused _ _ }) (mapped_placed map body)
 
@@ -65,7 +66,7 @@ module _ (film : List ℕ) (st : State) (p : ℕ) (allowed : Allowed) (l : Lent)
   palette_placed (palette.unfinished n) = stays
   palette_placed (palette.refused n k) = is_refused n k
 
-  map_placed : (m : Map) (n : ℕ) → At st p (map_to st (mapped st p m) n l)
+  map_placed : (m : Option Part) (n : ℕ) → At st p (map_to st (mapped st p m) n l)
   unfolding map_to mapped
   map_placed m n = placed_by (eqb n 0) (record { is = stays }) (record { is = on_taken refl })
 
@@ -89,7 +90,7 @@ module _ (film : List ℕ) (st : State) (p : ℕ) (allowed : Allowed) (l : Lent)
   act_placed : (kind version s : ℕ) (body : List ℕ) → (kind ≡ 0 → ⊥) → At st p (act film st kind version s body p allowed l)
   unfolding act
   act_placed kind version s body n =
-      placed_by (eqb kind 15) (map_placed (Part s (p - s)) allowed.stores)
+      placed_by (eqb kind 15) (map_placed (some_part s (p - s)) allowed.stores)
       (placed_by (eqb kind 17) (by_placed st.map body)
       (placed_by (eqb kind 11) (record { is = palette_placed (change_on (create_gradient body) allowed.stores l.palette) })
       (placed_by (eqb kind 12) (record { is = palette_placed (change_on (set_palette body) allowed.stores l.palette) })

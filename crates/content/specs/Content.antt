@@ -1,9 +1,8 @@
 -- A step by content: what a step does depends on the opcode's type, version and body, on what the state keeps, the pending map by its bytes, and on what is
 -- lent, not on where these stand in the film.
 -- Assumes nothing.
-use Rattle.std.specs.Prelude.{◌≡◌, List, ℕ, ◌+◌}
-use Rattle.state.specs.declared.Map.{Map}
-use Rattle.state.specs.declared.Map.TheVariants.{Missing, Part}
+use Rattle.std.specs.Prelude.{◌≡◌, List, ℕ, ◌+◌, Option, Some, None}
+use Rattle.state.specs.declared.Part.{Part}
 use Rattle.state.specs.declared.State.{State}
 use Rattle.heads.specs.declared.Opcode.{Opcode}
 use Rattle.opcodes.specs.Opcodes.{Answer, taken, whole, unfinished, ended, refused}
@@ -14,9 +13,9 @@ pub data Pending : Type 0 where
   no_bytes : Pending
   map_bytes : List ℕ → Pending
 
-unfoldable pub pending : List ℕ → Map → Pending
-pending film Missing = no_bytes
-pending film (Part start long) = map_bytes (part film start (start + long))
+unfoldable pub pending : List ℕ → Option Part → Pending
+pending film None = no_bytes
+pending film (Some map) = map_bytes (part film map.start (map.start + map.long))
 
 -- all that a state keeps but its cursor, of two states over two films
 pub record Alike (film : List ℕ) (st : State) (film' : List ℕ) (st' : State) : Type 0 where

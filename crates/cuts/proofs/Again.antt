@@ -12,7 +12,7 @@ use lib.ListN.{length, take, drop, length-append, length-take, length-drop, leng
 use lib.Seq.{take_all, take_at, take-nil, take-take, take-length}
 use Rattle.room.specs.Room.{written}
 use Rattle.refusal.specs.Number.{Verdict, accept, refuse}
-use Rattle.packet.specs.declared.Touched.{Touched}
+use Rattle.packet.specs.declared.Rows.{Rows}
 use Rattle.stores.specs.Stores.{Plan, Memory, memory}
 use Rattle.stores.specs.Stores as drawing
 use Rattle.stores.specs.Calls.{step}
@@ -32,8 +32,9 @@ use Rattle.palette.proofs.Again.{made_again}
 use Rattle.sound.specs.Format.{chosen}
 use Rattle.sound.specs.Step as sound
 use Rattle.sound.specs.Sound.{answer}
-use Rattle.state.specs.declared.Map.{Map}
-use Rattle.state.specs.declared.Map.TheVariants.{Missing, Part}
+use Rattle.state.specs.declared.Part.{Part}
+use Rattle.std.specs.Prelude.{Option, Some, None}
+use Rattle.state.specs.State.{some_part}
 use Rattle.state.specs.declared.State.{State}
 use Rattle.state.specs.Moves.{mapped}
 use Rattle.heads.specs.Heads.{hears}
@@ -120,13 +121,13 @@ module _ (st : State) (l : Lent) where
   -- ---- 11
 
   -- a drawing tells no bytes, and what it tells but its count goes by its answer and rows
-  none : (p : ℕ) (x : calls.Answer Reason) (n : ℕ) (t : Touched) → (drawn_as st p x n t).bytes ≡ 0
+  none : (p : ℕ) (x : calls.Answer Reason) (n : ℕ) (t : Option Rows) → (drawn_as st p x n t).bytes ≡ 0
   unfolding drawn_as
   none p calls.whole n t = refl
   none p calls.unfinished n t = refl
   none p (calls.refusal r) n t = refl
 
-  tells : (p : ℕ) (x y : calls.Answer Reason) → x ≡ y → (n n' : ℕ) (t t' : Touched) → t ≡ t'
+  tells : (p : ℕ) (x y : calls.Answer Reason) → x ≡ y → (n n' : ℕ) (t t' : Option Rows) → t ≡ t'
       → ((drawn_as st p x n t).answer ≡ (drawn_as st p y n' t').answer) × ((drawn_as st p x n t).rows ≡ (drawn_as st p y n' t').rows)
   unfolding drawn_as
   tells p x y e n n' t t' q = rw (e, q) (same y)
@@ -204,19 +205,19 @@ module _ (st : State) (l : Lent) where
   -- ---- an opcode
 
   module _ (film : List ℕ) (spare : ℕ) where
-    mapped_again : (map : Map) (body : List ℕ) (p : ℕ) → Again (mapped_due map film st body spare l) (draw_mapped map film st body p (within most spare))
+    mapped_again : (map : Option Part) (body : List ℕ) (p : ℕ) → Again (mapped_due map film st body spare l) (draw_mapped map film st body p (within most spare))
     unfolding mapped_due draw_mapped
-    mapped_again Missing body p = still _
-    mapped_again (Part s n) body p = again_by (eqb st.columns 0) (still _) (draw_again p (part film s (s + n)) (part body 14 (length body)) spare)
+    mapped_again None body p = still _
+    mapped_again (Some map) body p = again_by (eqb st.columns 0) (still _) (draw_again p (part film map.start (map.start + map.long)) (part body 14 (length body)) spare)
 
-    by_again : (map : Map) (body : List ℕ) (p : ℕ) → Again (draw_due map film st body spare l) (draw_by map film st body p (within most spare))
+    by_again : (map : Option Part) (body : List ℕ) (p : ℕ) → Again (draw_due map film st body spare l) (draw_by map film st body p (within most spare))
     unfolding draw_due draw_by
     by_again map body p = again_by (is_body_short st.deep (length body)) (still _) (mapped_again map body p)
 
     act_again : (kind version s : ℕ) (body : List ℕ) (p : ℕ) → Again (opcode_due film st kind body spare l) (act film st kind version s body p (within most spare))
     unfolding opcode_due act
     act_again kind version s body p =
-        again_by (eqb kind 15) (map_again (mapped st p (Part s (p - s))))
+        again_by (eqb kind 15) (map_again (mapped st p (some_part s (p - s))))
         (again_by (eqb kind 17) (by_again st.map body p)
         (again_by (eqb kind 11) (update_again p (create_gradient body) (λ e. gradients_few body (length l.palette) e))
         (again_by (eqb kind 12) (update_again p (set_palette body) (λ e. entries_few body (length l.palette) e))

@@ -11,7 +11,7 @@ use lib.Dec.{eqb}
 use lib.ListN.{length, take}
 use lib.Seq.{take-nil, length-take-le, take_all}
 use Rattle.refusal.specs.Number.{Verdict, accept, refuse}
-use Rattle.packet.specs.declared.Touched.{Touched}
+use Rattle.packet.specs.declared.Rows.{Rows}
 use Rattle.packet.specs.Rows.{touched}
 use Rattle.packet.specs.Verdict.{legal_size}
 use Rattle.words.specs.Word.{word_at}
@@ -30,8 +30,9 @@ use Rattle.palette.specs.Mask.{set_palette_compressed}
 use Rattle.sound.specs.Format.{chosen}
 use Rattle.sound.specs.Step as sound
 use Rattle.sound.specs.Sound.{answer}
-use Rattle.state.specs.declared.Map.{Map}
-use Rattle.state.specs.declared.Map.TheVariants.{Missing, Part}
+use Rattle.state.specs.declared.Part.{Part}
+use Rattle.std.specs.Prelude.{Option, Some, None}
+use Rattle.state.specs.State.{some_part}
 use Rattle.state.specs.declared.State.{State}
 use Rattle.state.specs.Moves.{mapped}
 use Rattle.heads.specs.Heads.{hears}
@@ -140,7 +141,7 @@ module _ (st : State) (l : Lent) (n : ℕ) where
   -- ---- 11
 
   -- what the answer says of the place
-  whole_stores : (p : ℕ) (x : calls.Answer Reason) (c : ℕ) (t : Touched) → ((r : Reason) → x ≡ calls.refusal r → ⊥) → (drawn_as st p x c t).stores ≡ c
+  whole_stores : (p : ℕ) (x : calls.Answer Reason) (c : ℕ) (t : Option Rows) → ((r : Reason) → x ≡ calls.refusal r → ⊥) → (drawn_as st p x c t).stores ≡ c
   unfolding drawn_as
   whole_stores p calls.whole c t f = refl
   whole_stores p calls.unfinished c t f = refl
@@ -151,7 +152,7 @@ module _ (st : State) (l : Lent) (n : ℕ) where
   told true r e = let z : ◌≡◌ {A = ℕ} 0 1 = cc in omega arith
   told false r e = let z : ◌≡◌ {A = ℕ} 0 1 = cc in omega arith
 
-  ended_whole : (p : ℕ) (t : Bool) → t ≡ true → (c : ℕ) (r : Touched) (u : State) → (drawn_as st p (answered t) c r).answer ≡ unfinished u → ⊥
+  ended_whole : (p : ℕ) (t : Bool) → t ≡ true → (c : ℕ) (r : Option Rows) (u : State) → (drawn_as st p (answered t) c r).answer ≡ unfinished u → ⊥
   unfolding drawn_as answered
   ended_whole p true e c r u z = let w : ◌≡◌ {A = ℕ} 0 1 = cc in omega arith
   ended_whole p false e c r u z = absurd (let w : ◌≡◌ {A = ℕ} 0 1 = cc in let y : ⊥ = omega arith in y)
@@ -248,19 +249,19 @@ module _ (st : State) (l : Lent) (n : ℕ) where
   quiet_listed film kind version body p = idle _ refl (is_still _ (quiet_still film kind version body p)) l refl
 
   module _ (film : List ℕ) (spare : ℕ) where
-    mapped_listed : (map : Map) (body : List ℕ) (p : ℕ) → Listed st l n (mapped_due map film st body spare l) (draw_mapped map film st body p (within n spare) l)
+    mapped_listed : (map : Option Part) (body : List ℕ) (p : ℕ) → Listed st l n (mapped_due map film st body spare l) (draw_mapped map film st body p (within n spare) l)
     unfolding mapped_due draw_mapped
-    mapped_listed Missing body p = refuses 9 0
-    mapped_listed (Part s m) body p = lists_by (eqb st.columns 0) (refuses 9 0) (draw_listed p (part film s (s + m)) (part body 14 (length body)) spare)
+    mapped_listed None body p = refuses 9 0
+    mapped_listed (Some map) body p = lists_by (eqb st.columns 0) (refuses 9 0) (draw_listed p (part film map.start (map.start + map.long)) (part body 14 (length body)) spare)
 
-    by_listed : (map : Map) (body : List ℕ) (p : ℕ) → Listed st l n (draw_due map film st body spare l) (draw_by map film st body p (within n spare) l)
+    by_listed : (map : Option Part) (body : List ℕ) (p : ℕ) → Listed st l n (draw_due map film st body spare l) (draw_by map film st body p (within n spare) l)
     unfolding draw_due draw_by
     by_listed map body p = lists_by (is_body_short st.deep (length body)) (refuses 5 0) (mapped_listed map body p)
 
     act_listed : (kind version s : ℕ) (body : List ℕ) (p : ℕ) → Listed st l n (opcode_due film st kind body spare l) (act film st kind version s body p (within n spare) l)
     unfolding opcode_due act
     act_listed kind version s body p =
-        lists_by (eqb kind 15) (map_listed (mapped st p (Part s (p - s))))
+        lists_by (eqb kind 15) (map_listed (mapped st p (some_part s (p - s))))
         (lists_by (eqb kind 17) (by_listed st.map body p)
         (lists_by (eqb kind 11) (update_listed p (create_gradient body))
         (lists_by (eqb kind 12) (update_listed p (set_palette body))

@@ -6,8 +6,7 @@ use Prim.Native.Nat.{ℕ, zero, suc, ◌+◌, ◌*◌, ◌≤◌}
 use native.Mathlib.Omega.{arith}
 use lib.ListN.{get_or}
 use Rattle.listed.specs.Store.{Store, each, byte, bytes, from}
-use Rattle.palette.specs.Gradient.{Gradient, component, gradient_stores}
-use Rattle.palette.specs.Gradient as gradient
+use Rattle.palette.specs.Gradient.{gradient, component, gradient_stores, red_blue, red_green}
 use Rattle.palette.specs.Entries.{start, count}
 use Rattle.palette.specs.Mask.{bit, ones, group_at, masked, group_stores}
 use Rattle.palette.proofs.Masks.{bit_most}
@@ -65,15 +64,15 @@ group body k =
     (raise (3 * (8 * k + 0)) (3 * (8 * k + 8)) (24 * suc k) _ (omega arith)
     (turns (masked body (get_or body (group_at body k) 0) (group_at body k + 1) (8 * k)) (λ i. 3 * (8 * k + i)) (λ i. entry body (get_or body (group_at body k) 0) (group_at body k + 1) (8 * k) i) 8))
 
-of_gradient : (g : Gradient) → Rises 0 (gradient_stores g)
-of_gradient g = rises _ _ (gradient_stores g) (side_by_side (3 * g.base) (component g.rows g.columns g.second) (3 * gradient.entries g))
+of_gradient : (base rows columns second : ℕ) → Rises 0 (gradient_stores (gradient base rows columns second))
+of_gradient base rows columns second = rises _ _ (gradient_stores (gradient base rows columns second)) (side_by_side (3 * base) (component rows columns second) _)
 
 pub palette_order : (body : List ℕ) → PaletteOrder body
 palette_order body =
     record {
       gradients = refl;
-      red_blue_rises = of_gradient _;
-      red_green_rises = of_gradient _;
+      red_blue_rises = let g = red_blue body in of_gradient g.base g.rows g.columns g.second;
+      red_green_rises = let g = red_green body in of_gradient g.base g.rows g.columns g.second;
       entries = rises _ _ _ (side_by_side (3 * start body) (from body 4) (3 * count body));
       masks = rises _ _ _ (turns (group_stores body) (λ k. 24 * k) (group body) 32);
     }

@@ -1,7 +1,7 @@
 -- Cuts in a step (document 02, W11): each step's stores, sound not counted, as one list, of which a step that is allowed n makes the first n (`proofs/Listed`); a call cut
 -- after j of them; and that the step called again comes to what the uncut one comes to (`proofs/Again`).
 -- Assumes nothing.
-use Rattle.std.specs.Prelude.{◌≡◌, cond, List, [], ◌∷◌, ℕ, ◌+◌, ◌≤◌, ◌<◌, eqb, length, take, set}
+use Rattle.std.specs.Prelude.{◌≡◌, cond, List, [], ◌∷◌, ℕ, ◌+◌, ◌≤◌, ◌<◌, eqb, length, take, set, Option, Some, None}
 use Rattle.refusal.specs.Number.{Verdict, accept, refuse}
 use Rattle.stores.specs.Stores.{Plan, Memory, due, apply}
 use Rattle.stores.specs.Stores as drawing
@@ -12,8 +12,7 @@ use Rattle.palette.specs.Update.{Update, verdict_on}
 use Rattle.palette.specs.Gradient.{create_gradient}
 use Rattle.palette.specs.Entries.{set_palette}
 use Rattle.palette.specs.Mask.{set_palette_compressed}
-use Rattle.state.specs.declared.Map.{Map}
-use Rattle.state.specs.declared.Map.TheVariants.{Missing, Part}
+use Rattle.state.specs.declared.Part.{Part}
 use Rattle.state.specs.declared.State.{State}
 use Rattle.sound.specs.Format.{chosen}
 use Rattle.heads.specs.Heads.{hears}
@@ -64,13 +63,13 @@ abbrev pub request_due : Request → Memory → Stores
 request_due q m = call_due (draw_verdict q m) (call_plan q) m.place
 
 -- 11 by the pending map, and by its body
-unfoldable pub mapped_due : Map → List ℕ → State → List ℕ → ℕ → Lent → Stores
-mapped_due Missing film st body spare l = nothing
-mapped_due (Part start long) film st body spare l =
+unfoldable pub mapped_due : Option Part → List ℕ → State → List ℕ → ℕ → Lent → Stores
+mapped_due None film st body spare l = nothing
+mapped_due (Some map) film st body spare l =
     cond (eqb st.columns 0) nothing
-    (request_due (request_of st (part film start (start + long)) (part body 14 (length body)) (within most spare) l) (drawn_at st l))
+    (request_due (request_of st (part film map.start (map.start + map.long)) (part body 14 (length body)) (within most spare) l) (drawn_at st l))
 
-unfoldable pub draw_due : Map → List ℕ → State → List ℕ → ℕ → Lent → Stores
+unfoldable pub draw_due : Option Part → List ℕ → State → List ℕ → ℕ → Lent → Stores
 draw_due map film st body spare l = cond (is_body_short st.deep (length body)) nothing (mapped_due map film st body spare l)
 
 -- by the opcode's type: 0F has one store, the place, and what is none of these has none

@@ -50,7 +50,7 @@ module _ (stereo : Bool) (first : Last) («data» : List ℕ) where
 
 -- ---- and the samples, written where there is a room
 
-none_left : (room : List ℕ) → length room ≤ 0 → room ≡ []
+pub none_left : (room : List ℕ) → length room ≤ 0 → room ≡ []
 none_left [] h = refl
 none_left (x ∷ xs) h = absurd (not-suc-le-zero h)
 

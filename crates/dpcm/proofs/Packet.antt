@@ -1,6 +1,6 @@
 -- Packets: what the functions that decode one need, and a packet cut in two.
 -- Assumes nothing.
-use Rattle.std.proofs.Common.{◌≡◌, ℕ, ◌+◌, ◌-◌, ◌*◌, ◌/◌, ◌%◌, ◌<◌, ◌≤◌, Bool, true, false, cond, List, ◌++◌, length, get_or, take, drop, set, sym, refl, ap, ◌∙◌, append_assoc, arith, length-append, length-drop, length-take-le}
+use Rattle.std.proofs.Common.{◌≡◌, ℕ, ◌+◌, ◌-◌, ◌*◌, ◌/◌, ◌%◌, ◌<◌, ◌≤◌, Bool, true, false, cond, List, [], ◌++◌, length, get_or, take, drop, set, sym, refl, ap, ◌∙◌, append_assoc, arith, length-append, length-drop, length-take-le}
 use lib.ListN.{get_or-append}
 use lib.Seq.{drop-append-le}
 use Rattle.words.specs.Word.{word_at}
@@ -12,18 +12,10 @@ use Rattle.dpcm.specs.Samples.{last, samples, last_of, bytes_of}
 use Rattle.dpcm.specs.Packet.{channels, start_words, first_samples, start_length, packet_first, leading, packet_samples, packet_last, Fits}
 use Rattle.dpcm.specs.Stride.{HoldsOrNone}
 use Rattle.dpcm.specs.declared.Last.{Last}
-use Rattle.dpcm.proofs.Samples.{samples_append, last_append, samples_length, bytes_append}
-use Rattle.dpcm.proofs.Decoding.{held}
+use Rattle.dpcm.proofs.Samples.{bytes_length, samples_append, last_append, samples_length, bytes_append}
+use Rattle.dpcm.proofs.Decoding.{held, none_left}
 
 -- ---- start words
-
-pub start_stereo : (stereo : Bool) (l : Last) (bytes : List ℕ) (a b : ℕ) → stereo ≡ true → a ≡ word_at bytes 0 → b ≡ word_at bytes 2 → last a b ≡ start_words stereo l bytes
-unfolding start_words
-start_stereo stereo l bytes a b t ea eb = rw (t, ea, eb)
-
-pub start_mono : (stereo : Bool) (l : Last) (bytes : List ℕ) (a : ℕ) → stereo ≡ false → a ≡ word_at bytes 0 → last a l.other ≡ start_words stereo l bytes
-unfolding start_words
-start_mono stereo l bytes a t ea = rw (t, ea)
 
 -- their bytes
 pub start_bytes : (stereo : Bool) (l : Last) → length (bytes_of (first_samples stereo l)) ≡ 2 * channels stereo
@@ -108,41 +100,10 @@ module _ (stereo : Bool) (l : Last) (room₀ : List ℕ) (fits : 2 * channels st
 
 -- ---- a packet, first or not
 
-pub first_begun : (stereo begun : Bool) (l : Last) (bytes : List ℕ) → begun ≡ true → l ≡ packet_first stereo begun l bytes
-unfolding packet_first
-first_begun stereo begun l bytes t = rw t
-
-pub first_started : (stereo begun : Bool) (l : Last) (bytes : List ℕ) (r : Last) → begun ≡ false → r ≡ start_words stereo l bytes → r ≡ packet_first stereo begun l bytes
-unfolding packet_first
-first_started stereo begun l bytes r t e = rw t e
-
-pub length_begun : (stereo begun : Bool) → begun ≡ true → 0 ≡ start_length stereo begun
-length_begun stereo begun t = rw t
-
-pub length_started : (stereo begun : Bool) (m : ℕ) → begun ≡ false → m ≡ channels stereo → 2 * m ≡ start_length stereo begun
-length_started stereo begun m t e = rw (t, e)
-
-pub started_fits : (stereo begun : Bool) (room : ℕ) → begun ≡ false → start_length stereo begun ≤ room → 2 * channels stereo ≤ room
-started_fits stereo begun room t h = rw t at h
-
-pub leads_none : (stereo begun : Bool) (first : Last) (room : List ℕ) → begun ≡ true → room ≡ written (bytes_of (leading stereo begun first)) room
-unfolding leading bytes_of
-leads_none stereo begun first room t = rw t (written_none room)
-
-pub leads_start : (stereo begun : Bool) (first : Last) (room room' : List ℕ) → begun ≡ false → room' ≡ written (bytes_of (first_samples stereo first)) room
-    → room' ≡ written (bytes_of (leading stereo begun first)) room
-unfolding leading
-leads_start stereo begun first room room' t e = rw t e
-
 leading_bytes : (stereo begun : Bool) (first : Last) → length (bytes_of (leading stereo begun first)) ≡ start_length stereo begun
 unfolding leading bytes_of
 leading_bytes stereo true first = refl
 leading_bytes stereo false first = start_bytes stereo first
-
--- room for the start words, and behind them for the samples
-pub start_room : (stereo begun : Bool) (bytes room : ℕ) → Fits stereo begun bytes room → start_length stereo begun ≤ room
-start_room stereo true bytes room f = omega arith
-start_room stereo false bytes room f = omega (arith, f.start, f.samples)
 
 rest_room : (stereo begun : Bool) (bytes room : ℕ) → Fits stereo begun bytes room → 2 * (bytes - start_length stereo begun) ≤ room - start_length stereo begun
 rest_room stereo true bytes room f = let g : 2 * (bytes - 0) ≤ room = f.samples in omega (arith, g)
@@ -161,9 +122,6 @@ module _ (stereo begun : Bool) (l : Last) (bytes : List ℕ) (first : Last) (ef 
         let k = length-take-le (length whole - n) (drop n whole) (omega (arith, length-drop n whole)) in
         omega (arith, k, en, ap length er, length-drop n bytes, rest_room stereo begun _ _ f)
 
-    pub rest_fits : HoldsOrNone (2 * length rest) (length (take (length whole - n) (drop n whole)))
-    rest_fits h = rest_holds
-
     pub packet_decoded : whole ≡ written (bytes_of (leading stereo begun first)) room → (r : Last) (part : List ℕ)
         → (r ≡ last_of stereo first rest) × (let behind = take (length whole - n) (drop n whole) in part ≡ written (take (length behind) (bytes_of (samples stereo first rest))) behind)
         → (r ≡ packet_last stereo begun l bytes) × (take n whole ++ (part ++ drop (length whole - n) (drop n whole)) ≡ written (bytes_of (packet_samples stereo begun l bytes)) room)
@@ -172,10 +130,6 @@ module _ (stereo begun : Bool) (l : Last) (bytes : List ℕ) (first : Last) (ef 
         let m : n ≡ length (bytes_of (leading stereo begun first)) = en ∙ sym (leading_bytes stereo begun first) in
         let w = written_behind (bytes_of (leading stereo begun first)) (bytes_of (samples stereo first rest)) room whole part n ew m (held stereo first rest _ part rest_holds e.1) in
         (packet_passed r e.0, w ∙ ap (λ (x : List ℕ). written x room) (sym (bytes_append (leading stereo begun first) (samples stereo first rest)) ∙ rw (er, en, ef) refl))
-
--- where the samples are dropped
-pub nothing_held : (bytes room : ℕ) → room ≡ 0 → HoldsOrNone bytes room
-nothing_held bytes room e h = omega arith
 
 -- ---- how many samples, and a packet cut in two: what is carried from one packet to the next is enough
 
@@ -220,3 +174,15 @@ module _ (stereo : Bool) where
   packet_last_then true l a b h = last_append stereo l a b
   packet_last_then false l a b h =
       rw (start_kept stereo l a b h, drop-append-le (2 * channels stereo) a b h) (last_append stereo (start_words stereo l a) (drop (2 * channels stereo) a) b)
+
+-- a packet that fits an empty room has no samples
+pub none_fits : (stereo begun : Bool) (l : Last) (bytes room room' : List ℕ) → length room ≡ 0 → length room' ≡ length room → Fits stereo begun (length bytes) (length room)
+    → room' ≡ written (bytes_of (packet_samples stereo begun l bytes)) room
+unfolding written
+none_fits stereo begun l bytes room room' e e' f =
+    let out = bytes_of (packet_samples stereo begun l bytes) in
+    let z : length out ≤ 0 = omega (arith, bytes_length (packet_samples stereo begun l bytes), packet_count stereo begun l bytes f.start, f.samples) in
+    let a : out ≡ [] = none_left out z in
+    let b : room ≡ [] = none_left room (omega arith) in
+    let c : room' ≡ [] = none_left room' (omega arith) in
+    rw (a, b, c)

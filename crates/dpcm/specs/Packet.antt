@@ -1,7 +1,7 @@
 -- Compressed packets (document 02, W5): the first has one start word a channel, which are its first samples, then one byte a sample; later ones go on
 -- from the last sample of each channel.
 -- Assumes nothing.
-use Rattle.std.specs.Prelude.{ℕ, ◌-◌, ◌*◌, ◌≤◌, Bool, true, false, cond, List, [], ◌∷◌, ◌++◌, drop}
+use Rattle.std.specs.Prelude.{ℕ, ◌-◌, ◌*◌, ◌≤◌, ◌<◌, Bool, true, false, cond, List, [], ◌∷◌, ◌++◌, drop}
 use Rattle.words.specs.Word.{word_at}
 use Rattle.dpcm.specs.Samples.{last, samples, last_of}
 use Rattle.dpcm.specs.declared.Last.{Last}
@@ -43,3 +43,7 @@ packet_last stereo begun l bytes = last_of stereo (packet_first stereo begun l b
 pub record Fits (stereo begun : Bool) (bytes room : ℕ) : Type 0 where
   pub start : start_length stereo begun ≤ bytes
   pub samples : 2 * (bytes - cond begun 0 (channels stereo)) ≤ room
+
+-- or the room is empty, and the samples are dropped
+abbrev pub FitsOrNone : Bool → Bool → ℕ → ℕ → Type 0
+FitsOrNone stereo begun bytes room = 0 < room → Fits stereo begun bytes room

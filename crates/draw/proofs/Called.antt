@@ -6,8 +6,8 @@ use Prim.Native.Nat.{ℕ}
 use borrow.Author.Tests.{eq-eqb, ne_eqb}
 use lib.Dec.{eqb}
 use Rattle.refusal.specs.Number.{Verdict, accept, refuse}
-use Rattle.packet.specs.declared.Touched.{Touched}
-use Rattle.packet.specs.declared.Touched.TheVariants.{None}
+use Rattle.std.specs.Prelude.{Option, None}
+use Rattle.packet.specs.declared.Rows.{Rows}
 use Rattle.packet.specs.Packet.{blocks}
 use Rattle.packet.specs.Rows.{touched}
 use Rattle.stores.specs.Stores.{Plan, Memory, memory}
@@ -27,12 +27,12 @@ comes_refused v n a k e = rw e
 -- ---- the answer
 
 -- by the place that the stores leave
-answers : (d : Plan) (m : Memory) (v : Call Reason) (n : ℕ) (b : List ℕ) (k j : ℕ) (t : Touched) → Called d m n b k j → v ≡ allowed n
+answers : (d : Plan) (m : Memory) (v : Call Reason) (n : ℕ) (b : List ℕ) (k j : ℕ) (t : Option Rows) → Called d m n b k j → v ≡ allowed n
     → reporting (answered (eqb k d.blocks)) j t ≡ outcome d t None m v
 unfolding outcome
 answers d m v n b k j t h e = rw (e, ← h.counts, ← h.leaves) refl
 
-module _ (n k j : ℕ) (t : Touched) where
+module _ (n k j : ℕ) (t : Option Rows) where
   pub answers_whole : k ≡ n → reporting whole j t ≡ answering n k j t
   unfolding answered
   answers_whole e = rw (eq-eqb k n e)
@@ -51,7 +51,7 @@ module _ (c : Request) (m : Memory) where
       (ap (word_pictures c.front c.oldest) (refused_leaves (call_plan c) m _ (reason a k) q), refused_answers (call_plan c) m _ (touched (packet_of c)) None (reason a k) q)
 
   -- the loop's stores, with the answer by the place that they leave
-  pub says_made : (b : List ℕ) (k j : ℕ) (t : Touched) → Called (call_plan c) m c.allowed.stores b k j → accept ≡ draw_verdict c m → t ≡ touched (packet_of c)
+  pub says_made : (b : List ℕ) (k j : ℕ) (t : Option Rows) → Called (call_plan c) m c.allowed.stores b k j → accept ≡ draw_verdict c m → t ≡ touched (packet_of c)
       → (word_pictures c.front c.oldest (memory b k) ≡ leaves c m) × (answering (blocks (packet_of c)) k j t ≡ report m c)
   says_made b k j t h e r =
       let d = call_plan c in

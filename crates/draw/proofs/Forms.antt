@@ -10,7 +10,7 @@ use lib.Dec.{ltb}
 use lib.ListN.{length}
 use Rattle.refusal.specs.Number.{Verdict, accept, refuse}
 use Rattle.packet.specs.Packet.{packet_in, blocks, pixels}
-use Rattle.packet.specs.declared.Touched.TheVariants.{None}
+use Rattle.std.specs.Prelude.{None}
 use Rattle.packet.specs.Rows.{touched}
 use Rattle.packet.specs.Verdict.{default, strict, legal_size, map_fits}
 use Rattle.packet.specs.Forms.{OneOver}

@@ -2,9 +2,8 @@
 -- Assumes nothing.
 use mathlib.Core.Path.{◌≡◌, refl, sym, ap, ◌∙◌}
 use mathlib.Core.List.{List}
-use Prim.Native.Nat.{ℕ, ◌+◌, ◌-◌, ◌/◌, ◌%◌, ◌≤◌, ◌<◌}
+use Prim.Native.Nat.{ℕ, ◌+◌, ◌-◌, ◌≤◌, ◌<◌}
 use native.Mathlib.Omega.{arith}
-use native.Mathlib.Nat.{div-le_self}
 use lib.ListN.{length, drop, length-drop}
 use Rattle.block.specs.Block.{kind_of, data_length, offset_length}
 use Rattle.paint.specs.Value.{pixel_count, Older, block_plan}
@@ -12,7 +11,7 @@ use Rattle.paint.specs.Asked.{Canvas, Drawable}
 use Rattle.packet.specs.Packet.{Packet, Position, position, blocks, width, height, left, top, code, start, data_of, offsets_of, kind}
 use Rattle.packet.specs.Accepted.{Takes}
 use Rattle.packet.proofs.Grid.{next_column, next_row, column_below, row_below}
-use Rattle.packet.proofs.Walk.{code_below, position_next, blocks_few}
+use Rattle.packet.proofs.Walk.{code_below, position_next}
 use Rattle.packet.proofs.Exactly.{is_copy}
 use Rattle.stores.specs.Stores.{memory, first_pixels}
 use Rattle.stores.specs.Loop.{Made, Called}
@@ -33,21 +32,6 @@ pub record Going (p : Packet) (older : Older) (b₀ : List ℕ) (k₀ allowed : 
   pub across : x ≡ left p k
   pub down : y ≡ top p k
 
--- the corner of the block at the place is a small number
-pub record Small (c k : ℕ) : Type 0 where
-  pub some : 0 < c
-  pub column : k % c ≤ 80
-  pub row : k / c ≤ 4800
-
-pub small : (p : Packet) (f l k : ℕ) → Accepted p f l k → Small p.columns k
-small p f l k a =
-    let some : 0 < p.columns = omega (arith, a.sized.some_columns) in
-    record {
-      some = some;
-      column = omega (arith, column_below p.columns k some, a.sized.columns);
-      row = omega (arith, div-le_self k p.columns, a.at, blocks_few p a.sized);
-    }
-
 pub going_start : (p : Packet) (older : Older) (b : List ℕ) (k at aside n f l : ℕ) → Accepted p f l k → position at aside ≡ start p k → Going p older b k n b k k at aside n (left p k) (top p k)
 going_start p older b k at aside n f l a e =
     record {
@@ -66,20 +50,6 @@ module _ (p : Packet) (older : Older) (b₀ : List ℕ) (k₀ n : ℕ) (b : List
 
   pub going_length : length b ≡ length b₀
   going_length = made_length (plan_over p older) (memory b₀ k₀) (n - l) k 0 b g.made
-
-  -- the data of block k is there
-  at_is : at ≡ (start p k).bytes
-  at_is = ap (λ (a : Position). a.bytes) g.found
-
-  pub at_inside : Accepted p (length older.last) (length b₀) k₀ → k < blocks p → at ≤ length p.bytes
-  at_inside a h = omega (arith, at_is, (a.taken k h).there)
-
-  -- and what it has in the second part
-  aside_is : aside ≡ (start p k).offsets
-  aside_is = ap (λ (a : Position). a.offsets) g.found
-
-  pub aside_inside : Accepted p (length older.last) (length b₀) k₀ → k < blocks p → aside ≤ length p.offsets
-  aside_inside a h = omega (arith, aside_is, (a.taken k h).beside)
 
   -- block k, its code and its data as code found them
   module _ (a : Accepted p (length older.last) (length b₀) k₀) (h : k < blocks p) (c : ℕ) (s o : List ℕ) (ec : c ≡ code p k) (es : s ≡ drop at p.bytes) (eo : o ≡ drop aside p.offsets) where
@@ -142,12 +112,6 @@ module _ (p : Packet) (older : Older) (b₀ : List ℕ) (k₀ n : ℕ) (b : List
     painted m b' e =
         (rw (kind_is, data_is, g.across, g.down) at e)
         ∙ first_agree (block_plan p.deep (kind p k) (data_of p k) (width p) (left p k) (top p k) older) (plan_over p older) 0 k b m (λ i q. refl) (λ i q c e. refl)
-
-    pub at_small : (z : ℕ) → z ≡ data_length p.deep (kind_of p.deep c s o) → at + z ≤ length p.bytes
-    at_small z e = let q : z ≡ data_length p.deep (kind p k) = e ∙ ap (data_length p.deep) kind_is in omega (arith, at_is, takes.there)
-
-    pub aside_small : (z : ℕ) → z ≡ offset_length (kind_of p.deep c s o) → aside + z ≤ length p.offsets
-    aside_small z e = let q : z ≡ offset_length (kind p k) = e ∙ ap offset_length kind_is in omega (arith, aside_is, takes.beside)
 
     size_is : size_at p k ≡ pixel_count (kind_of p.deep c s o)
     unfolding size_at

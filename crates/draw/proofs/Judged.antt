@@ -9,10 +9,10 @@ use borrow.Author.Tests.{lt-ltb, le-ltb, eq-eqb, ne_eqb, ltb-false, eqb-true}
 use lib.Dec.{ltb}
 use lib.ListN.{length}
 use Rattle.words.proofs.Tests.{not_first, first}
+use Rattle.std.specs.Prelude.{Result, Ok, Option}
+use Rattle.refusal.specs.declared.Refusal.{Refusal}
 use Rattle.refusal.specs.Number.{Verdict, accept, refuse}
-use Rattle.packet.specs.declared.Touched.{Touched}
-use Rattle.packet.specs.declared.Inspected.{Inspected}
-use Rattle.packet.specs.declared.Inspected.TheVariants as inspected
+use Rattle.packet.specs.declared.Rows.{Rows}
 use Rattle.packet.specs.Rows.{finding, found}
 use Rattle.packet.proofs.Strip.{found_accepted}
 use Rattle.packet.specs.Packet.{Packet, packet_in, blocks, pixels}
@@ -110,7 +110,7 @@ module _ (deep : Bool) (spare columns rows : ℕ) (map bytes : List ℕ) (front 
   accepted_call v = let t = accepted_tests v in (accepted_size t, accepted_as t, t)
 
   -- what a call has that was judged and accepted, by what the judge answers
-  pub judged_call : (t : Touched) (i : Inspected) → found i ≡ finding (call_verdict_in deep spare columns rows map bytes front oldest back place) t → (u : Touched) → i ≡ inspected.Accepted u
+  pub judged_call : (t : Option Rows) (i : Result (Option Rows) Refusal) → found i ≡ finding (call_verdict_in deep spare columns rows map bytes front oldest back place) t → (u : Option Rows) → i ≡ Ok u
       → (legal_size columns rows ≡ true) × Accepted (packet_in deep columns rows map bytes) front back place × DrawAcceptsIn deep spare columns rows map bytes front oldest back place
   judged_call t i e u q = accepted_call (sym (found_accepted i _ t e u q).0)
 

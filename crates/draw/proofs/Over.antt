@@ -12,7 +12,7 @@ use Rattle.refusal.specs.Number.{accept}
 use Rattle.pattern.proofs.Agree.{Agree}
 use Rattle.packet.specs.Packet.{Packet, offsets_at, first_part, second_part, bytes_in, offsets_in, Position, blocks, width, left, top, start, kind}
 use Rattle.packet.specs.Accepted.{Takes, InTwo, PartsFit, AcceptsIn}
-use Rattle.packet.specs.declared.Touched.TheVariants.{None}
+use Rattle.std.specs.Prelude.{None}
 use Rattle.packet.specs.Rows.{touched}
 use Rattle.packet.proofs.Agree.{start_same, kind_same, takes_same, fetched_same}
 use Rattle.packet.proofs.Agree as packet

@@ -1,11 +1,11 @@
 -- A drawing call, for both widths: what it brings, whether it is refused at the memory that it finds, and document 01's values of its answer.
 -- Order of its tests: size 6, pictures 8, map 10, place 11, parts 20, then block by block 12, 13, 14, then 15.
 -- Assumes nothing.
-use Rattle.std.specs.Prelude.{Bool, true, false, cond, List, [], ℕ, eqb, ltb, length}
+use Rattle.std.specs.Prelude.{Bool, true, false, cond, List, [], ℕ, eqb, ltb, length, Result, Ok, Err, Option, None}
+use Rattle.refusal.specs.declared.Refusal.{Refusal}
 use Rattle.refusal.specs.Number.{Verdict, accept, refuse, number, block}
 use Rattle.packet.specs.Packet.{Packet, packet_in, blocks, pixels}
-use Rattle.packet.specs.declared.Touched.{Touched}
-use Rattle.packet.specs.declared.Touched.TheVariants.{None}
+use Rattle.packet.specs.declared.Rows.{Rows}
 use Rattle.packet.specs.Rows.{touched}
 use Rattle.packet.specs.Verdict.{legal_size, map_fits, parts_verdict}
 use Rattle.stores.specs.Stores.{Plan, Memory}
@@ -14,7 +14,7 @@ use Rattle.paint.specs.Value.{Older}
 use Rattle.draw.specs.Drawing.{plan_over}
 use Rattle.draw.specs.declared.Allowed.{Allowed}
 use Rattle.draw.specs.declared.Drawn.{Drawn}
-use Rattle.draw.specs.declared.Drawn.TheVariants.{Whole, Unfinished, Refused}
+use Rattle.draw.specs.declared.Drawn.TheVariants.{Whole, Unfinished}
 
 -- what a call is allowed: so many stores, and so many bytes of the packet left over
 abbrev pub within : ℕ → ℕ → Allowed
@@ -93,7 +93,7 @@ comes accept n = allowed n
 comes (refuse number block) n = refused (reason number block)
 
 -- drawing calls: the plan that each draws, the rows of blocks that its packet touches (document 02, W2), none where it is refused, and what it comes to
-abbrev pub calling : Calling Request Reason Touched
+abbrev pub calling : Calling Request Reason (Option Rows)
 calling =
     record {
       plan = call_plan;
@@ -121,20 +121,20 @@ leaves c m = word_pictures c.front c.oldest (step calling m c)
 
 -- what a call tells: its answer, its count and the rows of blocks that its packet touches
 abbrev pub Report : Type 0
-Report = Outcome Reason Touched
+Report = Outcome Reason (Option Rows)
 
 abbrev pub report : Memory → Request → Report
 report m c = reply calling m c
 
-abbrev pub reporting : Answer Reason → ℕ → Touched → Report
+abbrev pub reporting : Answer Reason → ℕ → Option Rows → Report
 reporting a n t = record { answer = a; count = n; rows = t }
 
 -- an accepted call that made so many stores and left the place there, of a packet that touches these rows
-abbrev pub answering : ℕ → ℕ → ℕ → Touched → Report
+abbrev pub answering : ℕ → ℕ → ℕ → Option Rows → Report
 answering blocks place count t = reporting (answered (eqb place blocks)) count t
 
 -- document 01's values of each answer: "whole" and "unfinished" with the count of stores made, a refusal with its number and block
-abbrev pub said : Drawn → Report
-said (Whole n t) = reporting whole n t
-said (Unfinished n t) = reporting unfinished n t
-said (Refused r) = reporting (refusal (reason (number r) (block r))) 0 None
+abbrev pub said : Result Drawn Refusal → Report
+said (Ok (Whole n t)) = reporting whole n t
+said (Ok (Unfinished n t)) = reporting unfinished n t
+said (Err r) = reporting (refusal (reason (number r) (block r))) 0 None

@@ -1,20 +1,19 @@
 -- The answers of the encoder, by its tests in order.
 -- Assumes nothing.
 use mathlib.Core.Path.{◌≡◌, refl, sym, ap, ◌∙◌}
-use mathlib.Core.Bool.{Bool, true, false, not}
+use mathlib.Core.Bool.{true}
 use mathlib.Core.List.{List, ◌++◌}
-use Prim.Native.Nat.{ℕ, ◌+◌, ◌-◌, ◌*◌, ◌/◌, ◌≤◌, ◌<◌}
+use Prim.Native.Nat.{ℕ, ◌+◌, ◌-◌, ◌*◌, ◌/◌, ◌≤◌}
 use native.Mathlib.Omega.{arith}
 use lib.ListN.{length, take, drop, replicate, length-append, length-drop}
 use lib.Seq.{take_all}
-use borrow.Author.Tests.{lt-ltb, le-ltb, not-true, not-false}
+use borrow.Author.Tests.{le-ltb}
 use Rattle.packet.specs.Packet.{pixels}
 use Rattle.packet.specs.Verdict.{legal_size}
-use Rattle.packet.proofs.Sizes.{size_is}
+use Rattle.packet.proofs.Sizes.{size_is, is_size}
 use Rattle.room.specs.Room.{written}
 use Rattle.room.proofs.Written.{written_behind, written_length}
-use Rattle.refusal.specs.declared.Refusal.TheVariants.{Size, Buffer, PacketLength, Room}
-use Rattle.encode.specs.declared.Encoded.TheVariants.{Made, Refused}
+use Rattle.std.proofs.Common.{Ok}
 use Rattle.encode.specs.Encode.{Task, Lent, data_to, map_of, body_of, encode_verdict, outcome, left, encode_of}
 use Rattle.encode.proofs.Blocks.{map_length}
 
@@ -36,74 +35,21 @@ part_room room whole e n m q h =
     let l = zeros_length room whole e (omega arith) in
     rw (take_all (length whole - 14) (drop 14 whole) (omega (arith, length-drop 14 whole))) (omega (arith, length-drop 14 whole, l))
 
--- the test of the size, as code has it
-pub legal_by : (columns rows : ℕ) {r : Bool} → r ≡ legal_size columns rows → not r ≡ false → legal_size columns rows ≡ true
-legal_by columns rows {r} e h = sym e ∙ not-false r h
+pub size_few : (columns rows : ℕ) → true ≡ legal_size columns rows → (columns ≤ 80) × (rows ≤ 60)
+size_few columns rows e = let l = size_is columns rows (sym e) in (l.0.bound, l.1.bound)
 
-pub illegal_by : (columns rows : ℕ) {r : Bool} → r ≡ legal_size columns rows → not r ≡ true → legal_size columns rows ≡ false
-illegal_by columns rows {r} e h = sym e ∙ not-true r h
+module _ (j : Task) (rows : ℕ) where
+  pub lent : true ≡ legal_size j.columns rows → pixels j.columns rows ≤ length j.wanted → pixels j.columns rows ≤ length j.front → pixels j.columns rows ≤ length j.back
+      → Lent j rows
+  lent e w f b = let l = size_is j.columns rows (sym e) in record { wide = l.0; high = l.1; wanted_long = w; front_long = f; back_long = b }
 
-pub size_few : (columns rows : ℕ) → legal_size columns rows ≡ true → (columns ≤ 80) × (rows ≤ 60)
-size_few columns rows e = let l = size_is columns rows e in (l.0.bound, l.1.bound)
-
-module _ (j : Task) (rows : ℕ) (map body : List ℕ) where
-  pub refuses_6 : legal_size j.columns rows ≡ false → left (Refused Size) map body ≡ encode_of j rows map body
+  pub makes : (map body : List ℕ) → Lent j rows → (m : ℕ) → m ≡ length (data_to j (j.columns * rows)) → 14 + m ≤ 65531 → (j.columns * rows + 1) / 2 ≤ length map → 14 + m ≤ length body
+      → (map' body' : List ℕ) → map' ≡ written (map_of j (j.columns * rows)) map → body' ≡ written (body_of j (j.columns * rows)) body
+      → left (Ok (record { map = (j.columns * rows + 1) / 2; body = 14 + m })) map' body' ≡ encode_of j rows map body
   unfolding encode_verdict outcome
-  refuses_6 e = rw e
-
-  module _ (z : legal_size j.columns rows ≡ true) where
-    pub refuses_8_wanted : length j.wanted < pixels j.columns rows → left (Refused Buffer) map body ≡ encode_of j rows map body
-    unfolding encode_verdict outcome
-    refuses_8_wanted h = rw (z, lt-ltb _ _ h)
-
-    module _ (w : pixels j.columns rows ≤ length j.wanted) where
-      pub refuses_8_front : length j.front < pixels j.columns rows → left (Refused Buffer) map body ≡ encode_of j rows map body
-      unfolding encode_verdict outcome
-      refuses_8_front h = rw (z, le-ltb _ _ w, lt-ltb _ _ h)
-
-      module _ (f : pixels j.columns rows ≤ length j.front) where
-        pub refuses_8_back : length j.back < pixels j.columns rows → left (Refused Buffer) map body ≡ encode_of j rows map body
-        unfolding encode_verdict outcome
-        refuses_8_back h = rw (z, le-ltb _ _ w, le-ltb _ _ f, lt-ltb _ _ h)
-
-        module _ (b : pixels j.columns rows ≤ length j.back) where
-          pub lent : Lent j rows
-          lent = let l = size_is j.columns rows z in record { wide = l.0; high = l.1; wanted_long = w; front_long = f; back_long = b }
-
-          module _ (m : ℕ) (e : m ≡ length (data_to j (j.columns * rows))) where
-            is_long : length (body_of j (j.columns * rows)) ≡ 14 + m
-            is_long = body_length j (j.columns * rows) ∙ ap (λ (x : ℕ). 14 + x) (sym e)
-
-            pub refuses_23 : 65531 < 14 + m → left (Refused PacketLength) map body ≡ encode_of j rows map body
-            unfolding encode_verdict outcome
-            refuses_23 h = let g : 65531 < length (body_of j (j.columns * rows)) = omega (arith, is_long) in rw (z, le-ltb _ _ w, le-ltb _ _ f, le-ltb _ _ b, lt-ltb _ _ g)
-
-            module _ (s : 14 + m ≤ 65531) where
-              short : length (body_of j (j.columns * rows)) ≤ 65531
-              short = omega (arith, is_long)
-
-              pub refuses_19_map : length map < (j.columns * rows + 1) / 2 → left (Refused Room) map body ≡ encode_of j rows map body
-              unfolding encode_verdict outcome
-              refuses_19_map h =
-                  let g : length map < length (map_of j (j.columns * rows)) = omega (arith, map_length j (j.columns * rows)) in
-                  rw (z, le-ltb _ _ w, le-ltb _ _ f, le-ltb _ _ b, le-ltb _ _ short, lt-ltb _ _ g)
-
-              module _ (a : (j.columns * rows + 1) / 2 ≤ length map) where
-                fits : length (map_of j (j.columns * rows)) ≤ length map
-                fits = omega (arith, map_length j (j.columns * rows))
-
-                pub refuses_19_body : length body < 14 + m → left (Refused Room) map body ≡ encode_of j rows map body
-                unfolding encode_verdict outcome
-                refuses_19_body h =
-                    let g : length body < length (body_of j (j.columns * rows)) = omega (arith, is_long) in
-                    rw (z, le-ltb _ _ w, le-ltb _ _ f, le-ltb _ _ b, le-ltb _ _ short, le-ltb _ _ fits, lt-ltb _ _ g)
-
-                module _ (o : 14 + m ≤ length body) where
-                  pub body_fits : length (body_of j (j.columns * rows)) ≤ length body
-                  body_fits = omega (arith, is_long)
-
-                  pub makes : (map' body' : List ℕ) → map' ≡ written (map_of j (j.columns * rows)) map → body' ≡ written (body_of j (j.columns * rows)) body
-                      → left (Made ((j.columns * rows + 1) / 2) (14 + m)) map' body' ≡ encode_of j rows map body
-                  unfolding encode_verdict outcome
-                  makes map' body' p q =
-                      rw (z, le-ltb _ _ w, le-ltb _ _ f, le-ltb _ _ b, le-ltb _ _ short, le-ltb _ _ fits, le-ltb _ _ body_fits, p, q, is_long, map_length j (j.columns * rows))
+  makes map body q m e s a o map' body' p r =
+      let long : length (body_of j (j.columns * rows)) ≡ 14 + m = body_length j (j.columns * rows) ∙ ap (λ (x : ℕ). 14 + x) (sym e) in
+      let short : length (body_of j (j.columns * rows)) ≤ 65531 = omega (arith, long) in
+      let fits : length (map_of j (j.columns * rows)) ≤ length map = omega (arith, map_length j (j.columns * rows)) in
+      let holds : length (body_of j (j.columns * rows)) ≤ length body = omega (arith, long) in
+      rw (is_size j.columns rows q.wide q.high, le-ltb _ _ q.wanted_long, le-ltb _ _ q.front_long, le-ltb _ _ q.back_long, le-ltb _ _ short, le-ltb _ _ fits, le-ltb _ _ holds, p, r, long, map_length j (j.columns * rows))

@@ -3,7 +3,6 @@
 use mathlib.Core.Path.{◌≡◌, refl, sym, ap, ◌∙◌}
 use mathlib.Core.List.{List, [], ◌∷◌, ◌++◌, append-nil}
 use Prim.Native.Nat.{ℕ, suc, ◌+◌, ◌-◌, ◌*◌, ◌/◌, ◌%◌, ◌≤◌, ◌<◌, min}
-use native.Mathlib.Nat.{mul-le-mul, mul-le-mul_right}
 use native.Mathlib.Numerals.{add-one}
 use native.Mathlib.Decide.{dec_lt}
 use native.Mathlib.Omega.{arith}
@@ -14,6 +13,7 @@ use Rattle.room.proofs.Written.{Writing, writing_start, writing_more, written_no
 use Rattle.packet.specs.Packet.{pixels}
 use Rattle.packet.proofs.Grid.{column_below, row_below}
 use Rattle.paint.specs.Asked.{Square}
+use native.Mathlib.Nat.{mul-le-mul_right}
 use Rattle.choice.specs.declared.Way.{Way}
 use Rattle.choice.specs.declared.Way.TheVariants.{Same, Kept, One, Dither, Coarse, Four, Fine, Two, Raw}
 use Rattle.choice.specs.Choice.{code_of, length_by, data_by}
@@ -23,27 +23,16 @@ use Rattle.choice.proofs.First.{listed_length, listed_from}
 use borrow.Author.Tests.{lt-ltb, le-ltb}
 use Rattle.choice.proofs.Best.{length_by_lem, code_few}
 
--- what is known of block k of a lent picture
-pub record Block (columns rows k : ℕ) : Type 0 where
-  pub some : 0 < columns
-  pub wide : columns ≤ 80
-  pub column : k % columns < columns
-  pub row : k / columns < rows
-  pub high : rows ≤ 60
-
-pub block_of : (j : Task) (rows : ℕ) → Lent j rows → (k : ℕ) → k < j.columns * rows → Block j.columns rows k
-block_of j rows q k h =
+-- block k stands in a lent picture
+pub square_in : (j : Task) (rows k : ℕ) → Lent j rows → k < j.columns * rows → (long : ℕ) → pixels j.columns rows ≤ long
+    → Square (8 * j.columns) (8 * (k % j.columns)) (8 * (k / j.columns)) long
+square_in j rows k q h long l =
     let some : 0 < j.columns = omega (arith, q.wide.least) in
-    record { some = some; wide = q.wide.bound; column = column_below j.columns k some; row = row_below j.columns rows k some h; high = q.high.bound }
-
-pub block_square : (columns rows k long : ℕ) → Block columns rows k → pixels columns rows ≤ long → Square (8 * columns) (8 * (k % columns)) (8 * (k / columns)) long
-block_square columns rows k long b h =
-    let l : 8 * (k / columns) + 8 ≤ 8 * rows = omega (arith, b.row) in
-    let m = mul-le-mul_right (8 * columns) l in
-    record { width = omega (arith, b.wide); across = omega (arith, b.column); down = omega (arith, b.row, b.high); room = omega (arith, m) }
-
-pub blocks_few : (j : Task) (rows : ℕ) → Lent j rows → j.columns * rows ≤ 4800
-blocks_few j rows q = mul-le-mul q.wide.bound q.high.bound
+    let column = column_below j.columns k some in
+    let row = row_below j.columns rows k some h in
+    let down : 8 * (k / j.columns) + 8 ≤ 8 * rows = omega (arith, row) in
+    let m = mul-le-mul_right (8 * j.columns) down in
+    record { width = omega (arith, q.wide.bound); across = omega (arith, column); down = omega (arith, down, q.high.bound); room = omega (arith, m, l) }
 
 length_few : (t : Way) → length_by t ≤ 64
 length_few Same = omega arith
@@ -72,9 +61,6 @@ measured_more j k at l way m e q =
     let n : length (part_at j k) ≡ l = length_by_lem j.wanted j.front j.back (8 * c) (8 * (k % c)) (8 * (k / c)) (way_at j k) ∙ ap length_by (sym e) ∙ sym q in
     let f : l ≤ 64 = omega (arith, q, length_few way) in
     (record { is = rw (add-one k) (omega (arith, m.is, n, length-append (data_to j k) (part_at j k))); few = omega (arith, m.few) }, f)
-
-pub measured_all : (j : Task) (k n at : ℕ) → Measured j k at → k ≡ n → (at ≡ length (data_to j n)) × (at ≤ 64 * n)
-measured_all j k n at m e = (m.is ∙ ap (λ (x : ℕ). length (data_to j x)) e, omega (arith, m.few))
 
 -- ---- the data of the blocks, written block by block
 

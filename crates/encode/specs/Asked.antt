@@ -1,33 +1,29 @@
--- The data of an 8x8 as code writes it: bytes that are pixels, or a pair of colours and marks.
+-- The pictures as code holds them, and a pair of colours and marks as it writes them.
 -- Assumes nothing.
-use Rattle.std.specs.Prelude.{cond, List, ◌∷◌, ℕ, ◌+◌, ◌-◌, ◌*◌, eqb}
-use Rattle.choice.specs.declared.Way.{Way}
-use Rattle.choice.specs.declared.Way.TheVariants.{Same, Kept, One, Dither, Coarse, Four, Fine, Two, Raw}
-use Rattle.choice.specs.Choice.{cell_first, bits, listed}
+use Rattle.std.specs.Prelude.{◌≡◌, cond, List, ◌∷◌, ℕ, ◌+◌, ◌-◌, ◌*◌, eqb}
+use Rattle.choice.specs.declared.Square.{Square}
+use Rattle.choice.specs.Choice.{cell_first, bits, listed, choice}
+use Rattle.choice.specs.Asked.{Stands, pixels_in, Within, pixels_of}
+use Rattle.encode.specs.Encode.{Task as Pictures, task, Lent, block_in, way_at}
+use Rattle.encode.specs.declared.Task.{Task}
 
--- the bytes of this way are pixels
-unfoldable pub Plain : Way → Type 0
-Plain Same = Unit
-Plain Kept = Unit
-Plain One = Unit
-Plain Dither = Unit
-Plain Coarse = ⊥
-Plain Four = Unit
-Plain Fine = ⊥
-Plain Two = Unit
-Plain Raw = Unit
+-- a task as code holds it: its pictures, that they are long enough, and its number of blocks
+abbrev pub task_of : Task → Pictures
+task_of t = task t.columns t.wanted.now t.front.now t.back.now
 
--- which pixel byte j is
-unfoldable pub spot_of : Way → ℕ → ℕ
-spot_of Same j = 0
-spot_of Kept j = 0
-spot_of One j = 0
-spot_of Dither j = j
-spot_of Coarse j = 0
-spot_of Four j = cell_first 4 j
-spot_of Fine j = 0
-spot_of Two j = cell_first 2 j
-spot_of Raw j = j
+abbrev pub Ready : Task → Type 0
+Ready t = Lent (task_of t) t.rows
+
+abbrev pub blocks : Task → ℕ
+blocks t = t.columns * t.rows
+
+-- the 8x8 of its block k, which stands in all three pictures
+pub record Placed (t : Task) (k : ℕ) (s : Square) : Type 0 where
+  pub wanted : Within s
+  pub front : Stands s t.front.now
+  pub back : Stands s t.back.now
+  pub is : pixels_of s ≡ block_in t.wanted.now t.columns k
+  pub way : choice (pixels_of s) (pixels_in s t.front.now) (pixels_in s t.back.now) ≡ way_at (task_of t) k
 
 -- a pair of colours and n bytes of marks of the second, a bit a cell
 unfoldable pub pair_data : (ℕ → ℕ) → ℕ → ℕ → ℕ → ℕ → List ℕ

@@ -1,6 +1,6 @@
 -- Map and packet that the encoder writes (document 02, W10), its tests, and what it leaves.
 -- Assumes nothing.
-use Rattle.std.specs.Prelude.{cond, List, [], ◌++◌, ℕ, zero, suc, ◌+◌, ◌*◌, ◌/◌, ◌%◌, ◌≤◌, ltb, length, replicate}
+use Rattle.std.specs.Prelude.{Result, Ok, Err, cond, List, [], ◌++◌, ℕ, zero, suc, ◌+◌, ◌*◌, ◌/◌, ◌%◌, ◌≤◌, ltb, length, replicate}
 use Rattle.refusal.specs.Number.{Verdict, accept, refuse, number, block}
 use Rattle.packet.specs.Packet.{pixels}
 use Rattle.packet.specs.Verdict.{legal_size}
@@ -9,7 +9,7 @@ use Rattle.room.specs.Room.{written}
 use Rattle.choice.specs.declared.Way.{Way}
 use Rattle.choice.specs.declared.Way.TheVariants.{Same}
 use Rattle.encode.specs.declared.Encoded.{Encoded}
-use Rattle.encode.specs.declared.Encoded.TheVariants.{Made, Refused}
+use Rattle.refusal.specs.declared.Refusal.{Refusal}
 use Rattle.choice.specs.Choice.{pixel_at, code_of, data_by, choice, listed}
 
 -- the wanted picture and the two lent ones, so many columns of blocks wide
@@ -94,9 +94,9 @@ encode_of j rows map body =
     outcome (encode_verdict j rows (length map) (length body)) (map_of j (j.columns * rows)) (body_of j (j.columns * rows)) map body
 
 -- the values of each answer of the code
-abbrev pub answer_as : Encoded → Answer
-answer_as (Made m b) = made m b
-answer_as (Refused r) = refused (number r) (block r)
+abbrev pub answer_as : Result Encoded Refusal → Answer
+answer_as (Ok e) = made e.map e.body
+answer_as (Err r) = refused (number r) (block r)
 
-abbrev pub left : Encoded → List ℕ → List ℕ → Outcome
+abbrev pub left : Result Encoded Refusal → List ℕ → List ℕ → Outcome
 left e map body = record { answer = answer_as e; map = map; body = body }

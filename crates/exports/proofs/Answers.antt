@@ -6,9 +6,10 @@ use mathlib.Core.List.{List}
 use Prim.Native.Nat.{ℕ, suc, ◌≤◌}
 use borrow.Author.Tests.{le-ltb}
 use lib.ListN.{length, take}
+use Rattle.std.specs.Prelude.{Option}
 use Rattle.room.specs.Room.{written}
 use Rattle.room.proofs.Written.{written_front}
-use Rattle.packet.specs.declared.Touched.{Touched}
+use Rattle.packet.specs.declared.Rows.{Rows}
 use Rattle.draw.specs.Call.{within}
 use Rattle.opening.specs.Opening.{Opening, started, refuses, opening_of}
 use Rattle.opcodes.specs.Opcodes.{Answer, taken, whole, unfinished, ended, refused}
@@ -38,7 +39,7 @@ beginning_count (stopped n k st) = eight _ (state_length st)
 pub begin_count : (film : List ℕ) (stream : ℕ) (palette : List ℕ) (place : ℕ) → length (begin_answer film stream palette place).answer ≡ 26
 begin_count film stream palette place = beginning_count (begin_of film stream palette place).answer
 
-answer_count : (m : List ℕ) → length m ≡ 18 → (a : Answer) (stores bytes : ℕ) (t : Touched) → length (of_answer m a stores bytes t) ≡ 26
+answer_count : (m : List ℕ) → length m ≡ 18 → (a : Answer) (stores bytes : ℕ) (t : Option Rows) → length (of_answer m a stores bytes t) ≡ 26
 unfolding of_answer
 answer_count m n (taken st) stores bytes t = eight _ (state_length st)
 answer_count m n (whole st) stores bytes t = eight _ (state_length st)

@@ -12,11 +12,10 @@ use lib.Dec.{eqb}
 use lib.ListN.{length, get_or, drop, drop_of_length-le}
 use lib.Seq.{drop-cons}
 use Rattle.sound.specs.declared.Format.{Format}
-use Rattle.sound.specs.declared.Format.TheVariants.{Unknown, Known}
 use Rattle.sound.specs.declared.Sound.{Sound}
 use Rattle.sound.specs.Format.{first_sound}
-use Rattle.state.specs.declared.Map.{Map}
-use Rattle.state.specs.declared.Map.TheVariants.{Missing, Part}
+use Rattle.state.specs.declared.Part.{Part}
+use Rattle.std.specs.Prelude.{Option, Some, None}
 use Rattle.state.specs.declared.State.{State}
 use Rattle.separate.specs.Separate.{Bytes}
 use Rattle.mve_states.specs.State.{flag_of, number_of, is_state, map_of, sound_of, state_of, of_map, with_format, of_sound, of_state}
@@ -30,36 +29,35 @@ flag_number true = refl
 flag_number false = refl
 
 -- behind the nine numbers that are no sound's, and before the last one
-sound_by : (a b c d e f g h i j : ℕ) (s : Sound) (k : Format) → s.format ≡ k → Plain s
+sound_by : (a b c d e f g h i j : ℕ) (s : Sound) (k : Option Format) → s.format ≡ k → Plain s
     → sound_of (a ∷ b ∷ c ∷ d ∷ e ∷ f ∷ g ∷ h ∷ i ∷ (with_format s k ++ (j ∷ []))) ≡ s
 unfolding sound_of with_format
-sound_by a b c d e f g h i j s Unknown q p = sym (p q)
-sound_by a b c d e f g h i j s (Known x y z) q p =
-    rw (flag_number x, flag_number y, flag_number z, flag_number s.begun)
-    (ap (λ (k : Format). record { stream = s.stream; format = k; begun = s.begun; left = s.left; right = s.right }) (sym q))
+sound_by a b c d e f g h i j s None q p = sym (p q)
+sound_by a b c d e f g h i j s (Some x) q p =
+    rw (flag_number x.stereo, flag_number x.wide, flag_number x.compressed, flag_number s.begun)
+    (ap (λ (k : Option Format). record { stream = s.stream; format = k; begun = s.begun; left = s.left; right = s.right }) (sym q))
 
 -- a number behind those of a sound
-last_by : (s : Sound) (k : Format) (j : ℕ) → get_or (with_format s k ++ (j ∷ [])) 8 0 ≡ j
+last_by : (s : Sound) (k : Option Format) (j : ℕ) → get_or (with_format s k ++ (j ∷ [])) 8 0 ≡ j
 unfolding with_format
-last_by s Unknown j = refl
-last_by s (Known x y z) j = refl
+last_by s None j = refl
+last_by s (Some x) j = refl
 
 -- a state's numbers, by its map and the numbers of its sound
-abbrev numbers : State → Map → List ℕ → List ℕ
+abbrev numbers : State → Option Part → List ℕ → List ℕ
 numbers st m sound =
     st.cursor.position ∷ st.cursor.chunk_end ∷ st.columns ∷ st.rows ∷ st.front
     ∷ (of_map m ++ (number_of st.unsent ∷ (sound ++ (number_of st.deep ∷ []))))
 
-abbrev with_map : State → Map → State
-with_map st m =
-    record { cursor = st.cursor; columns = st.columns; rows = st.rows; deep = st.deep; front = st.front; map = m; unsent = st.unsent; sound = st.sound }
+abbrev with_map : State → Option Part → State
+with_map st m = record st { map = m }
 
-state_by : (st : State) (m : Map) → st.map ≡ m → Plain st.sound → state_of (numbers st m (of_sound st.sound)) ≡ st
+state_by : (st : State) (m : Option Part) → st.map ≡ m → Plain st.sound → state_of (numbers st m (of_sound st.sound)) ≡ st
 unfolding state_of of_map map_of
-state_by st Missing e p =
+state_by st None e p =
     rw (flag_number st.unsent, sound_by _ _ _ _ _ _ _ _ _ _ st.sound st.sound.format refl p, last_by st.sound st.sound.format, flag_number st.deep)
     (ap (with_map st) (sym e))
-state_by st (Part start long) e p =
+state_by st (Some map) e p =
     rw (flag_number st.unsent, sound_by _ _ _ _ _ _ _ _ _ _ st.sound st.sound.format refl p, last_by st.sound st.sound.format, flag_number st.deep)
     (ap (with_map st) (sym e))
 
@@ -67,13 +65,13 @@ pub state_crosses : (film : List ℕ) (st : State) → Crosses film st → state
 unfolding of_state
 state_crosses film st c = state_by st st.map refl c.plain
 
-samples_by : (st : State) (m : Map) (f : Format) → Narrow st.sound
+samples_by : (st : State) (m : Option Part) (f : Option Format) → Narrow st.sound
     → (get_or (numbers st m (with_format st.sound f)) 15 0 ≤ 65535) × (get_or (numbers st m (with_format st.sound f)) 16 0 ≤ 65535)
 unfolding of_map with_format
-samples_by st Missing Unknown n = (omega arith, omega arith)
-samples_by st Missing (Known x y z) n = n
-samples_by st (Part start long) Unknown n = (omega arith, omega arith)
-samples_by st (Part start long) (Known x y z) n = n
+samples_by st None None n = (omega arith, omega arith)
+samples_by st None (Some f) n = n
+samples_by st (Some map) None n = (omega arith, omega arith)
+samples_by st (Some map) (Some f) n = n
 
 pub state_numbers : (film : List ℕ) → Bytes film → (st : State) → Crosses film st → is_state (of_state st) ≡ true
 unfolding of_state
@@ -83,7 +81,11 @@ state_numbers film bytes st c =
 
 -- ---- every state that is read from numbers
 
-pub known_unknown : (a b c : Bool) → Known a b c ≡ Unknown → ⊥
+-- the format of a 03
+abbrev pub known : Bool → Bool → Bool → Option Format
+known stereo wide compressed = Some (record { stereo = stereo; wide = wide; compressed = compressed })
+
+pub known_unknown : (a b c : Bool) → known a b c ≡ None → ⊥
 known_unknown a b c e = let z : ◌≡◌ {A = ℕ} 0 1 = cc in omega arith
 
 read_by : (film m : List ℕ) → (get_or m 15 0 ≤ 65535) → (get_or m 16 0 ≤ 65535) → CrossesSound film (sound_of m)
@@ -95,7 +97,7 @@ read_by film m h i = by (eqb (get_or m 10 0) 0)
         (cond b (first_sound (get_or m 9 0))
         (record {
           stream = get_or m 9 0;
-          format = Known (flag_of (get_or m 11 0)) (flag_of (get_or m 12 0)) (flag_of (get_or m 13 0));
+          format = known (flag_of (get_or m 11 0)) (flag_of (get_or m 12 0)) (flag_of (get_or m 13 0));
           begun = flag_of (get_or m 14 0);
           left = get_or m 15 0;
           right = get_or m 16 0;

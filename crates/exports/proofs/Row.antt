@@ -8,8 +8,8 @@ use native.Mathlib.Decide.{ℕ_discrete}
 use native.Mathlib.Omega.{arith}
 use lib.Dec.{eqb}
 use lib.ListN.{length}
-use Rattle.packet.specs.declared.Touched.{Touched}
-use Rattle.packet.specs.declared.Touched.TheVariants.{None}
+use Rattle.std.specs.Prelude.{Option, None}
+use Rattle.packet.specs.declared.Rows.{Rows}
 use Rattle.packet.specs.Verdict.{default}
 use Rattle.draw.specs.Call.{within}
 use Rattle.sound.specs.Step.{enough}
@@ -64,7 +64,7 @@ unrefused film m allowed form l = by (is_state m)
 
 -- ---- the bound on steps
 
-goes_to : (film m : List ℕ) (a : Answer) (stores bytes : ℕ) (t : Touched) → kind_in (of_answer m a stores bytes t) ≤ 1 → OfAnswer film a
+goes_to : (film m : List ℕ) (a : Answer) (stores bytes : ℕ) (t : Option Rows) → kind_in (of_answer m a stores bytes t) ≤ 1 → OfAnswer film a
     → GoesTo a (state_of (state_in (of_answer m a stores bytes t)))
 unfolding of_answer GoesTo OfAnswer
 goes_to film m (taken s) stores bytes t k g = sym (state_crosses film s g)
@@ -112,7 +112,7 @@ refuses_by film m (unfinished s) x k g = absurd (let y : ⊥ = omega arith in y)
 refuses_by film m (ended s) x k g = absurd (let y : ⊥ = omega arith in y)
 refuses_by film m (refused i j) x k g = record { number = i; block = j; same = g }
 
-ends_by : (m : List ℕ) (a : Answer) (stores bytes : ℕ) (t : Touched) → kind_in (of_answer m a stores bytes t) ≡ 3 → course_of a ≡ stops 21 0
+ends_by : (m : List ℕ) (a : Answer) (stores bytes : ℕ) (t : Option Rows) → kind_in (of_answer m a stores bytes t) ≡ 3 → course_of a ≡ stops 21 0
 unfolding of_answer course_of
 ends_by m (taken s) stores bytes t k = absurd (let y : ⊥ = omega arith in y)
 ends_by m (whole s) stores bytes t k = absurd (let y : ⊥ = omega arith in y)
@@ -121,13 +121,13 @@ ends_by m (ended s) stores bytes t k = refl
 ends_by m (refused i j) stores bytes t k = absurd (let y : ⊥ = omega arith in y)
 
 -- a step that goes on: where to
-record On (film m : List ℕ) (a : Answer) (stores bytes : ℕ) (t : Touched) : Type 0 where
+record On (film m : List ℕ) (a : Answer) (stores bytes : ℕ) (t : Option Rows) : Type 0 where
   next : State
   course : course_of a ≡ goes next
   state : state_in (of_answer m a stores bytes t) ≡ of_state next
   crosses : Crosses film next
 
-on_by : (film : List ℕ) (st : State) (m : List ℕ) → m ≡ of_state st → (a : Answer) (stores bytes : ℕ) (t : Touched) → kind_in (of_answer m a stores bytes t) < 3 → OfAnswer film a → Moves (length film) st a
+on_by : (film : List ℕ) (st : State) (m : List ℕ) → m ≡ of_state st → (a : Answer) (stores bytes : ℕ) (t : Option Rows) → kind_in (of_answer m a stores bytes t) < 3 → OfAnswer film a → Moves (length film) st a
     → On film m a stores bytes t
 unfolding of_answer course_of OfAnswer Moves
 on_by film st m e (taken s) stores bytes t k g v = record { next = s; course = refl; state = refl; crosses = g }

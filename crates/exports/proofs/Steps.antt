@@ -9,7 +9,7 @@ use lib.Dec.{eqb, ltb}
 use lib.ListN.{length, drop}
 use lib.Seq.{get_or-drop}
 use Rattle.words.specs.Word.{word_at}
-use Rattle.packet.specs.declared.Touched.{Touched}
+use Rattle.packet.specs.declared.Rows.{Rows}
 use Rattle.packet.specs.Verdict.{legal_size}
 use Rattle.stores.specs.Calls as drawing
 use Rattle.draw.specs.declared.Allowed.{Allowed}
@@ -20,7 +20,6 @@ use Rattle.palette.specs.Gradient.{create_gradient}
 use Rattle.palette.specs.Entries.{set_palette}
 use Rattle.palette.specs.Mask.{set_palette_compressed}
 use Rattle.sound.specs.declared.Format.{Format}
-use Rattle.sound.specs.declared.Format.TheVariants.{Unknown, Known}
 use Rattle.sound.specs.declared.Sound.{Sound}
 use Rattle.dpcm.specs.declared.Last.{Last}
 use Rattle.dpcm.specs.Samples.{sample_after, turned, last_of}
@@ -28,8 +27,9 @@ use Rattle.dpcm.specs.Packet.{start_length, start_words, packet_first, packet_la
 use Rattle.sound.specs.Format.{chosen, carried, format_of, possible_format, afresh, going_on, masked}
 use Rattle.sound.specs.Step as sound
 use Rattle.sound.specs.Sound.{answer, initialize_audio, of_format, of_mask, audio_data, audio_silence}
-use Rattle.state.specs.declared.Map.{Map}
-use Rattle.state.specs.declared.Map.TheVariants.{Missing, Part}
+use Rattle.state.specs.declared.Part.{Part}
+use Rattle.std.specs.Prelude.{Option, Some, None}
+use Rattle.state.specs.State.{some_part}
 use Rattle.state.specs.declared.State.{State}
 use Rattle.state.specs.Moves.{at, behind, at_end, sized, sent, mapped, heard, finished}
 use Rattle.heads.specs.declared.Opcode.{Opcode}
@@ -44,7 +44,7 @@ use Rattle.begin.specs.Begin as begin
 use Rattle.separate.specs.Separate.{Bytes}
 use Rattle.separate.proofs.Same.{byte_part}
 use Rattle.exports.specs.Boundary.{Narrow, CrossesSound, Crosses, OfAnswer, OfBeginning}
-use Rattle.exports.proofs.Boundary.{known_unknown}
+use Rattle.exports.proofs.Boundary.{known, known_unknown}
 
 -- what holds of a step, by its answer
 unfoldable pub Lawful : List ℕ → Answer → Step → Type 0
@@ -125,7 +125,7 @@ module _ (film : List ℕ) (s : Sound) (p : CrossesSound film s) where
       by true = tt
       by false = k
 
-  module _ (stereo wide compressed : Bool) (q : s.format ≡ Known stereo wide compressed) where
+  module _ (stereo wide compressed : Bool) (q : s.format ≡ known stereo wide compressed) where
     crosses_after : (bytes : List ℕ) → (Bytes film → Bytes bytes) → CrossesSound film (sound.sound_after s stereo compressed bytes)
     unfolding sound.sound_after going_on
     crosses_after bytes h = by compressed
@@ -161,13 +161,13 @@ module _ (film : List ℕ) (s : Sound) (p : CrossesSound film s) where
         by true = kept_within (count * sound.sample_bytes wide compressed) room x p
         by false = tt
 
-  kept_mask : (mask : ℕ) (step : Bool → Bool → Bool → sound.Step) → ((a b c : Bool) → s.format ≡ Known a b c → Kept film (step a b c)) → Kept film (of_mask s mask step)
+  kept_mask : (mask : ℕ) (step : Bool → Bool → Bool → sound.Step) → ((a b c : Bool) → s.format ≡ known a b c → Kept film (step a b c)) → Kept film (of_mask s mask step)
   unfolding of_mask of_format Kept
   kept_mask mask step t = by (masked s.stream mask) s.format refl
     where
-      by : (b : Bool) (f : Format) → s.format ≡ f → Kept film (cond b (of_format f step) (sound.taken s []))
-      by true Unknown e = tt
-      by true (Known a b c) e = t a b c e
+      by : (b : Bool) (f : Option Format) → s.format ≡ f → Kept film (cond b (of_format f step) (sound.taken s []))
+      by true None e = tt
+      by true (Some f) e = t f.stereo f.wide f.compressed e
       by false f e = p
 
   kept_heard : (kind version : ℕ) (body : List ℕ) → (Bytes film → Bytes body) → (room : ℕ) → Kept film (heard_by s kind version body room)
@@ -211,7 +211,7 @@ module _ (film : List ℕ) (st : State) (c : Crosses film st) (p : ℕ) where
   change_good (palette.unfinished n) = c
   change_good (palette.refused n k) = refl
 
-  map_good : (m : Map) (n : ℕ) (l : Lent) → Good film (map_to st (mapped st p m) n l).step
+  map_good : (m : Option Part) (n : ℕ) (l : Lent) → Good film (map_to st (mapped st p m) n l).step
   unfolding map_to Lawful mapped
   map_good m n l = by (eqb n 0)
     where
@@ -219,7 +219,7 @@ module _ (film : List ℕ) (st : State) (c : Crosses film st) (p : ℕ) where
       by true = c
       by false = c
 
-  drawn_good : (x : drawing.Answer Reason) (n : ℕ) (t : Touched) → Good film (drawn_as st p x n t)
+  drawn_good : (x : drawing.Answer Reason) (n : ℕ) (t : Option Rows) → Good film (drawn_as st p x n t)
   unfolding drawn_as Lawful finished
   drawn_good drawing.whole n t = c
   drawn_good drawing.unfinished n t = c
@@ -229,16 +229,16 @@ module _ (film : List ℕ) (st : State) (c : Crosses film st) (p : ℕ) where
   unfolding draw_on
   on_good map packet n l = let r = report (drawn_at st l) (request_of st map packet n l) in drawn_good r.answer r.count r.rows
 
-  mapped_good : (m : Map) (body : List ℕ) (n : Allowed) (l : Lent) → Good film (draw_mapped m film st body p n l).step
+  mapped_good : (m : Option Part) (body : List ℕ) (n : Allowed) (l : Lent) → Good film (draw_mapped m film st body p n l).step
   unfolding draw_mapped Lawful
-  mapped_good Missing body n l = refl
-  mapped_good (Part start long) body n l = by (eqb st.columns 0)
+  mapped_good None body n l = refl
+  mapped_good (Some map) body n l = by (eqb st.columns 0)
     where
-      by : (t : Bool) → Good film (cond t (after (quiet (refused 9 0)) l) (draw_on st p (part film start (start + long)) (part body 14 (length body)) n l)).step
+      by : (t : Bool) → Good film (cond t (after (quiet (refused 9 0)) l) (draw_on st p (part film map.start (map.start + map.long)) (part body 14 (length body)) n l)).step
       by true = refl
-      by false = on_good (part film start (start + long)) (part body 14 (length body)) n l
+      by false = on_good (part film map.start (map.start + map.long)) (part body 14 (length body)) n l
 
-  by_good : (m : Map) (body : List ℕ) (n : Allowed) (l : Lent) → Good film (draw_by m film st body p n l).step
+  by_good : (m : Option Part) (body : List ℕ) (n : Allowed) (l : Lent) → Good film (draw_by m film st body p n l).step
   unfolding draw_by Lawful
   by_good m body n l = by (is_body_short st.deep (length body))
     where
@@ -252,14 +252,14 @@ module _ (film : List ℕ) (st : State) (c : Crosses film st) (p : ℕ) where
     where
       by : (t15 t17 t11 t12 t13 : Bool)
           → Good film
-          (cond t15 (map_to st (mapped st p (Part s (p - s))) n.stores l)
+          (cond t15 (map_to st (mapped st p (some_part s (p - s))) n.stores l)
           (cond t17 (draw_by st.map film st body p n l)
           (cond t11 (update st p (create_gradient body) n.stores l)
           (cond t12 (update st p (set_palette body) n.stores l)
           (cond t13 (update st p (set_palette_compressed body) n.stores l)
           (after (quiet (quiet_answer (length film) st kind version body p)) l)))))
           ).step
-      by true t17 t11 t12 t13 = map_good (Part s (p - s)) n.stores l
+      by true t17 t11 t12 t13 = map_good (some_part s (p - s)) n.stores l
       by false true t11 t12 t13 = by_good st.map body n l
       by false false true t12 t13 = change_good _
       by false false false true t13 = change_good _

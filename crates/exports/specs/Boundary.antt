@@ -1,8 +1,7 @@
 -- States survive the C boundary: a state that is written as numbers is a state's numbers, and read again it is the same. Of every state that a call of the library gives:
 -- `proofs/Boundary`, `proofs/Steps`.
 -- Assumes nothing.
-use Rattle.std.specs.Prelude.{◌≡◌, List, ℕ, ◌≤◌, length, get_or}
-use Rattle.sound.specs.declared.Format.TheVariants.{Unknown}
+use Rattle.std.specs.Prelude.{◌≡◌, List, ℕ, ◌≤◌, length, get_or, None}
 use Rattle.sound.specs.declared.Sound.{Sound}
 use Rattle.sound.specs.Format.{first_sound}
 use Rattle.state.specs.declared.State.{State}
@@ -12,7 +11,7 @@ use Rattle.separate.specs.Separate.{Bytes}
 
 -- before a 03 only the stream is written
 abbrev pub Plain : Sound → Type 0
-Plain s = s.format ≡ Unknown → s ≡ first_sound s.stream
+Plain s = s.format ≡ None → s ≡ first_sound s.stream
 
 -- the last samples have 16 bits
 abbrev pub Narrow : Sound → Type 0

@@ -1,8 +1,7 @@
 -- Exported calls in a row, each given the state's numbers of the answer before it. An answer is the 26 numbers that a call leaves at the front of `out`: `proofs/Answers`. `proofs/Row`: a film of n bytes is walked in at most n / 4 steps that are taken or
 -- whole, and `mve_open` and steps come to what `mve_begin` answers and leaves.
 -- Assumes nothing.
-use Rattle.std.specs.Prelude.{◌≡◌, cond, List, ℕ, zero, suc, ◌≤◌, ◌<◌, eqb, length, get_or}
-use Rattle.packet.specs.declared.Touched.TheVariants.{None}
+use Rattle.std.specs.Prelude.{◌≡◌, cond, List, ℕ, zero, suc, ◌≤◌, ◌<◌, eqb, length, get_or, None}
 use Rattle.sound.specs.Step.{enough}
 use Rattle.film.specs.Film.{Words, Lent, lent}
 use Rattle.walk.specs.Play.{most}

@@ -21,7 +21,7 @@ use Rattle.draw.proofs.Judged.{accepted_call, either_verdict}
 use Rattle.draw.proofs.Called.{says_refused}
 use Rattle.word_calls.specs.Asked.{Judged}
 use Rattle.palette.specs.declared.Changed.{Changed}
-use Rattle.palette.specs.declared.Changed.TheVariants.{Whole, Unfinished, Refused}
+use Rattle.palette.specs.declared.Changed.TheVariants.{Whole, Unfinished}
 use Rattle.palette.specs.Update.{Change, change_on, palette_after, changed_as}
 use Rattle.palette.specs.Gradient.{create_gradient}
 use Rattle.palette.specs.Entries.{set_palette}
@@ -35,14 +35,14 @@ use Rattle.sound.specs.Step.{room_after}
 use Rattle.sound.specs.Step as sound
 use Rattle.sound.specs.Sound.{heard_as, answer, initialize_audio, audio_data, audio_silence}
 use Rattle.state.specs.declared.Cursor.{Cursor}
-use Rattle.state.specs.declared.Map.{Map}
-use Rattle.state.specs.declared.Map.TheVariants.{Missing, Part}
+use Rattle.state.specs.declared.Part.{Part}
 use Rattle.state.specs.declared.State.{State}
 use Rattle.state.specs.Moves.{behind, into, mapped}
-use Rattle.state.specs.State.{map_inside}
+use Rattle.state.specs.State.{some_part, map_inside}
 use Rattle.heads.specs.declared.Opcode.{Opcode}
 use Rattle.heads.specs.Heads.{hears}
 use Rattle.next.specs.declared.Next.{Next}
+use Rattle.std.specs.Prelude.{Option, Some, None, Result, Ok, Err}
 use Rattle.next.specs.declared.Next.TheVariants as found
 use Rattle.next.specs.Next.{next_as, next_of, Possible, Ready}
 use Rattle.next.proofs.Standing.{found_ready}
@@ -189,49 +189,49 @@ pub never_short : (deep : Bool) (n : ℕ) → deep ≡ false → false ≡ is_bo
 unfolding is_body_short
 never_short deep n e = rw e
 
-module _ (m : Map) (film : List ℕ) (st : State) (body : List ℕ) (p : ℕ) (allowed : Allowed) (l : Lent) (b : Bool) (g : b ≡ is_body_short st.deep (length body)) where
+module _ (m : Option Part) (film : List ℕ) (st : State) (body : List ℕ) (p : ℕ) (allowed : Allowed) (l : Lent) (b : Bool) (g : b ≡ is_body_short st.deep (length body)) where
   pub short_body : b ≡ true → after (quiet (refused 5 0)) l ≡ draw_by m film st body p allowed l
   unfolding draw_by
   short_body t = rw (← g, t)
 
   module _ (f : b ≡ false) where
-    pub no_map : m ≡ Missing → after (quiet (refused 9 0)) l ≡ draw_by m film st body p allowed l
+    pub no_map : m ≡ None → after (quiet (refused 9 0)) l ≡ draw_by m film st body p allowed l
     unfolding draw_by draw_mapped
     no_map e = rw (← g, f, e)
 
-    pub no_size : (start long : ℕ) → m ≡ Part start long → st.columns ≡ 0 → after (quiet (refused 9 0)) l ≡ draw_by m film st body p allowed l
+    pub no_size : (map : Part) → m ≡ Some map → st.columns ≡ 0 → after (quiet (refused 9 0)) l ≡ draw_by m film st body p allowed l
     unfolding draw_by draw_mapped
-    no_size start long e q = rw (← g, f, e, eq-eqb _ _ q)
+    no_size map e q = rw (← g, f, e, eq-eqb _ _ q)
 
-    pub draws : (start long : ℕ) (o : Outcome) → m ≡ Part start long → (st.columns ≡ 0 → ⊥) → o ≡ draw_on st p (part film start (start + long)) (part body 14 (length body)) allowed l
+    pub draws : (map : Part) (o : Outcome) → m ≡ Some map → (st.columns ≡ 0 → ⊥) → o ≡ draw_on st p (part film map.start (map.start + map.long)) (part body 14 (length body)) allowed l
         → o ≡ draw_by m film st body p allowed l
     unfolding draw_by draw_mapped
-    draws start long o e n h = rw (← g, f, e, ne_eqb _ _ n) h
+    draws map o e n h = rw (← g, f, e, ne_eqb _ _ n) h
 
 -- a pending map that lies inside
-pub map_ends : (m : Map) (ms ml film : ℕ) → map_inside m film ≡ true → m ≡ Part ms ml → ms + ml ≤ film
+pub map_ends : (m : Option Part) (map : Part) (film : ℕ) → map_inside m film ≡ true → m ≡ Some map → map.start + map.long ≤ film
 unfolding map_inside
-map_ends m ms ml film h e = leb-true (ms + ml) film (rw e at h)
+map_ends m map film h e = leb-true (map.start + map.long) film (rw e at h)
 
 -- ---- palettes
 
-module _ (st : State) (p : ℕ) (c : Changed) where
-  pub palette_whole : (n : ℕ) (x : State) → c ≡ Whole n → x ≡ behind st p → stored (taken x) n ≡ palette_step st p (changed_as c)
+module _ (st : State) (p : ℕ) (c : Result Changed Refusal) where
+  pub palette_whole : (n : ℕ) (x : State) → c ≡ Ok (Whole n) → x ≡ behind st p → stored (taken x) n ≡ palette_step st p (changed_as c)
   unfolding palette_step
   palette_whole n x e f = rw (e, f)
 
-  pub palette_short : (n : ℕ) → c ≡ Unfinished n → stored (unfinished st) n ≡ palette_step st p (changed_as c)
+  pub palette_short : (n : ℕ) → c ≡ Ok (Unfinished n) → stored (unfinished st) n ≡ palette_step st p (changed_as c)
   unfolding palette_step
   palette_short n e = rw e
 
-  pub palette_refused : (r : Refusal) → c ≡ Refused r → quiet (refused (number r) (block r)) ≡ palette_step st p (changed_as c)
+  pub palette_refused : (r : Refusal) → c ≡ Err r → quiet (refused (number r) (block r)) ≡ palette_step st p (changed_as c)
   unfolding palette_step
   palette_refused r e = rw e
 
 -- ---- an opcode
 
 module _ (film : List ℕ) (st : State) (kind version s : ℕ) (body : List ℕ) (p : ℕ) (allowed : Allowed) (l : Lent) where
-  pub act_map : (x : State) (k : ℕ) → kind ≡ 15 → (allowed.stores ≡ 0 → ⊥) → x ≡ mapped st p (Part s (p - s)) → k ≡ 0
+  pub act_map : (x : State) (k : ℕ) → kind ≡ 15 → (allowed.stores ≡ 0 → ⊥) → x ≡ mapped st p (some_part s (p - s)) → k ≡ 0
       → after (stored (taken x) 1) (with_pictures l l.first l.second k) ≡ act film st kind version s body p allowed l
   unfolding act map_to
   act_map x k e n f g = rw (e, ne_eqb _ _ n, f, g)
@@ -276,7 +276,7 @@ silent s version body room = by (possible_format (format_of version (word_at bod
     by true = refl
     by false = refl
 
-module _ (st : State) (kind version : ℕ) (body : List ℕ) (p : ℕ) (l : Lent) (x : Step) (h : Heard) (f : x ≡ heard_step st p (heard_as h)) where
+module _ (st : State) (kind version : ℕ) (body : List ℕ) (p : ℕ) (l : Lent) (x : Step) (h : Result Heard Refusal) (f : x ≡ heard_step st p (heard_as h)) where
   pub hears_format : kind ≡ 3 → heard_as h ≡ answer (initialize_audio st.sound version body) → after x l ≡ hear st kind version body p l
   unfolding hear heard_by
   hears_format e q = rw (e, f, q, silent st.sound version body l.room)
@@ -303,23 +303,23 @@ module _ (film : List ℕ) (st : State) (o : Opcode) (allowed : Allowed) (l : Le
 
 -- ---- a step
 
-module _ (film : List ℕ) (st : State) (allowed : Allowed) (l : Lent) (n : Next) (s : ℕ) (g : s ≡ shortest st l) (e : next_as n ≡ next_of film st (length l.palette) s) where
-  pub step_refused : (r : Refusal) → n ≡ found.Refused r → after (quiet (refused (number r) (block r))) l ≡ step_of film st allowed l
+module _ (film : List ℕ) (st : State) (allowed : Allowed) (l : Lent) (n : Result Next Refusal) (s : ℕ) (g : s ≡ shortest st l) (e : next_as n ≡ next_of film st (length l.palette) s) where
+  pub step_refused : (r : Refusal) → n ≡ Err r → after (quiet (refused (number r) (block r))) l ≡ step_of film st allowed l
   unfolding step_of standing
   step_refused r q = rw (← g, ← e, q)
 
-  pub step_ended : n ≡ found.Ended → after (quiet (ended st)) l ≡ step_of film st allowed l
+  pub step_ended : n ≡ Ok found.Ended → after (quiet (ended st)) l ≡ step_of film st allowed l
   unfolding step_of standing
   step_ended q = rw (← g, ← e, q)
 
-  pub step_chunk : (c : Cursor) (x : State) → n ≡ found.Chunk c → x ≡ into st c → after (quiet (taken x)) l ≡ step_of film st allowed l
+  pub step_chunk : (c : Cursor) (x : State) → n ≡ Ok (found.Chunk c) → x ≡ into st c → after (quiet (taken x)) l ≡ step_of film st allowed l
   unfolding step_of standing
   step_chunk c x q f = rw (← g, ← e, q, f)
 
-  pub step_opcode : (o : Opcode) (x : Outcome) → n ≡ found.Opcode o → x ≡ take_on film st o allowed l → x ≡ step_of film st allowed l
+  pub step_opcode : (o : Opcode) (x : Outcome) → n ≡ Ok (found.Opcode o) → x ≡ take_on film st o allowed l → x ≡ step_of film st allowed l
   unfolding step_of standing
   step_opcode o x q f = rw (← g, ← e, q) f
 
-pub step_ready : (film : List ℕ) (st : State) (palette shortest : ℕ) (n : Next) (o : Opcode) → next_as n ≡ next_of film st palette shortest → n ≡ found.Opcode o
+pub step_ready : (film : List ℕ) (st : State) (palette shortest : ℕ) (n : Result Next Refusal) (o : Opcode) → next_as n ≡ next_of film st palette shortest → n ≡ Ok (found.Opcode o)
     → Possible st (length film) × Ready (length film) st.cursor o
 step_ready film st palette shortest n o e q = found_ready film st palette shortest o (sym e ∙ ap next_as q)

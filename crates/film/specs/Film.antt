@@ -1,6 +1,6 @@
 -- One step over a film (document 01, "Film, chunks, opcodes"): the answer, and everything lent afterwards, for every film, state and lent memory.
 -- Assumes nothing.
-use Rattle.std.specs.Prelude.{Bool, false, cond, List, [], ℕ, ◌+◌, ◌-◌, eqb, ltb, length, take, drop}
+use Rattle.std.specs.Prelude.{Bool, false, cond, List, [], ℕ, ◌+◌, ◌-◌, eqb, ltb, length, take, drop, Option, Some, None}
 use Rattle.stores.specs.Stores.{Memory, memory}
 use Rattle.stores.specs.Calls.{step}
 use Rattle.draw.specs.declared.Allowed.{Allowed}
@@ -10,10 +10,9 @@ use Rattle.palette.specs.Update as palette
 use Rattle.palette.specs.Gradient.{create_gradient}
 use Rattle.palette.specs.Entries.{set_palette}
 use Rattle.palette.specs.Mask.{set_palette_compressed}
-use Rattle.state.specs.declared.Map.{Map}
-use Rattle.state.specs.declared.Map.TheVariants.{Missing, Part}
+use Rattle.state.specs.declared.Part.{Part}
 use Rattle.state.specs.declared.State.{State}
-use Rattle.state.specs.State.{shortest_of}
+use Rattle.state.specs.State.{some_part, shortest_of}
 use Rattle.state.specs.Moves.{behind, into, mapped}
 use Rattle.sound.specs.declared.Sound.{Sound}
 use Rattle.sound.specs.Format.{chosen}
@@ -157,16 +156,16 @@ abbrev pub part : List ℕ → ℕ → ℕ → List ℕ
 part film s e = take (e - s) (drop s film)
 
 -- by the pending map, and the body that ends at p: the packet is what remains behind its 14 bytes in front. 9 without a map or a size
-unfoldable pub draw_mapped : Map → List ℕ → State → List ℕ → ℕ → Allowed → Lent → Outcome
-draw_mapped Missing film st body p allowed l = after (quiet (refused 9 0)) l
-draw_mapped (Part start long) film st body p allowed l =
-    cond (eqb st.columns 0) (after (quiet (refused 9 0)) l) (draw_on st p (part film start (start + long)) (part body 14 (length body)) allowed l)
+unfoldable pub draw_mapped : Option Part → List ℕ → State → List ℕ → ℕ → Allowed → Lent → Outcome
+draw_mapped None film st body p allowed l = after (quiet (refused 9 0)) l
+draw_mapped (Some map) film st body p allowed l =
+    cond (eqb st.columns 0) (after (quiet (refused 9 0)) l) (draw_on st p (part film map.start (map.start + map.long)) (part body 14 (length body)) allowed l)
 
 -- 5: with true colour a body has 16 bytes, the 14 in front and the packet's first word
 unfoldable pub is_body_short : Bool → ℕ → Bool
 is_body_short deep n = cond deep (ltb n 16) false
 
-unfoldable pub draw_by : Map → List ℕ → State → List ℕ → ℕ → Allowed → Lent → Outcome
+unfoldable pub draw_by : Option Part → List ℕ → State → List ℕ → ℕ → Allowed → Lent → Outcome
 draw_by map film st body p allowed l = cond (is_body_short st.deep (length body)) (after (quiet (refused 5 0)) l) (draw_mapped map film st body p allowed l)
 
 -- ---- an opcode that is taken and is no sound
@@ -188,7 +187,7 @@ map_to st next n l = cond (eqb n 0) (after (quiet (unfinished st)) l) (after (st
 -- type and version, and the body from s on, which ends at p. 0F: the body becomes the pending map
 unfoldable pub act : List ℕ → State → ℕ → ℕ → ℕ → List ℕ → ℕ → Allowed → Lent → Outcome
 act film st kind version s body p allowed l =
-    cond (eqb kind 15) (map_to st (mapped st p (Part s (p - s))) allowed.stores l)
+    cond (eqb kind 15) (map_to st (mapped st p (some_part s (p - s))) allowed.stores l)
     (cond (eqb kind 17) (draw_by st.map film st body p allowed l)
     (cond (eqb kind 11) (update st p (create_gradient body) allowed.stores l)
     (cond (eqb kind 12) (update st p (set_palette body) allowed.stores l)

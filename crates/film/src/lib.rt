@@ -2,8 +2,6 @@
 #![tactic(auto)]
 
 ghost use Rattle.std.specs.Prelude.{◌≡◌, true, false, ℕ, ◌≤◌, List, length};
-ghost use Rattle.packet.specs.Verdict.{default};
-ghost use Rattle.draw.specs.Call.{within};
 ghost use Rattle.palette.specs.Update.{changed_as};
 ghost use Rattle.state.specs.State.{map_inside};
 ghost use Rattle.next.specs.Next.{Ready};
@@ -15,12 +13,12 @@ use draw::{Allowed, answer_of, draw_blocks, judge};
 use heads::{Opcode, is_heard};
 use next::{Next, find};
 use opcodes::{Stepped, drawn_step, heard_step, quiet_step};
-use packet::{Inspected, Touched};
+use packet::Rows;
 use paint::set_place;
 use palette::{Changed, create_gradient, set_palette, set_palette_compressed};
 use refusal::Refusal;
 use sound::{audio_data, audio_silence, initialize_audio, is_chosen};
-use state::{Map, State, shortest};
+use state::{Part, State, shortest};
 use word_calls::{draw_word_packet, judge_words};
 
 // 11 on back, the picture of bytes that is not front. Whatever else is lent stays as it is. The tests come first and are gone from the stack while blocks are drawn.
@@ -33,15 +31,14 @@ fn draw_on(
     b: &mut [u8],
     place: &mut usize,
     allowed: Allowed,
-) -> Stepped
+) -> Result<Stepped, Refusal>
     requires { st.deep ≡ false }
     ensures { (l : Lent) → after (stepped_as result) (with_pictures l a.new b.new place.new) ≡ draw_on st p map.now packet.now allowed (with_pictures l a.old b.old place.old) }
 {
     let columns = st.columns;
     let rows = st.rows;
     let n = allowed.stores;
-    let at = *place;
-    match judge(
+    let t = judge(
         allowed.spare,
         columns,
         rows,
@@ -49,19 +46,14 @@ fn draw_on(
         packet,
         a.len(),
         b.len(),
-        at,
-    ) {
-        Inspected::Refused(r) => Stepped::Refused(r),
-        Inspected::Accepted(t) => {
-            if st.front == 0 {
-                let made = draw_blocks(columns, rows, map, packet, &a[..], &mut b[..], place, n);
-                let next = *place;
-                return drawn_step(st, p, answer_of(columns * rows, next, made, t));
-            }
-            let made = draw_blocks(columns, rows, map, packet, &b[..], &mut a[..], place, n);
-            let next = *place;
-            drawn_step(st, p, answer_of(columns * rows, next, made, t))
-        }
+        *place,
+    )?;
+    if st.front == 0 {
+        let made = draw_blocks(columns, rows, map, packet, &a[..], &mut b[..], place, n);
+        drawn_step(st, p, answer_of(columns * rows, *place, made, t))
+    } else {
+        let made = draw_blocks(columns, rows, map, packet, &b[..], &mut a[..], place, n);
+        drawn_step(st, p, answer_of(columns * rows, *place, made, t))
     }
 }
 
@@ -76,8 +68,8 @@ fn draw_new(
     e: &mut [u16],
     place: &mut usize,
     allowed: Allowed,
-    t: Touched,
-) -> Stepped
+    t: Option<Rows>,
+) -> Result<Stepped, Refusal>
     requires { Tested st allowed.spare map.now s.now (length c.old) (length e.old) (length d.old) place.old t }
     ensures { (l : Lent) → after (stepped_as result) (with_words l (words c.new d.new e.new) place.new) ≡ draw_on st p map.now s.now allowed (with_words l (words c.old d.old e.old) place.old) }
 {
@@ -86,17 +78,14 @@ fn draw_new(
     let n = allowed.stores;
     if st.front == 0 {
         let made = draw_word_packet(columns, rows, map, s, &c[..], &e[..], &mut d[..], place, n);
-        let next = *place;
-        return drawn_step(st, p, answer_of(columns * rows, next, made, t));
-    }
-    if st.front == 1 {
+        drawn_step(st, p, answer_of(columns * rows, *place, made, t))
+    } else if st.front == 1 {
         let made = draw_word_packet(columns, rows, map, s, &d[..], &c[..], &mut e[..], place, n);
-        let next = *place;
-        return drawn_step(st, p, answer_of(columns * rows, next, made, t));
+        drawn_step(st, p, answer_of(columns * rows, *place, made, t))
+    } else {
+        let made = draw_word_packet(columns, rows, map, s, &e[..], &d[..], &mut c[..], place, n);
+        drawn_step(st, p, answer_of(columns * rows, *place, made, t))
     }
-    let made = draw_word_packet(columns, rows, map, s, &e[..], &d[..], &mut c[..], place, n);
-    let next = *place;
-    drawn_step(st, p, answer_of(columns * rows, next, made, t))
 }
 
 // 11 of a film with true colour. Whatever else is lent stays as it is.
@@ -110,12 +99,11 @@ fn draw_words_on(
     e: &mut [u16],
     place: &mut usize,
     allowed: Allowed,
-) -> Stepped
+) -> Result<Stepped, Refusal>
     requires { st.deep ≡ true }
     ensures { (l : Lent) → after (stepped_as result) (with_words l (words c.new d.new e.new) place.new) ≡ draw_on st p map.now packet.now allowed (with_words l (words c.old d.old e.old) place.old) }
 {
-    let at = *place;
-    match judge_words(
+    let t = judge_words(
         allowed.spare,
         st.columns,
         st.rows,
@@ -124,24 +112,21 @@ fn draw_words_on(
         c.len(),
         e.len(),
         d.len(),
-        at,
-    ) {
-        Inspected::Refused(r) => Stepped::Refused(r),
-        Inspected::Accepted(t) => draw_new(st, p, map, packet, c, d, e, place, allowed, t),
-    }
+        *place,
+    )?;
+    draw_new(st, p, map, packet, c, d, e, place, allowed, t)
 }
 
+#[tactic(auto, unfolding(crate::specs::Film::is_body_short))]
 fn is_body_short(deep: bool, n: usize) -> bool
     ensures { result ≡ is_body_short deep n }
 {
-    if deep {
-        return n < 16;
-    }
-    false
+    deep && n < 16
 }
 
 // 11, its body ending at p: the packet is the part of the film behind the body's 14 bytes. 5 for a body without a packet's first word where the film has true colour; 9
 // without a size or a pending map.
+#[tactic(auto, unfolding(crate::specs::Film::draw_by, crate::specs::Film::draw_mapped))]
 fn draw_by(
     film: &[u8],
     st: State,
@@ -154,43 +139,44 @@ fn draw_by(
     e: &mut [u16],
     place: &mut usize,
     allowed: Allowed,
-) -> Stepped
+) -> Result<Stepped, Refusal>
     requires in_bounds { 14 ≤ length body.now }
     requires film_value { map_inside st.map (length film.now) ≡ true }
     ensures { (palette room : List ℕ) → after (stepped_as result) (lent palette a.new b.new place.new room (words c.new d.new e.new)) ≡ draw_by st.map film.now st body.now p allowed (lent palette a.old b.old place.old room (words c.old d.old e.old)) }
 {
     if is_body_short(st.deep, body.len()) {
-        return Stepped::Refused(Refusal::BodyLength);
+        return Err(Refusal::BodyLength);
     }
-    let m = st.map;
-    match m {
-        Map::Missing => Stepped::Refused(Refusal::NoMap),
-        Map::Part(start, long) => {
+    match st.map {
+        None => Err(Refusal::NoMap),
+        Some(part) => {
             if st.columns == 0 {
-                return Stepped::Refused(Refusal::NoMap);
+                return Err(Refusal::NoMap);
             }
-            let map = &film[start..start + long];
+            let map = &film[part.start..part.start + part.long];
             let packet = &body[14..];
             if st.deep {
-                return draw_words_on(st, p, map, packet, c, d, e, place, allowed);
+                draw_words_on(st, p, map, packet, c, d, e, place, allowed)
+            } else {
+                draw_on(st, p, map, packet, a, b, place, allowed)
             }
-            draw_on(st, p, map, packet, a, b, place, allowed)
         }
     }
 }
 
 // 0B, 0C, 0D, after the palette's change.
-fn palette_step(st: State, p: usize, c: Changed) -> Stepped
+#[tactic(auto, unfolding(crate::specs::Film::palette_step))]
+fn palette_step(st: State, p: usize, c: Result<Changed, Refusal>) -> Result<Stepped, Refusal>
     ensures { stepped_as result ≡ palette_step st p (changed_as c) }
 {
-    match c {
-        Changed::Whole(n) => Stepped::Taken(st.behind(p), n),
-        Changed::Unfinished(n) => Stepped::Unfinished(st, n, Touched::None),
-        Changed::Refused(r) => Stepped::Refused(r),
+    match c? {
+        Changed::Whole(n) => Ok(Stepped::Taken(st.behind(p), n)),
+        Changed::Unfinished(n) => Ok(Stepped::Unfinished(st, n, None)),
     }
 }
 
 // An opcode that is taken and is no sound. The room stays as it is.
+#[tactic(auto, unfolding(crate::specs::Film::act, crate::specs::Film::map_to))]
 fn act_on(
     film: &[u8],
     st: State,
@@ -203,7 +189,7 @@ fn act_on(
     e: &mut [u16],
     place: &mut usize,
     allowed: Allowed,
-) -> Stepped
+) -> Result<Stepped, Refusal>
     requires ready { Ready (length film.now) st.cursor o }
     requires film_value { map_inside st.map (length film.now) ≡ true }
     ensures { (room : List ℕ) → after (stepped_as result) (lent palette.new a.new b.new place.new room (words c.new d.new e.new)) ≡ act_on film.now st o allowed (lent palette.old a.old b.old place.old room (words c.old d.old e.old)) }
@@ -219,10 +205,14 @@ fn act_on(
         13 => palette_step(st, p, set_palette_compressed(body, palette, n)),
         15 => {
             if n == 0 {
-                return Stepped::Unfinished(st, 0, Touched::None);
+                return Ok(Stepped::Unfinished(st, 0, None));
             }
             set_place(place, 0);
-            Stepped::Taken(st.mapped(p, Map::Part(s, p - s)), 1)
+            let map = Part {
+                start: s,
+                long: p - s,
+            };
+            Ok(Stepped::Taken(st.mapped(p, Some(map)), 1))
         }
         17 => draw_by(film, st, body, p, a, b, c, d, e, place, allowed),
         _ => quiet_step(film.len(), st, kind, o.version, body, p),
@@ -230,6 +220,7 @@ fn act_on(
 }
 
 // 03, 08, 09 where a stream is chosen. Whatever else is lent stays as it is.
+#[tactic(auto, unfolding(crate::specs::Film::hear, crate::specs::Film::heard_by))]
 fn hear_sound(
     st: State,
     kind: usize,
@@ -237,18 +228,18 @@ fn hear_sound(
     body: &[u8],
     p: usize,
     room: &mut [u8],
-) -> Stepped
+) -> Result<Stepped, Refusal>
     ensures { (l : Lent) → after (stepped_as result) (with_room l room.new) ≡ hear st kind version body.now p (with_room l room.old) }
 {
-    let sound = st.sound;
     match kind {
-        3 => heard_step(st, p, initialize_audio(sound, version, body)),
-        8 => heard_step(st, p, audio_data(sound, body, room)),
-        _ => heard_step(st, p, audio_silence(sound, body, room)),
+        3 => heard_step(st, p, initialize_audio(st.sound, version, body)),
+        8 => heard_step(st, p, audio_data(st.sound, body, room)),
+        _ => heard_step(st, p, audio_silence(st.sound, body, room)),
     }
 }
 
 // An opcode that is taken.
+#[tactic(auto, unfolding(crate::specs::Film::take_on))]
 fn take_on(
     film: &[u8],
     st: State,
@@ -262,47 +253,23 @@ fn take_on(
     place: &mut usize,
     room: &mut [u8],
     allowed: Allowed,
-) -> Stepped
+) -> Result<Stepped, Refusal>
     requires ready { Ready (length film.now) st.cursor o }
     requires film_value { map_inside st.map (length film.now) ≡ true }
     ensures { after (stepped_as result) (lent palette.new a.new b.new place.new room.new (words c.new d.new e.new)) ≡ take_on film.now st o allowed (lent palette.old a.old b.old place.old room.old (words c.old d.old e.old)) }
 {
-    let sound = st.sound;
-    if is_heard(is_chosen(sound.stream), o.kind) {
+    if is_heard(is_chosen(st.sound.stream), o.kind) {
         let s = o.start;
         let p = s + o.long;
-        return hear_sound(st, o.kind, o.version, &film[s..p], p, room);
+        hear_sound(st, o.kind, o.version, &film[s..p], p, room)
+    } else {
+        act_on(film, st, o, palette, a, b, c, d, e, place, allowed)
     }
-    act_on(film, st, o, palette, a, b, c, d, e, place, allowed)
 }
 
 // One step: a chunk's head where position and chunk end are equal, else one opcode. Every test is made again; a refused step changes nothing, and one that runs short of
-// stores keeps the state.
-pub fn step_within(
-    film: &[u8],
-    st: State,
-    palette: &mut [u8],
-    a: &mut [u8],
-    b: &mut [u8],
-    c: &mut [u16],
-    d: &mut [u16],
-    e: &mut [u16],
-    place: &mut usize,
-    room: &mut [u8],
-    allowed: Allowed,
-) -> Stepped
-    ensures { after (stepped_as result) (lent palette.new a.new b.new place.new room.new (words c.new d.new e.new)) ≡ step_of film.now st allowed (lent palette.old a.old b.old place.old room.old (words c.old d.old e.old)) }
-{
-    let short = shortest(st.deep, a.len(), b.len(), c.len(), d.len(), e.len());
-    match find(film, st, palette.len(), short) {
-        Next::Refused(r) => Stepped::Refused(r),
-        Next::Ended => Stepped::Ended(st),
-        Next::Chunk(chunk) => Stepped::Taken(st.into_chunk(chunk), 0),
-        Next::Opcode(o) => take_on(film, st, o, palette, a, b, c, d, e, place, room, allowed),
-    }
-}
-
-// The film step: a packet may leave one byte over.
+// stores keeps the state. allowed: the stores, and the bytes that a packet may leave over.
+#[tactic(auto, unfolding(crate::specs::Film::step_of, crate::specs::Film::standing))]
 pub fn step(
     film: &[u8],
     st: State,
@@ -314,24 +281,14 @@ pub fn step(
     e: &mut [u16],
     place: &mut usize,
     room: &mut [u8],
-    allowed: usize,
-) -> Stepped
-    ensures { after (stepped_as result) (lent palette.new a.new b.new place.new room.new (words c.new d.new e.new)) ≡ step_of film.now st (within allowed default) (lent palette.old a.old b.old place.old room.old (words c.old d.old e.old)) }
+    allowed: Allowed,
+) -> Result<Stepped, Refusal>
+    ensures { after (stepped_as result) (lent palette.new a.new b.new place.new room.new (words c.new d.new e.new)) ≡ step_of film.now st allowed (lent palette.old a.old b.old place.old room.old (words c.old d.old e.old)) }
 {
-    step_within(
-        film,
-        st,
-        palette,
-        a,
-        b,
-        c,
-        d,
-        e,
-        place,
-        room,
-        Allowed {
-            stores: allowed,
-            spare: 1,
-        },
-    )
+    let short = shortest(st.deep, a.len(), b.len(), c.len(), d.len(), e.len());
+    match find(film, st, palette.len(), short)? {
+        Next::Ended => Ok(Stepped::Ended(st)),
+        Next::Chunk(chunk) => Ok(Stepped::Taken(st.into_chunk(chunk), 0)),
+        Next::Opcode(o) => take_on(film, st, o, palette, a, b, c, d, e, place, room, allowed),
+    }
 }

@@ -1,16 +1,13 @@
 -- The heads of chunks and opcodes, and which opcodes are taken (document 01, "Film, chunks, opcodes"): refusals 2, 3, then 4, 5.
 -- A chunk is a word length, a word type and a body; an opcode a word length, a byte type, a byte version and a body. No length counts its own head.
 -- Assumes nothing.
-use Rattle.std.specs.Prelude.{Bool, true, false, cond, List, ℕ, ◌+◌, ◌*◌, eqb, ltb, length, get_or}
+use Rattle.std.specs.Prelude.{Bool, true, false, cond, List, ℕ, ◌+◌, ◌*◌, eqb, ltb, length, get_or, Result, Ok, Err}
 use Rattle.words.specs.Word.{word_at}
 use Rattle.refusal.specs.Number.{Verdict, accept, refuse, number, block}
+use Rattle.refusal.specs.declared.Refusal.{Refusal}
 use Rattle.state.specs.declared.Cursor.{Cursor}
 use Rattle.state.specs.Moves.{cursor_into}
 use Rattle.heads.specs.declared.Opcode.{Opcode}
-use Rattle.heads.specs.declared.ChunkHead.{ChunkHead}
-use Rattle.heads.specs.declared.ChunkHead.TheVariants.{Chunk, BadChunk}
-use Rattle.heads.specs.declared.OpcodeHead.{OpcodeHead}
-use Rattle.heads.specs.declared.OpcodeHead.TheVariants.{Op, BadOp}
 
 -- what a head gives: the cursor in a chunk, or an opcode; or a refusal's number and block
 pub data Head (A : Type 0) : Type 0 where
@@ -18,13 +15,13 @@ pub data Head (A : Type 0) : Type 0 where
   refused : ℕ → ℕ → Head A
 
 -- document 01's values of each answer
-abbrev pub chunk_as : ChunkHead → Head Cursor
-chunk_as (Chunk c) = gives c
-chunk_as (BadChunk r) = refused (number r) (block r)
+abbrev pub chunk_as : Result Cursor Refusal → Head Cursor
+chunk_as (Ok c) = gives c
+chunk_as (Err r) = refused (number r) (block r)
 
-abbrev pub opcode_as : OpcodeHead → Head Opcode
-opcode_as (Op o) = gives o
-opcode_as (BadOp r) = refused (number r) (block r)
+abbrev pub opcode_as : Result Opcode Refusal → Head Opcode
+opcode_as (Ok o) = gives o
+opcode_as (Err r) = refused (number r) (block r)
 
 -- ---- 2
 

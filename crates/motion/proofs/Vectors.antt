@@ -35,18 +35,6 @@ pub ahead_high : (b v : ℕ) → v ≡ b → v < 256 → 56 ≤ v → vector (v 
 unfolding ahead_vector
 ahead_high b v e l h = rw (by_29 (v - 56) (omega arith), over_29 (v - 56), ← e, le-ltb v 56 h)
 
-pub near_is : (b v : ℕ) → v ≡ b → vector (v % 16) 8 (v / 16) 8 ≡ near_vector b
-unfolding near_vector
-near_is b v e = rw e
-
-pub far_is : (x y u v : ℕ) → u ≡ x → v ≡ y → vector ((u + 128) % 256) 128 ((v + 128) % 256) 128 ≡ far_vector x y
-unfolding far_vector
-far_is x y u v e f = rw (e, f)
-
-pub negated_is : (v u : Vector) → v ≡ u → vector v.left v.right v.up v.down ≡ negated u
-unfolding negated
-negated_is v u e = rw e
-
 -- ---- none is long
 
 ahead_short_by : (b : ℕ) (t : Bool) → b < 256 → ltb b 56 ≡ t → Short (cond t (vector (8 + b % 7) 0 (b / 7) 0) (vector ((b - 56) % 29) 14 (8 + (b - 56) / 29) 0))
@@ -86,22 +74,6 @@ negated_twice v = refl
 -- ---- pointing inside
 
 module _ (v : Vector) (w h x y : ℕ) where
-  pub outside_left : x + v.right < v.left → false ≡ points_inside v w h x y
-  unfolding points_inside
-  outside_left l = rw (lt-ltb _ _ l)
-
-  pub outside_right : v.left ≤ x + v.right → w + v.left < x + v.right + 8 → false ≡ points_inside v w h x y
-  unfolding points_inside
-  outside_right l r = rw (le-ltb _ _ l, lt-ltb _ _ r)
-
-  pub outside_up : v.left ≤ x + v.right → x + v.right + 8 ≤ w + v.left → y + v.down < v.up → false ≡ points_inside v w h x y
-  unfolding points_inside
-  outside_up l r u = rw (le-ltb _ _ l, le-ltb _ _ r, lt-ltb _ _ u)
-
-  pub outside_down : v.left ≤ x + v.right → x + v.right + 8 ≤ w + v.left → v.up ≤ y + v.down → h + v.up < y + v.down + 8 → false ≡ points_inside v w h x y
-  unfolding points_inside
-  outside_down l r u d = rw (le-ltb _ _ l, le-ltb _ _ r, le-ltb _ _ u, lt-ltb _ _ d)
-
   pub inside_all : PointsInside v w h x y → true ≡ points_inside v w h x y
   unfolding points_inside
   inside_all i = rw (le-ltb _ _ i.left, le-ltb _ _ i.right, le-ltb _ _ i.up, le-ltb _ _ i.down)

@@ -16,30 +16,33 @@ pub struct Vector {
 }
 
 // Code 2. Products and shifts in place of quotients by 7 and 29: the compiler takes more steps for those.
+#[tactic(auto, using(crate::proofs::Vectors::ahead_low, crate::proofs::Vectors::ahead_high))]
 pub fn ahead_vector(b: u8) -> Vector
     ensures { result ≡ ahead_vector b }
 {
     let v = wide(b);
     if v < 56 {
         let q = v * 37 / 256;
-        return Vector {
+        Vector {
             right: 8 + (v - 7 * q),
             left: 0,
             down: q,
             up: 0,
-        };
-    }
-    let u = v - 56;
-    let q = u * 283 / 8192;
-    Vector {
-        right: u - 29 * q,
-        left: 14,
-        down: 8 + q,
-        up: 0,
+        }
+    } else {
+        let u = v - 56;
+        let q = u * 283 / 8192;
+        Vector {
+            right: u - 29 * q,
+            left: 14,
+            down: 8 + q,
+            up: 0,
+        }
     }
 }
 
 // Code 3.
+#[tactic(auto, unfolding(crate::specs::Motion::negated))]
 pub fn behind_vector(b: u8) -> Vector
     ensures { result ≡ negated (ahead_vector b) }
 {
@@ -53,6 +56,7 @@ pub fn behind_vector(b: u8) -> Vector
 }
 
 // Code 4.
+#[tactic(auto, unfolding(crate::specs::Motion::near_vector))]
 pub fn near_vector(b: u8) -> Vector
     ensures { result ≡ near_vector b }
 {
@@ -66,6 +70,7 @@ pub fn near_vector(b: u8) -> Vector
 }
 
 // Code 5.
+#[tactic(auto, unfolding(crate::specs::Motion::far_vector))]
 pub fn far_vector(x: u8, y: u8) -> Vector
     ensures { result ≡ far_vector x y }
 {
@@ -78,26 +83,19 @@ pub fn far_vector(x: u8, y: u8) -> Vector
 }
 
 // Whether the 8x8 that v points at from the one at x, y lies inside a picture w by h.
+#[tactic(auto, unfolding(crate::specs::Motion::points_inside))]
 pub fn points_inside(v: Vector, w: usize, h: usize, x: usize, y: usize) -> bool
     requires { Short v × (w ≤ 640) × (h ≤ 480) × (x ≤ 640) × (y ≤ 480) }
     ensures { result ≡ points_inside v w h x y }
 {
-    if x + v.right < v.left {
-        return false;
-    }
-    if w + v.left < x + v.right + 8 {
-        return false;
-    }
-    if y + v.down < v.up {
-        return false;
-    }
-    if h + v.up < y + v.down + 8 {
-        return false;
-    }
-    true
+    v.left <= x + v.right
+        && x + v.right + 8 <= w + v.left
+        && v.up <= y + v.down
+        && y + v.down + 8 <= h + v.up
 }
 
 // Where pixel i of the 8x8 at x, y stands in a picture w pixels wide.
+#[tactic(auto, using(crate::proofs::Vectors::row_small), unfolding(crate::specs::Motion::raster_index))]
 pub fn raster_index(w: usize, x: usize, y: usize, i: usize) -> usize
     requires { Inside w x y i }
     ensures { result ≡ raster_index w x y i }
@@ -106,6 +104,7 @@ pub fn raster_index(w: usize, x: usize, y: usize, i: usize) -> usize
 }
 
 // The same of the 8x8 that v points at.
+#[tactic(auto, using(crate::proofs::Vectors::inside_each), unfolding(crate::specs::Motion::copied_index))]
 pub fn copied_index(v: Vector, w: usize, h: usize, x: usize, y: usize, i: usize) -> usize
     requires { Short v × Inside w x y i × (h ≤ 480) × (points_inside v w h x y ≡ true) }
     ensures { result ≡ copied_index v w x y i }

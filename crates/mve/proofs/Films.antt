@@ -6,15 +6,16 @@ use mathlib.Core.List.{List}
 use Prim.Native.Nat.{ℕ, ◌≤◌, ◌<◌}
 use borrow.Author.Tests.{lt-ltb, le-ltb}
 use lib.ListN.{length}
+use Rattle.std.specs.Prelude.{Result}
+use Rattle.refusal.specs.declared.Refusal.{Refusal}
 use Rattle.room.specs.Room.{written}
 use Rattle.state.specs.declared.State.{State}
 use Rattle.state.specs.State.{shown_of, shown_words_of}
 use Rattle.draw.specs.Call.{within}
-use Rattle.opening.specs.declared.Opened.{Opened}
 use Rattle.opening.specs.Opening.{opened_as, opening_of}
 use Rattle.opcodes.specs.Opcodes.{Step}
 use Rattle.film.specs.Film.{Lent, after, step_of}
-use Rattle.begin.specs.declared.Begun.{Begun}
+use Rattle.begin.specs.declared.Stopped.{Stopped}
 use Rattle.begin.specs.Begin.{begun_as, came, begin_of}
 use Rattle.mve_states.specs.State.{is_state, state_of}
 use Rattle.mve_steps.specs.Step.{kind_in, of_step, of_no_state, of_opening, of_beginning, spare_of}
@@ -35,10 +36,10 @@ unfolding delivered
 long_out out before answer after k p h g = rw (le-ltb _ _ h, g.0, g.1)
 
 module _ (out : List ℕ) (k : ℕ) (p : List ℕ) (h : 26 ≤ length out) where
-  pub open_told : (film : List ℕ) (stream : ℕ) (o : Opened) → opened_as o ≡ opening_of film stream → Given out k p (of_opening (opened_as o)) → exit k p tt ≡ mve_open film stream out
+  pub open_told : (film : List ℕ) (stream : ℕ) (o : Result State Refusal) → opened_as o ≡ opening_of film stream → Given out k p (of_opening (opened_as o)) → exit k p tt ≡ mve_open film stream out
   open_told film stream o e g = long_out out tt _ tt k p h (rw e at g)
 
-  pub begin_told : (film : List ℕ) (stream : ℕ) (b : Begun) (palette q : List ℕ) (place i : ℕ) → came (begun_as b) q i ≡ begin_of film stream palette place
+  pub begin_told : (film : List ℕ) (stream : ℕ) (b : Result State Stopped) (palette q : List ℕ) (place i : ℕ) → came (begun_as b) q i ≡ begin_of film stream palette place
       → Given out k p (of_beginning (begun_as b)) → exit k p (q, i) ≡ mve_begin film stream out palette place
   begin_told film stream b palette q place i e g = rw (← e) (long_out out (palette, place) (of_beginning (begun_as b)) (q, i) k p h g)
 

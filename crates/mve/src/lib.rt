@@ -27,13 +27,19 @@ use mve_salvages::{MveSalvaged, of_salvaged};
 use mve_states::{is_state, state_of};
 use mve_steps::{put_begun, put_opened, put_step, put_unread, spare_of};
 use mve_strips::{MveStripped, of_stripped};
+use refusal::Refusal;
+
+// The bytes of a packet that may be left over: one, or in the strict form none.
+const DEFAULT: usize = 1;
+
+const STRICT: usize = 0;
 
 // Whether a packet is accepted for a picture of columns by rows blocks.
 #[unsafe(no_mangle)]
 pub extern "C" fn mve_check(columns: usize, rows: usize, map: &[u8], data: &[u8]) -> MveAnswer
     ensures { result ≡ of_found (finding (verdict default columns rows map.now «data».now) (touched (packet columns rows map.now «data».now))) }
 {
-    of_check(packet::check(columns, rows, map, data))
+    of_check(packet::check(DEFAULT, columns, rows, map, data))
 }
 
 // The strict form: no byte may be left over.
@@ -46,7 +52,7 @@ pub extern "C" fn mve_check_strict(
 ) -> MveAnswer
     ensures { result ≡ of_found (finding (verdict strict columns rows map.now «data».now) (touched (packet columns rows map.now «data».now))) }
 {
-    of_check(packet::check_strict(columns, rows, map, data))
+    of_check(packet::check(STRICT, columns, rows, map, data))
 }
 
 // Whether a packet of a film with true colour is accepted.
@@ -54,7 +60,7 @@ pub extern "C" fn mve_check_strict(
 pub extern "C" fn mve_check_words(columns: usize, rows: usize, map: &[u8], data: &[u8]) -> MveAnswer
     ensures { result ≡ of_found (finding (verdict_in true default columns rows map.now «data».now) (touched (packet_in true columns rows map.now «data».now))) }
 {
-    of_check(word_packet::check_words(columns, rows, map, data))
+    of_check(word_packet::check_words(DEFAULT, columns, rows, map, data))
 }
 
 // The strict form: no byte may be left over.
@@ -67,17 +73,18 @@ pub extern "C" fn mve_check_words_strict(
 ) -> MveAnswer
     ensures { result ≡ of_found (finding (verdict_in true strict columns rows map.now «data».now) (touched (packet_in true columns rows map.now «data».now))) }
 {
-    of_check(word_packet::check_words_strict(columns, rows, map, data))
+    of_check(word_packet::check_words(STRICT, columns, rows, map, data))
 }
 
 // The answer of a drawing call, of bytes or of words.
-fn of_draw(d: Drawn) -> MveAnswer
+#[tactic(auto, unfolding(mve_answers::specs::Answer::of_answer))]
+fn of_draw(d: Result<Drawn, Refusal>) -> MveAnswer
     ensures { result ≡ of_report (said d) }
 {
     match d {
-        Drawn::Whole(n, t) => answered(1, n, t),
-        Drawn::Unfinished(n, t) => answered(2, n, t),
-        Drawn::Refused(r) => refused(r),
+        Ok(Drawn::Whole(n, t)) => answered(1, n, t),
+        Ok(Drawn::Unfinished(n, t)) => answered(2, n, t),
+        Err(r) => refused(r),
     }
 }
 
@@ -96,8 +103,11 @@ pub extern "C" fn mve_draw(
     ensures place_after { pictures front.now (memory back.new place.new) ≡ leaves (request columns rows map.now «data».now front.now (within allowed default)) (memory back.old place.old) }
     ensures value { result ≡ of_report (report (memory back.old place.old) (request columns rows map.now «data».now front.now (within allowed default))) }
 {
-    let d = draw::draw(columns, rows, map, data, front, back, place, allowed);
-    of_draw(d)
+    let allowed = Allowed {
+        stores: allowed,
+        spare: DEFAULT,
+    };
+    of_draw(draw::draw(columns, rows, map, data, front, back, place, allowed))
 }
 
 // The strict form: no byte may be left over.
@@ -115,8 +125,11 @@ pub extern "C" fn mve_draw_strict(
     ensures place_after { pictures front.now (memory back.new place.new) ≡ leaves (request columns rows map.now «data».now front.now (within allowed strict)) (memory back.old place.old) }
     ensures value { result ≡ of_report (report (memory back.old place.old) (request columns rows map.now «data».now front.now (within allowed strict))) }
 {
-    let d = draw::draw_strict(columns, rows, map, data, front, back, place, allowed);
-    of_draw(d)
+    let allowed = Allowed {
+        stores: allowed,
+        spare: STRICT,
+    };
+    of_draw(draw::draw(columns, rows, map, data, front, back, place, allowed))
 }
 
 // The drawing call of films with true colour.
@@ -135,8 +148,11 @@ pub extern "C" fn mve_draw_words<'a>(
     ensures place_after { word_pictures last.now oldest.now (memory new.new place.new) ≡ leaves (word_request columns rows map.now «data».now last.now oldest.now (within allowed default)) (memory new.old place.old) }
     ensures value { result ≡ of_report (report (memory new.old place.old) (word_request columns rows map.now «data».now last.now oldest.now (within allowed default))) }
 {
-    let d = word_calls::draw_words(columns, rows, map, data, last, oldest, new, place, allowed);
-    of_draw(d)
+    let allowed = Allowed {
+        stores: allowed,
+        spare: DEFAULT,
+    };
+    of_draw(word_calls::draw_words(columns, rows, map, data, last, oldest, new, place, allowed))
 }
 
 // The strict form: no byte may be left over.
@@ -155,10 +171,11 @@ pub extern "C" fn mve_draw_words_strict<'a>(
     ensures place_after { word_pictures last.now oldest.now (memory new.new place.new) ≡ leaves (word_request columns rows map.now «data».now last.now oldest.now (within allowed strict)) (memory new.old place.old) }
     ensures value { result ≡ of_report (report (memory new.old place.old) (word_request columns rows map.now «data».now last.now oldest.now (within allowed strict))) }
 {
-    let d = word_calls::draw_words_strict(
-        columns, rows, map, data, last, oldest, new, place, allowed,
-    );
-    of_draw(d)
+    let allowed = Allowed {
+        stores: allowed,
+        spare: STRICT,
+    };
+    of_draw(word_calls::draw_words(columns, rows, map, data, last, oldest, new, place, allowed))
 }
 
 // An answer over a film has so many numbers. A call that is lent fewer for it, in `out`, touches nothing and returns 4; else it returns the answer's kind.
@@ -189,8 +206,7 @@ pub extern "C" fn mve_begin(
     if out.len() < ANSWER {
         return 4;
     }
-    let b = begin::begin(film, stream, palette, place);
-    put_begun(out, b)
+    put_begun(out, begin::begin(film, stream, palette, place))
 }
 
 // One step over a film, in the default form where form is 0, else in the strict form. `from` is a state's numbers. a and b are the pictures of bytes; c, d and e are
@@ -217,27 +233,16 @@ pub extern "C" fn mve_step(
         return 4;
     }
     if is_state(from) {
+        let allowed = Allowed {
+            stores: allowed,
+            spare: spare_of(form),
+        };
         let st = state_of(from);
-        let spare = spare_of(form);
-        let x = film::step_within(
-            film,
-            st,
-            palette,
-            a,
-            b,
-            c,
-            d,
-            e,
-            place,
-            room,
-            Allowed {
-                stores: allowed,
-                spare,
-            },
-        );
-        return put_step(out, from, x);
+        let x = film::step(film, st, palette, a, b, c, d, e, place, room, allowed);
+        put_step(out, from, x)
+    } else {
+        put_unread(out)
     }
-    put_unread(out)
 }
 
 // How many leading bytes of the picture that is front are shown: 0 where none are, as of a film with true colour. The picture is the first where front is 0, the second
@@ -247,11 +252,10 @@ pub extern "C" fn mve_shown<'a>(from: &[usize], a: &'a [u8], b: &'a [u8]) -> usi
     ensures { result ≡ mve_shown from.now a.now b.now }
 {
     if is_state(from) {
-        let st = state_of(from);
-        let s = state::shown(st, a, b);
-        return s.len();
+        state::shown(state_of(from), a, b).len()
+    } else {
+        0
     }
-    0
 }
 
 // How many leading words of the picture that is front are shown: 0 where none are, as of a film without true colour. The picture is c, d or e where front is 0, 1 or 2.
@@ -265,11 +269,10 @@ pub extern "C" fn mve_shown_words<'a>(
     ensures { result ≡ mve_shown_words from.now c.now d.now e.now }
 {
     if is_state(from) {
-        let st = state_of(from);
-        let s = state::shown_words(st, c, d, e);
-        return s.len();
+        state::shown_words(state_of(from), c, d, e).len()
+    } else {
+        0
     }
-    0
 }
 
 // Where the value of the pixel at x, y comes from, in the picture that a packet gives with these pictures as they are at place 0.

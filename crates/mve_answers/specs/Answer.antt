@@ -1,10 +1,9 @@
 -- Answers as numbers, for hosts in other languages: the kind of the answer, document 01's number and block of a refusal, the count of stores, and the rows
 -- of blocks that a packet touches as three numbers.
 -- Assumes nothing.
-use Rattle.std.specs.Prelude.{ℕ}
+use Rattle.std.specs.Prelude.{ℕ, Option, Some, None}
 use Rattle.refusal.specs.Number.{Verdict, accept, refuse}
-use Rattle.packet.specs.declared.Touched.{Touched}
-use Rattle.packet.specs.declared.Touched.TheVariants.{None, Rows}
+use Rattle.packet.specs.declared.Rows.{Rows}
 use Rattle.packet.specs.Rows.{Found, accepted, refused}
 use Rattle.stores.specs.Calls.{Answer, whole, unfinished, refusal}
 use Rattle.draw.specs.Call.{Reason, Report}
@@ -12,9 +11,9 @@ use Rattle.mve_answers.specs.declared.MveRows.{MveRows}
 use Rattle.mve_answers.specs.declared.MveAnswer.{MveAnswer}
 
 -- touched or not, the first row and the last; 0 where there is none
-unfoldable pub of_rows : Touched → MveRows
+unfoldable pub of_rows : Option Rows → MveRows
 of_rows None = record { touched = 0; first = 0; last = 0 }
-of_rows (Rows first last) = record { touched = 1; first = first; last = last }
+of_rows (Some r) = record { touched = 1; first = r.first; last = r.last }
 
 abbrev pub answer : ℕ → ℕ → ℕ → ℕ → MveRows → MveAnswer
 answer kind number block stores rows = record { kind = kind; number = number; block = block; stores = stores; rows = rows }
@@ -24,7 +23,7 @@ unfoldable pub of_found : Found → MveAnswer
 of_found (accepted t) = answer 0 0 0 0 (of_rows t)
 of_found (refused number block) = answer 4 number block 0 (of_rows None)
 
-unfoldable pub of_answer : Answer Reason → ℕ → Touched → MveAnswer
+unfoldable pub of_answer : Answer Reason → ℕ → Option Rows → MveAnswer
 of_answer whole n t = answer 1 0 0 n (of_rows t)
 of_answer unfinished n t = answer 2 0 0 n (of_rows t)
 of_answer (refusal r) n t = answer 4 r.number r.block n (of_rows t)

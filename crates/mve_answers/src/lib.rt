@@ -1,9 +1,8 @@
 // Answers as numbers, for hosts in other languages: of a packet's check and of a drawing call, where a pixel comes from, and of a frame of Video 1.
 #![tactic(auto)]
 
-ghost use Rattle.std.specs.Prelude.{◌≡◌};
+ghost use Rattle.std.specs.Prelude.{◌≡◌, None};
 ghost use Rattle.refusal.specs.Number.{block, number as refusalNumber};
-ghost use Rattle.packet.specs.declared.Touched.TheVariants.{None};
 ghost use Rattle.packet.specs.Rows.{found};
 ghost use Rattle.packet.specs.Verdict.{told as judged};
 ghost use Rattle.origin.specs.Trace.{refused as tracedRefused, told as tracedAs};
@@ -11,8 +10,8 @@ ghost use Rattle.mve_answers.specs.Answer.{answer, of_rows, of_found, of_verdict
 ghost use Rattle.mve_answers.specs.Trace.{origin, of_origin, of_trace};
 
 use origin::{Origin, Traced};
-use packet::{Checked, Inspected, Touched};
-use refusal::{Refusal, block_of, number_of};
+use packet::Rows;
+use refusal::Refusal;
 use words::wide;
 
 // The rows of blocks that a packet touches, counted from 0: touched 1 and the first and the last, or three times 0 where there is none.
@@ -35,16 +34,17 @@ pub struct MveAnswer {
     pub rows: MveRows,
 }
 
-pub fn of_rows(t: Touched) -> MveRows
+#[tactic(auto, unfolding(crate::specs::Answer::of_rows))]
+pub fn of_rows(t: Option<Rows>) -> MveRows
     ensures { result ≡ of_rows t }
 {
     match t {
-        Touched::None => MveRows {
+        None => MveRows {
             touched: 0,
             first: 0,
             last: 0,
         },
-        Touched::Rows(first, last) => MveRows {
+        Some(Rows { first, last }) => MveRows {
             touched: 1,
             first,
             last,
@@ -55,35 +55,34 @@ pub fn of_rows(t: Touched) -> MveRows
 pub fn refused(r: Refusal) -> MveAnswer
     ensures { result ≡ answer 4 (refusalNumber r) (block r) 0 (of_rows None) }
 {
-    let rows = of_rows(Touched::None);
     MveAnswer {
         kind: 4,
-        number: wide(number_of(r)),
-        block: block_of(r),
+        number: wide(r.number()),
+        block: r.block(),
         stores: 0,
-        rows,
+        rows: of_rows(None),
     }
 }
 
-pub fn answered(kind: usize, stores: usize, t: Touched) -> MveAnswer
+pub fn answered(kind: usize, stores: usize, t: Option<Rows>) -> MveAnswer
     ensures { result ≡ answer kind 0 0 stores (of_rows t) }
 {
-    let rows = of_rows(t);
     MveAnswer {
         kind,
         number: 0,
         block: 0,
         stores,
-        rows,
+        rows: of_rows(t),
     }
 }
 
-pub fn of_check(i: Inspected) -> MveAnswer
+#[tactic(auto, unfolding(crate::specs::Answer::of_found))]
+pub fn of_check(i: Result<Option<Rows>, Refusal>) -> MveAnswer
     ensures { result ≡ of_found (found i) }
 {
     match i {
-        Inspected::Accepted(t) => answered(0, 0, t),
-        Inspected::Refused(r) => refused(r),
+        Ok(t) => answered(0, 0, t),
+        Err(r) => refused(r),
     }
 }
 
@@ -117,6 +116,7 @@ fn found_in(block: usize, code: usize, source: usize, byte: usize, x: usize, y: 
     }
 }
 
+#[tactic(auto, unfolding(crate::specs::Trace::of_origin))]
 fn of_origin(block: usize, code: usize, o: Origin) -> MveOrigin
     ensures { result ≡ of_origin block code o }
 {
@@ -128,13 +128,14 @@ fn of_origin(block: usize, code: usize, o: Origin) -> MveOrigin
     }
 }
 
+#[tactic(auto, unfolding(crate::specs::Trace::of_trace))]
 fn not_found(r: Refusal) -> MveOrigin
     ensures { result ≡ of_trace (tracedRefused (refusalNumber r) (block r)) }
 {
     MveOrigin {
         kind: 4,
-        number: wide(number_of(r)),
-        block: block_of(r),
+        number: wide(r.number()),
+        block: r.block(),
         code: 0,
         source: 0,
         byte: 0,
@@ -143,21 +144,23 @@ fn not_found(r: Refusal) -> MveOrigin
     }
 }
 
-pub fn of_trace(t: Traced) -> MveOrigin
+#[tactic(auto, unfolding(crate::specs::Trace::of_trace))]
+pub fn of_trace(t: Result<Traced, Refusal>) -> MveOrigin
     ensures { result ≡ of_trace (tracedAs t) }
 {
     match t {
-        Traced::Found(k, code, o) => of_origin(k, wide(code), o),
-        Traced::Refused(r) => not_found(r),
+        Ok(t) => of_origin(t.block, wide(t.code), t.origin),
+        Err(r) => not_found(r),
     }
 }
 
 // 0, or the refusal's number.
-pub fn of_verdict(c: Checked) -> usize
+#[tactic(auto, unfolding(crate::specs::Answer::of_verdict))]
+pub fn of_verdict(c: Result<(), Refusal>) -> usize
     ensures { result ≡ of_verdict (judged c) }
 {
     match c {
-        Checked::Accepted => 0,
-        Checked::Refused(r) => wide(number_of(r)),
+        Ok(()) => 0,
+        Err(r) => wide(r.number()),
     }
 }

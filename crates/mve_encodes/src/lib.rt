@@ -2,12 +2,11 @@
 #![tactic(auto)]
 
 ghost use Rattle.std.specs.Prelude.{◌≡◌};
-ghost use Rattle.refusal.specs.Number.{number, block};
-ghost use Rattle.encode.specs.Encode.{refused, answer_as};
+ghost use Rattle.encode.specs.Encode.{answer_as};
 ghost use Rattle.mve_encodes.specs.Encodes.{of_answer};
 
 use encode::Encoded;
-use refusal::{Refusal, number_of};
+use refusal::Refusal;
 use words::wide;
 
 // number: 0, or the refusal's number, and then both lengths are 0.
@@ -19,25 +18,20 @@ pub struct MveEncoded {
     pub body_length: usize,
 }
 
-fn of_refusal(r: Refusal) -> MveEncoded
-    ensures { result ≡ of_answer (refused (number r) (block r)) }
-{
-    MveEncoded {
-        number: wide(number_of(r)),
-        map_length: 0,
-        body_length: 0,
-    }
-}
-
-pub fn of_encoded(e: Encoded) -> MveEncoded
+#[tactic(auto, unfolding(crate::specs::Encodes::of_answer))]
+pub fn of_encoded(e: Result<Encoded, Refusal>) -> MveEncoded
     ensures { result ≡ of_answer (answer_as e) }
 {
     match e {
-        Encoded::Made(map_length, body_length) => MveEncoded {
+        Ok(made) => MveEncoded {
             number: 0,
-            map_length,
-            body_length,
+            map_length: made.map,
+            body_length: made.body,
         },
-        Encoded::Refused(r) => of_refusal(r),
+        Err(r) => MveEncoded {
+            number: wide(r.number()),
+            map_length: 0,
+            body_length: 0,
+        },
     }
 }

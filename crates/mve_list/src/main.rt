@@ -3,47 +3,29 @@
 
 ghost use Rattle.std.specs.Prelude.{◌≤◌, IfOk, length};
 
+use draw::Allowed;
 use opcodes::Stepped;
-use opening::Opened;
 use refusal::Refusal;
 use state::State;
 use std::io;
 use std::io::Read;
-
-fn number(rt: &impl Print, n: usize) -> io::Result<()> {
-    rt.print(n)
-}
-
-fn space(rt: &impl Print) -> io::Result<()> {
-    rt.print(" ")
-}
+use words::{byte_at, word_at};
 
 // The line of the opcode whose head is at p: position, type, version, body length. Only a film that has p was stepped over.
 fn line(rt: &impl Print, film: &[u8], p: usize) -> io::Result<()> {
-    number(rt, p)?;
-    space(rt)?;
-    if p < film.len() {
-        number(rt, words::wide(words::byte_at(film, p + 2)))?;
-        space(rt)?;
-        number(rt, words::wide(words::byte_at(film, p + 3)))?;
-        space(rt)?;
-        number(rt, words::word_at(film, p))?;
+    if film.len() <= p {
+        return println!(rt; "{p} ");
     }
-    rt.println("")
+    println!(rt;
+        "{p} {} {} {}",
+        byte_at(film, p + 2),
+        byte_at(film, p + 3),
+        word_at(film, p)
+    )
 }
 
 fn refused(rt: &impl Print, r: Refusal, p: usize) -> io::Result<()> {
-    rt.print("refused ")?;
-    number(rt, words::wide(refusal::number_of(r)))?;
-    space(rt)?;
-    number(rt, p)?;
-    rt.println("")
-}
-
-fn ended(rt: &impl Print, film: &[u8]) -> io::Result<()> {
-    rt.print("ended ")?;
-    number(rt, film.len())?;
-    rt.println("")
+    println!(rt; "refused {} {p}", r.number())
 }
 
 // Writes the line of an opcode that was taken, unless a chunk's head stood there, and says whether the pictures are too large to go on. A film with true colour is not
@@ -73,13 +55,10 @@ fn walk(rt: &impl Print, film: &[u8], first: State) -> io::Result<()> {
     let mut room = [0u8; 1];
     let mut place: usize = 0;
     let mut st = first;
-    let mut turns: usize = 0;
-    while turns < 24577 {
-        turns += 1;
-        let cursor = st.cursor;
-        let p = cursor.position;
-        let inside = p != cursor.chunk_end;
-        match film::step(
+    for _ in 0..24577 {
+        let p = st.cursor.position;
+        let inside = p != st.cursor.chunk_end;
+        let stepped = film::step(
             film,
             st,
             &mut palette,
@@ -90,26 +69,25 @@ fn walk(rt: &impl Print, film: &[u8], first: State) -> io::Result<()> {
             &mut e,
             &mut place,
             &mut room,
-            312000,
-        ) {
-            Stepped::Taken(next, _) => {
+            Allowed {
+                stores: 312000,
+                spare: 1,
+            },
+        );
+        match stepped {
+            Ok(Stepped::Taken(next, _)) => {
                 if listed(rt, film, p, inside, next)? {
                     return Ok(());
                 }
                 st = next;
             }
-            Stepped::Heard(next, _) => {
-                st = next;
-            }
-            Stepped::Whole(next, _, _) => {
+            Ok(Stepped::Whole(next, _, _)) => {
                 line(rt, film, p)?;
                 st = next;
             }
-            Stepped::Unfinished(next, _, _) => {
-                st = next;
-            }
-            Stepped::Ended(_) => return ended(rt, film),
-            Stepped::Refused(r) => return refused(rt, r, p),
+            Ok(Stepped::Heard(next, _) | Stepped::Unfinished(next, _, _)) => st = next,
+            Ok(Stepped::Ended(_)) => return println!(rt; "ended {}", film.len()),
+            Err(r) => return refused(rt, r, p),
         }
     }
     Ok(())
@@ -119,12 +97,13 @@ fn walk(rt: &impl Print, film: &[u8], first: State) -> io::Result<()> {
 fn list(rt: &impl Print, film: &[u8]) -> io::Result<()> {
     rt.println("at type version length")?;
     match opening::open(film, 16) {
-        Opened::First(st) => walk(rt, film, st),
-        Opened::Refused(r) => refused(rt, r, 0),
+        Ok(st) => walk(rt, film, st),
+        Err(r) => refused(rt, r, 0),
     }
 }
 
-// Reads until buf is full or the input ends, and returns how many bytes stand at the front of buf.
+// Reads until buf is full or the input ends, and returns how many bytes stand at the front of buf. A while, since a turn goes on by what a read gives; std's `read_exact` does not
+// tell how much that was where the input ends.
 fn read_full(rt: &impl Input, buf: &mut [u8]) -> io::Result<usize>
     ensures { IfOk result (λ n. n ≤ length buf.new) }
 {

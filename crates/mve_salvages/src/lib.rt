@@ -6,7 +6,7 @@ ghost use Rattle.refusal.specs.Number.{number, block};
 ghost use Rattle.salvage.specs.Salvage.{not_salvaged, stop_as, answer_as};
 ghost use Rattle.mve_salvages.specs.Salvages.{stop_number, of_walked, of_salvage};
 
-use refusal::{Refusal, number_of};
+use refusal::Refusal;
 use salvage::{Salvaged, Stopped, Walked};
 use words::wide;
 
@@ -25,6 +25,7 @@ pub struct MveSalvaged {
     pub rest: usize,
 }
 
+#[tactic(auto, unfolding(crate::specs::Salvages::stop_number))]
 fn stop_number(s: Stopped) -> usize
     ensures { result ≡ stop_number (stop_as s) }
 {
@@ -38,13 +39,11 @@ fn stop_number(s: Stopped) -> usize
 fn of_walked(bytes: usize, w: Walked) -> MveSalvaged
     ensures { result ≡ of_walked bytes w }
 {
-    let s = w.stop;
-    let stop = stop_number(s);
     MveSalvaged {
         number: 0,
         bytes,
         left_out: w.left_out,
-        stop,
+        stop: stop_number(w.stop),
         header: 26,
         kept: w.kept,
         lost: w.lost,
@@ -52,11 +51,12 @@ fn of_walked(bytes: usize, w: Walked) -> MveSalvaged
     }
 }
 
+#[tactic(auto, unfolding(crate::specs::Salvages::of_salvage))]
 fn of_refusal(r: Refusal) -> MveSalvaged
     ensures { result ≡ of_salvage (not_salvaged (number r) (block r)) }
 {
     MveSalvaged {
-        number: wide(number_of(r)),
+        number: wide(r.number()),
         bytes: 0,
         left_out: 0,
         stop: 0,
@@ -67,11 +67,12 @@ fn of_refusal(r: Refusal) -> MveSalvaged
     }
 }
 
-pub fn of_salvaged(s: Salvaged) -> MveSalvaged
+#[tactic(auto, unfolding(crate::specs::Salvages::of_salvage))]
+pub fn of_salvaged(s: Result<Salvaged, Refusal>) -> MveSalvaged
     ensures { result ≡ of_salvage (answer_as s) }
 {
     match s {
-        Salvaged::Written(bytes, w) => of_walked(bytes, w),
-        Salvaged::Refused(r) => of_refusal(r),
+        Ok(saved) => of_walked(saved.bytes, saved.walked),
+        Err(r) => of_refusal(r),
     }
 }

@@ -1,14 +1,13 @@
 -- A film's state as 18 numbers, for hosts in other languages, in this order: position, chunk_end, columns, rows, front, has_map, map_start, map_length, unsent,
 -- stream, has_format, stereo, wide, compressed, begun, left, right, true_colour.
 -- Assumes nothing.
-use Rattle.std.specs.Prelude.{Bool, true, false, cond, List, [], ◌∷◌, ◌++◌, ℕ, eqb, leb, length, get_or, replicate}
+use Rattle.std.specs.Prelude.{Bool, true, false, cond, List, [], ◌∷◌, ◌++◌, ℕ, eqb, leb, length, get_or, replicate, Option, Some, None}
 use Rattle.sound.specs.declared.Format.{Format}
-use Rattle.sound.specs.declared.Format.TheVariants.{Unknown, Known}
 use Rattle.sound.specs.declared.Sound.{Sound}
 use Rattle.sound.specs.Format.{first_sound}
-use Rattle.state.specs.declared.Map.{Map}
-use Rattle.state.specs.declared.Map.TheVariants.{Missing, Part}
+use Rattle.state.specs.declared.Part.{Part}
 use Rattle.state.specs.declared.State.{State}
+use Rattle.state.specs.State.{some_part}
 
 -- a number that is not 0 counts as 1
 abbrev pub flag_of : ℕ → Bool
@@ -24,8 +23,8 @@ unfoldable pub is_state : List ℕ → Bool
 is_state m = cond (eqb (length m) 18) (cond (leb (get_or m 15 0) 65535) (leb (get_or m 16 0) 65535) false) false
 
 -- has_map: 0 where no map is pending
-unfoldable pub map_of : ℕ → ℕ → ℕ → Map
-map_of has start long = cond (eqb has 0) Missing (Part start long)
+unfoldable pub map_of : ℕ → ℕ → ℕ → Option Part
+map_of has start long = cond (eqb has 0) None (some_part start long)
 
 -- has_format: 0 before a 03; where it is 0, only the stream is read
 unfoldable pub sound_of : List ℕ → Sound
@@ -33,7 +32,7 @@ sound_of m =
     cond (eqb (get_or m 10 0) 0) (first_sound (get_or m 9 0))
     (record {
       stream = get_or m 9 0;
-      format = Known (flag_of (get_or m 11 0)) (flag_of (get_or m 12 0)) (flag_of (get_or m 13 0));
+      format = Some (record { stereo = flag_of (get_or m 11 0); wide = flag_of (get_or m 12 0); compressed = flag_of (get_or m 13 0) });
       begun = flag_of (get_or m 14 0);
       left = get_or m 15 0;
       right = get_or m 16 0;
@@ -55,15 +54,15 @@ state_of m =
 
 -- ---- written
 
-unfoldable pub of_map : Map → List ℕ
-of_map Missing = 0 ∷ 0 ∷ 0 ∷ []
-of_map (Part start long) = 1 ∷ start ∷ long ∷ []
+unfoldable pub of_map : Option Part → List ℕ
+of_map None = 0 ∷ 0 ∷ 0 ∷ []
+of_map (Some map) = 1 ∷ map.start ∷ map.long ∷ []
 
 -- what is not read before a 03 is 0
-unfoldable pub with_format : Sound → Format → List ℕ
-with_format s Unknown = s.stream ∷ 0 ∷ 0 ∷ 0 ∷ 0 ∷ 0 ∷ 0 ∷ 0 ∷ []
-with_format s (Known stereo wide compressed) =
-    s.stream ∷ 1 ∷ number_of stereo ∷ number_of wide ∷ number_of compressed ∷ number_of s.begun ∷ s.left ∷ s.right ∷ []
+unfoldable pub with_format : Sound → Option Format → List ℕ
+with_format s None = s.stream ∷ 0 ∷ 0 ∷ 0 ∷ 0 ∷ 0 ∷ 0 ∷ 0 ∷ []
+with_format s (Some f) =
+    s.stream ∷ 1 ∷ number_of f.stereo ∷ number_of f.wide ∷ number_of f.compressed ∷ number_of s.begun ∷ s.left ∷ s.right ∷ []
 
 abbrev pub of_sound : Sound → List ℕ
 of_sound s = with_format s s.format

@@ -10,45 +10,28 @@ ghost use Rattle.std.proofs.lemmas.List.Edits.{sets};
 ghost use Rattle.mve_states.specs.State.{flag_of, number_of, is_state, map_of, sound_of, state_of, of_map, of_sound, of_state, no_state};
 
 use sound::{Format, Sound};
-use state::{Cursor, Map, State};
+use state::{Cursor, Part, State};
 
 // Whether these are a state's numbers.
+#[tactic(auto, unfolding(crate::specs::State::is_state))]
 pub fn is_state(from: &[usize]) -> bool
     ensures { result ≡ is_state from.now }
 {
-    if from.len() == 18 {
-        if from[15] <= 65535 {
-            return from[16] <= 65535;
-        }
-    }
-    false
+    from.len() == 18 && from[15] <= 65535 && from[16] <= 65535
 }
 
-fn flag(n: usize) -> bool
-    ensures { result ≡ flag_of n }
-{
-    if n == 0 {
-        return false;
-    }
-    true
-}
-
-fn narrow(n: usize) -> u16
-    requires { n ≤ 65535 }
-    ensures { result ≡ n }
-{
-    n as u16
-}
-
-fn map_of(has: usize, start: usize, long: usize) -> Map
+#[tactic(auto, unfolding(crate::specs::State::map_of))]
+fn map_of(has: usize, start: usize, long: usize) -> Option<Part>
     ensures { result ≡ map_of has start long }
 {
     if has == 0 {
-        return Map::Missing;
+        None
+    } else {
+        Some(Part { start, long })
     }
-    Map::Part(start, long)
 }
 
+#[tactic(auto, unfolding(crate::specs::State::sound_of))]
 fn sound_of(from: &[usize]) -> Sound
     requires from_len { length from.now ≡ 18 }
     requires from_bound { (get_or from.now 15 0 ≤ 65535) × (get_or from.now 16 0 ≤ 65535) }
@@ -58,34 +41,25 @@ fn sound_of(from: &[usize]) -> Sound
     if from[10] == 0 {
         return Sound::new(stream);
     }
-    let stereo = flag(from[11]);
-    let wide = flag(from[12]);
-    let compressed = flag(from[13]);
-    let begun = flag(from[14]);
-    let left = narrow(from[15]);
-    let right = narrow(from[16]);
     Sound {
         stream,
-        format: Format::Known {
-            stereo,
-            wide,
-            compressed,
-        },
-        begun,
-        left,
-        right,
+        format: Some(Format {
+            stereo: from[11] != 0,
+            wide: from[12] != 0,
+            compressed: from[13] != 0,
+        }),
+        begun: from[14] != 0,
+        left: from[15] as u16,
+        right: from[16] as u16,
     }
 }
 
+#[tactic(auto, unfolding(crate::specs::State::state_of))]
 pub fn state_of(from: &[usize]) -> State
     requires from_len { length from.now ≡ 18 }
     requires from_bound { (get_or from.now 15 0 ≤ 65535) × (get_or from.now 16 0 ≤ 65535) }
     ensures { result ≡ state_of from.now }
 {
-    let map = map_of(from[5], from[6], from[7]);
-    let unsent = flag(from[8]);
-    let sound = sound_of(from);
-    let deep = flag(from[17]);
     State {
         cursor: Cursor {
             position: from[0],
@@ -93,27 +67,12 @@ pub fn state_of(from: &[usize]) -> State
         },
         columns: from[2],
         rows: from[3],
-        deep,
+        deep: from[17] != 0,
         front: from[4],
-        map,
-        unsent,
-        sound,
+        map: map_of(from[5], from[6], from[7]),
+        unsent: from[8] != 0,
+        sound: sound_of(from),
     }
-}
-
-fn number(b: bool) -> usize
-    ensures { result ≡ number_of b }
-{
-    if b {
-        return 1;
-    }
-    0
-}
-
-fn wide(n: u16) -> usize
-    ensures { result ≡ n }
-{
-    n as usize
 }
 
 // The first five numbers of a state. An answer's number 8 is the state's first.
@@ -121,9 +80,8 @@ fn put_place(out: &mut [usize], st: State)
     requires { 26 ≤ length out.old }
     ensures { out.new ≡ sets out.old 8 (st.cursor.position ∷ st.cursor.chunk_end ∷ st.columns ∷ st.rows ∷ st.front ∷ []) }
 {
-    let c = st.cursor;
-    out[8] = c.position;
-    out[9] = c.chunk_end;
+    out[8] = st.cursor.position;
+    out[9] = st.cursor.chunk_end;
     out[10] = st.columns;
     out[11] = st.rows;
     out[12] = st.front;
@@ -138,13 +96,14 @@ fn put_map(out: &mut [usize], has: usize, start: usize, long: usize)
     out[15] = long;
 }
 
-fn put_pending(out: &mut [usize], map: Map)
+#[tactic(auto, unfolding(crate::specs::State::of_map))]
+fn put_pending(out: &mut [usize], map: Option<Part>)
     requires { 26 ≤ length out.old }
     ensures { out.new ≡ sets out.old 13 (of_map map) }
 {
     match map {
-        Map::Missing => put_map(out, 0, 0, 0),
-        Map::Part(start, long) => put_map(out, 1, start, long),
+        None => put_map(out, 0, 0, 0),
+        Some(part) => put_map(out, 1, part.start, part.long),
     }
 }
 
@@ -182,30 +141,31 @@ fn put_samples(out: &mut [usize], begun: usize, left: usize, right: usize)
     out[24] = right;
 }
 
+#[tactic(auto, unfolding(crate::specs::State::with_format))]
 fn put_sound(out: &mut [usize], s: Sound)
     requires { 26 ≤ length out.old }
     ensures { out.new ≡ sets out.old 17 (of_sound s) }
 {
-    let f = s.format;
-    match f {
-        Format::Unknown => {
+    match s.format {
+        None => {
             put_format(out, s.stream, 0, 0, 0, 0);
             put_samples(out, 0, 0, 0);
         }
-        Format::Known {
-            stereo,
-            wide: w,
-            compressed,
-        } => {
+        Some(f) => {
             put_format(
                 out,
                 s.stream,
                 1,
-                number(stereo),
-                number(w),
-                number(compressed),
+                usize::from(f.stereo),
+                usize::from(f.wide),
+                usize::from(f.compressed),
             );
-            put_samples(out, number(s.begun), wide(s.left), wide(s.right));
+            put_samples(
+                out,
+                usize::from(s.begun),
+                usize::from(s.left),
+                usize::from(s.right),
+            );
         }
     }
 }
@@ -221,13 +181,11 @@ pub fn put_state(out: &mut [usize], st: State)
     requires { 26 ≤ length out.old }
     ensures { out.new ≡ sets out.old 8 (of_state st) }
 {
-    let map = st.map;
-    let sound = st.sound;
     put_place(out, st);
-    put_pending(out, map);
-    put_unsent(out, number(st.unsent));
-    put_sound(out, sound);
-    put_deep(out, number(st.deep));
+    put_pending(out, st.map);
+    put_unsent(out, usize::from(st.unsent));
+    put_sound(out, st.sound);
+    put_deep(out, usize::from(st.deep));
 }
 
 // A state's numbers as they came.
@@ -236,10 +194,9 @@ pub fn put_numbers(out: &mut [usize], from: &[usize])
     requires from_len { length from.now ≡ 18 }
     ensures { out.new ≡ sets out.old 8 from.now }
 {
-    let mut i: usize = 0;
-    while i < 18 {
+    // By index: `copy_from_slice` calls `memmove`, which a host need not have.
+    for i in 0..18 {
         out[8 + i] = from[i];
-        i += 1;
     }
 }
 
@@ -248,9 +205,5 @@ pub fn put_no_state(out: &mut [usize])
     requires { 26 ≤ length out.old }
     ensures { out.new ≡ sets out.old 8 no_state }
 {
-    let mut i: usize = 0;
-    while i < 18 {
-        out[8 + i] = 0;
-        i += 1;
-    }
+    out[8..26].fill(0);
 }

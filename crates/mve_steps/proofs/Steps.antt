@@ -10,7 +10,7 @@ use lib.Seq.{sets, sets-eq}
 use Rattle.room.specs.Room.{written}
 use Rattle.refusal.specs.declared.Refusal.{Refusal}
 use Rattle.refusal.specs.Number.{number, block}
-use Rattle.packet.specs.declared.Touched.TheVariants.{None}
+use Rattle.std.specs.Prelude.{None}
 use Rattle.begin.specs.Begin.{nowhere}
 use Rattle.mve_answers.specs.declared.MveRows.{MveRows}
 use Rattle.mve_answers.specs.Answer.{of_rows}

@@ -1,8 +1,7 @@
 -- A step's answer and that of opening as 26 numbers, for hosts in other languages: kind, number, block, stores, bytes, touched, first_row, last_row, then the 18 of a state.
 -- Assumes nothing.
-use Rattle.std.specs.Prelude.{cond, List, ◌∷◌, ℕ, eqb, get_or, drop}
-use Rattle.packet.specs.declared.Touched.{Touched}
-use Rattle.packet.specs.declared.Touched.TheVariants.{None}
+use Rattle.std.specs.Prelude.{cond, List, ◌∷◌, ℕ, eqb, get_or, drop, Option, None}
+use Rattle.packet.specs.declared.Rows.{Rows}
 use Rattle.packet.specs.Verdict.{default, strict}
 use Rattle.opening.specs.Opening.{Opening, started, refuses}
 use Rattle.opcodes.specs.Opcodes.{Answer, Step, taken, whole, unfinished, ended, refused}
@@ -22,7 +21,7 @@ abbrev pub state_in : List ℕ → List ℕ
 state_in x = drop 8 x
 
 -- kinds: 0 taken, 1 whole, 2 unfinished, 3 ended, 4 refused. Where the state stays, m comes back number by number
-unfoldable pub of_answer : List ℕ → Answer → ℕ → ℕ → Touched → List ℕ
+unfoldable pub of_answer : List ℕ → Answer → ℕ → ℕ → Option Rows → List ℕ
 of_answer m (taken st) stores bytes t = stepped 0 0 0 stores bytes (of_rows t) (of_state st)
 of_answer m (whole st) stores bytes t = stepped 1 0 0 stores bytes (of_rows t) (of_state st)
 of_answer m (unfinished st) stores bytes t = stepped 2 0 0 stores bytes (of_rows t) m

@@ -3,11 +3,10 @@
 // bytes: how many of sound were written at the room's front. The rows: of a packet that was drawn. Every function that ends an answer gives its kind.
 #![tactic(auto)]
 
-ghost use Rattle.std.specs.Prelude.{◌≡◌, [], ◌∷◌, ◌≤◌, length};
+ghost use Rattle.std.specs.Prelude.{◌≡◌, [], ◌∷◌, ◌≤◌, length, None};
 ghost use Rattle.std.proofs.lemmas.List.Edits.{sets};
 ghost use Rattle.room.specs.Room.{written};
 ghost use Rattle.refusal.specs.Number.{block, number as refusalNumber};
-ghost use Rattle.packet.specs.declared.Touched.TheVariants.{None};
 ghost use Rattle.opening.specs.Opening.{opened_as};
 ghost use Rattle.opcodes.specs.Opcodes.{stepped_as};
 ghost use Rattle.begin.specs.Begin.{begun_as};
@@ -15,15 +14,13 @@ ghost use Rattle.mve_answers.specs.Answer.{of_rows};
 ghost use Rattle.mve_states.specs.State.{of_state, no_state};
 ghost use Rattle.mve_steps.specs.Step.{kind_in, spare_of, stepped, of_step, of_no_state, of_opening, of_beginning};
 
-use begin::Begun;
+use begin::Stopped;
 use mve_answers::of_rows;
 use mve_states::{put_no_state, put_numbers, put_state};
 use opcodes::Stepped;
-use opening::Opened;
-use packet::Touched;
-use refusal::{Refusal, block_of, number_of};
+use packet::Rows;
+use refusal::Refusal;
 use state::State;
-use words::wide;
 
 fn put_answer(
     out: &mut [usize],
@@ -43,7 +40,7 @@ fn put_answer(
     out[4] = bytes;
 }
 
-fn put_rows(out: &mut [usize], t: Touched)
+fn put_rows(out: &mut [usize], t: Option<Rows>)
     requires { 26 ≤ length out.old }
     ensures { out.new ≡ sets out.old 5 ((of_rows t).touched ∷ (of_rows t).first ∷ (of_rows t).last ∷ []) }
 {
@@ -59,7 +56,7 @@ fn put_stepped(
     kind: usize,
     stores: usize,
     bytes: usize,
-    t: Touched,
+    t: Option<Rows>,
     st: State,
 ) -> usize
     requires { 26 ≤ length out.old }
@@ -73,7 +70,7 @@ fn put_stepped(
 }
 
 // An answer that leaves the state as it came. Its numbers are read here, behind the step, and not kept over it: that would cost stack.
-fn put_kept(out: &mut [usize], from: &[usize], kind: usize, stores: usize, t: Touched) -> usize
+fn put_kept(out: &mut [usize], from: &[usize], kind: usize, stores: usize, t: Option<Rows>) -> usize
     requires in_bounds { 26 ≤ length out.old }
     requires from_len { length from.now ≡ 18 }
     ensures value { result ≡ kind }
@@ -90,8 +87,8 @@ fn put_refusal(out: &mut [usize], r: Refusal)
     requires { 26 ≤ length out.old }
     ensures { out.new ≡ sets out.old 0 (stepped 4 (refusalNumber r) (block r) 0 0 (of_rows None) []) }
 {
-    put_answer(out, 4, wide(number_of(r)), block_of(r), 0, 0);
-    put_rows(out, Touched::None);
+    put_answer(out, 4, usize::from(r.number()), r.block(), 0, 0);
+    put_rows(out, None);
 }
 
 fn put_refused(out: &mut [usize], from: &[usize], r: Refusal) -> usize
@@ -105,19 +102,20 @@ fn put_refused(out: &mut [usize], from: &[usize], r: Refusal) -> usize
     4
 }
 
-pub fn put_step(out: &mut [usize], from: &[usize], x: Stepped) -> usize
+#[tactic(auto, unfolding(crate::specs::Step::of_answer))]
+pub fn put_step(out: &mut [usize], from: &[usize], x: Result<Stepped, Refusal>) -> usize
     requires in_bounds { 26 ≤ length out.old }
     requires from_len { length from.now ≡ 18 }
     ensures value { result ≡ kind_in (of_step from.now (stepped_as x)) }
     ensures out_after { out.new ≡ written (of_step from.now (stepped_as x)) out.old }
 {
     match x {
-        Stepped::Taken(st, n) => put_stepped(out, 0, n, 0, Touched::None, st),
-        Stepped::Heard(st, n) => put_stepped(out, 0, 0, n, Touched::None, st),
-        Stepped::Whole(st, n, t) => put_stepped(out, 1, n, 0, t, st),
-        Stepped::Unfinished(_, n, t) => put_kept(out, from, 2, n, t),
-        Stepped::Ended(_) => put_kept(out, from, 3, 0, Touched::None),
-        Stepped::Refused(r) => put_refused(out, from, r),
+        Ok(Stepped::Taken(st, n)) => put_stepped(out, 0, n, 0, None, st),
+        Ok(Stepped::Heard(st, n)) => put_stepped(out, 0, 0, n, None, st),
+        Ok(Stepped::Whole(st, n, t)) => put_stepped(out, 1, n, 0, t, st),
+        Ok(Stepped::Unfinished(_, n, t)) => put_kept(out, from, 2, n, t),
+        Ok(Stepped::Ended(_)) => put_kept(out, from, 3, 0, None),
+        Err(r) => put_refused(out, from, r),
     }
 }
 
@@ -141,14 +139,15 @@ pub fn put_unread(out: &mut [usize]) -> usize
     put_unopened(out, Refusal::State)
 }
 
-pub fn put_opened(out: &mut [usize], o: Opened) -> usize
+#[tactic(auto, unfolding(crate::specs::Step::of_opening))]
+pub fn put_opened(out: &mut [usize], o: Result<State, Refusal>) -> usize
     requires { 26 ≤ length out.old }
     ensures value { result ≡ kind_in (of_opening (opened_as o)) }
     ensures out_after { out.new ≡ written (of_opening (opened_as o)) out.old }
 {
     match o {
-        Opened::First(st) => put_stepped(out, 0, 0, 0, Touched::None, st),
-        Opened::Refused(r) => put_unopened(out, r),
+        Ok(st) => put_stepped(out, 0, 0, 0, None, st),
+        Err(r) => put_unopened(out, r),
     }
 }
 
@@ -163,23 +162,22 @@ fn put_stopped(out: &mut [usize], r: Refusal, st: State) -> usize
     4
 }
 
-pub fn put_begun(out: &mut [usize], b: Begun) -> usize
+#[tactic(auto, unfolding(crate::specs::Step::of_beginning))]
+pub fn put_begun(out: &mut [usize], b: Result<State, Stopped>) -> usize
     requires { 26 ≤ length out.old }
     ensures value { result ≡ kind_in (of_beginning (begun_as b)) }
     ensures out_after { out.new ≡ written (of_beginning (begun_as b)) out.old }
 {
     match b {
-        Begun::Sized(st) => put_stepped(out, 0, 0, 0, Touched::None, st),
-        Begun::Refused(r, st) => put_stopped(out, r, st),
+        Ok(st) => put_stepped(out, 0, 0, 0, None, st),
+        Err(s) => put_stopped(out, s.refusal, s.state),
     }
 }
 
 // The bytes of a packet that may be left over: one, or in the strict form none.
+#[tactic(auto, unfolding(crate::specs::Step::spare_of))]
 pub fn spare_of(form: usize) -> usize
     ensures { result ≡ spare_of form }
 {
-    if form == 0 {
-        return 1;
-    }
-    0
+    if form == 0 { 1 } else { 0 }
 }

@@ -5,8 +5,7 @@ ghost use Rattle.std.specs.Prelude.{◌≡◌};
 ghost use Rattle.strip.specs.Strip.{answer_as};
 ghost use Rattle.mve_strips.specs.Strips.{of_strip};
 
-use refusal::number_of;
-use strip::Stripped;
+use refusal::Refusal;
 use words::wide;
 
 // number: 0, or the refusal's number, and then length is 0. length: the bytes written.
@@ -17,13 +16,14 @@ pub struct MveStripped {
     pub length: usize,
 }
 
-pub fn of_stripped(s: Stripped) -> MveStripped
+#[tactic(auto, unfolding(crate::specs::Strips::of_strip))]
+pub fn of_stripped(s: Result<usize, Refusal>) -> MveStripped
     ensures { result ≡ of_strip (answer_as s) }
 {
     match s {
-        Stripped::Written(length) => MveStripped { number: 0, length },
-        Stripped::Refused(r) => MveStripped {
-            number: wide(number_of(r)),
+        Ok(length) => MveStripped { number: 0, length },
+        Err(r) => MveStripped {
+            number: wide(r.number()),
             length: 0,
         },
     }

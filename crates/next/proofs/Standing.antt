@@ -1,100 +1,25 @@
--- What stands where a state is, by what each test found; and what is known of a state and an opcode that are taken.
+-- What is known of a state and an opcode that are taken.
 -- Assumes nothing.
-use mathlib.Core.Path.{◌≡◌, refl, sym, ap, ◌∙◌, subst}
+use mathlib.Core.Path.{◌≡◌, refl, subst}
 use mathlib.Core.Bool.{Bool, true, false, cond}
 use mathlib.Core.List.{List}
 use Prim.Native.Nat.{ℕ, ◌+◌, ◌≤◌}
 use native.Mathlib.Omega.{arith}
-use borrow.Author.Tests.{eq-eqb, ne_eqb, ltb-false, eqb-true}
+use borrow.Author.Tests.{ltb-false, eqb-true}
 use lib.Dec.{eqb, ltb}
 use lib.ListN.{length, get_or}
 use Rattle.words.specs.Word.{word_at}
 use Rattle.words.proofs.Tests.{not_first, first}
-use Rattle.refusal.specs.declared.Refusal.{Refusal}
-use Rattle.refusal.specs.Number.{Verdict, accept, refuse, number, block}
-use Rattle.packet.specs.declared.Checked.{Checked}
-use Rattle.packet.specs.declared.Checked.TheVariants.{Accepted, Refused}
-use Rattle.packet.specs.Verdict.{told}
+use Rattle.refusal.specs.Number.{Verdict, accept, refuse}
 use Rattle.sound.specs.Format.{chosen}
 use Rattle.state.specs.declared.Cursor.{Cursor}
 use Rattle.state.specs.declared.State.{State}
 use Rattle.state.specs.Moves.{cursor_into}
-use Rattle.state.specs.State.{state_verdict, bounds_verdict, area, lent_verdict}
+use Rattle.state.specs.State.{state_verdict, bounds_verdict}
 use Rattle.heads.specs.declared.Opcode.{Opcode}
-use Rattle.heads.specs.declared.ChunkHead.{ChunkHead}
-use Rattle.heads.specs.declared.ChunkHead.TheVariants.{Chunk, BadChunk}
-use Rattle.heads.specs.declared.OpcodeHead.{OpcodeHead}
-use Rattle.heads.specs.declared.OpcodeHead.TheVariants.{Op, BadOp}
-use Rattle.heads.specs.Heads.{Head, chunk_as, opcode_as, opcode as head, chunk_of, chunk_at, opcode_of, opcode_at, at_least, shape_verdict, is_sound, hears as heard, taken_verdict}
+use Rattle.heads.specs.Heads.{Head, opcode as head, chunk_of, chunk_at, opcode_of, opcode_at, at_least, shape_verdict, is_sound, hears as heard, taken_verdict}
 use Rattle.heads.specs.Heads as heads
 use Rattle.next.specs.Next.{Standing, refused, ended, chunk, opcode, on, chunk_standing, opcode_standing, end_of_chunk, standing_at, next_of, Possible, Ready}
-
--- ---- a verdict, and on
-
-module _ (v : Verdict) (s : Standing) (c : Checked) (e : told c ≡ v) where
-  pub goes_on : (t : Standing) → c ≡ Accepted → t ≡ s → t ≡ on v s
-  unfolding on
-  goes_on t q h = rw (← e, q) h
-
-  pub stops : (r : Refusal) → c ≡ Refused r → refused (number r) (block r) ≡ on v s
-  unfolding on
-  stops r q = rw (← e, q)
-
--- ---- heads
-
-module _ (film : List ℕ) (c : Cursor) where
-  pub ends_here : c.chunk_end ≡ length film → ended ≡ end_of_chunk film c
-  unfolding end_of_chunk
-  ends_here q = rw (eq-eqb _ _ q)
-
-  module _ (n : c.chunk_end ≡ length film → ⊥) (h : ChunkHead) (q : chunk_as h ≡ chunk_at film c) where
-    pub chunk_here : (x : Cursor) → h ≡ Chunk x → chunk x ≡ end_of_chunk film c
-    unfolding end_of_chunk chunk_standing
-    chunk_here x k = rw (ne_eqb _ _ n, ← q, k)
-
-    pub no_chunk : (r : Refusal) → h ≡ BadChunk r → refused (number r) (block r) ≡ end_of_chunk film c
-    unfolding end_of_chunk chunk_standing
-    no_chunk r k = rw (ne_eqb _ _ n, ← q, k)
-
-  pub at_end : (hears : Bool) (s : Standing) → c.position ≡ c.chunk_end → s ≡ end_of_chunk film c → s ≡ standing_at hears film c
-  unfolding standing_at
-  at_end hears s q h = rw (eq-eqb _ _ q) h
-
-  module _ (hears : Bool) (n : c.position ≡ c.chunk_end → ⊥) (h : OpcodeHead) (q : opcode_as h ≡ opcode_at film c) where
-    pub opcode_here : (o : Opcode) (s : Standing) → h ≡ Op o → s ≡ on (taken_verdict hears o.kind o.version o.long) (opcode o) → s ≡ standing_at hears film c
-    unfolding standing_at opcode_standing
-    opcode_here o s k f = rw (ne_eqb _ _ n, ← q, k) f
-
-    pub no_opcode : (r : Refusal) → h ≡ BadOp r → refused (number r) (block r) ≡ standing_at hears film c
-    unfolding standing_at opcode_standing
-    no_opcode r k = rw (ne_eqb _ _ n, ← q, k)
-
--- by a test that code made
-pub by_chosen : (b : Bool) (stream : ℕ) (film : List ℕ) (c : Cursor) (s : Standing) → b ≡ chosen stream → s ≡ standing_at b film c → s ≡ standing_at (chosen stream) film c
-by_chosen b stream film c s e q = rw (← e) q
-
--- ---- a state and what is lent
-
-pub judged_lent : (columns rows palette shortest pixels : ℕ) (s t : Standing) (c : Checked) → pixels ≡ area columns rows → told c ≡ lent_verdict pixels palette shortest
-    → c ≡ Accepted → t ≡ s → t ≡ on (lent_verdict (area columns rows) palette shortest) s
-judged_lent columns rows palette shortest pixels s t c e q k g = rw (← e) (goes_on (lent_verdict pixels palette shortest) s c q t k g)
-
-pub short_lent : (columns rows palette shortest pixels : ℕ) (s : Standing) (c : Checked) (r : Refusal) → pixels ≡ area columns rows
-    → told c ≡ lent_verdict pixels palette shortest → c ≡ Refused r → refused (number r) (block r) ≡ on (lent_verdict (area columns rows) palette shortest) s
-short_lent columns rows palette shortest pixels s c r e q k = rw (← e) (stops (lent_verdict pixels palette shortest) s c q r k)
-
-module _ (film : List ℕ) (st : State) (palette shortest : ℕ) (c : Checked) (e : told c ≡ state_verdict st (length film)) where
-  pub found_here : (t : Standing) → c ≡ Accepted
-      → t ≡ on (lent_verdict (area st.columns st.rows) palette shortest) (standing_at (chosen st.sound.stream) film st.cursor)
-      → t ≡ next_of film st palette shortest
-  unfolding next_of
-  found_here t k h = goes_on (state_verdict st (length film)) _ c e t k h
-
-  pub no_state : (r : Refusal) → c ≡ Refused r → refused (number r) (block r) ≡ next_of film st palette shortest
-  unfolding next_of
-  no_state r k = stops (state_verdict st (length film)) _ c e r k
-
--- ---- what is known
 
 refuses : (n k : ℕ) → refuse n k ≡ accept → ⊥
 refuses n k e = let z : ◌≡◌ {A = ℕ} 0 1 = cc in omega arith
@@ -245,6 +170,3 @@ found_chunk film st palette shortest c h =
     let t = on_chunk _ _ c s.1 in
     let o = standing_opens (chosen st.sound.stream) film st.cursor c t.1 in
     (possible st (length film) s.0, o.0, o.1)
-
-pub is_possible : (st : State) (film : ℕ) (c : Checked) → told c ≡ state_verdict st film → c ≡ Accepted → Possible st film
-is_possible st film c e k = possible st film (sym e ∙ ap told k)

@@ -1,6 +1,7 @@
 -- What stands where a state is: refusals 16, 8, then "ended", 2, 3, 4, 5, in this order (document 01, "Numbers of refusal").
 -- Assumes nothing.
-use Rattle.std.specs.Prelude.{Bool, true, cond, List, ℕ, ◌+◌, ◌≤◌, eqb, length, ◌≡◌}
+use Rattle.std.specs.Prelude.{Bool, true, cond, List, ℕ, ◌+◌, ◌≤◌, eqb, length, ◌≡◌, Result, Ok, Err}
+use Rattle.refusal.specs.declared.Refusal.{Refusal}
 use Rattle.refusal.specs.Number.{Verdict, accept, refuse, number, block}
 use Rattle.state.specs.declared.Cursor.{Cursor}
 use Rattle.state.specs.declared.State.{State}
@@ -20,11 +21,11 @@ pub data Standing : Type 0 where
   opcode : Opcode → Standing
 
 -- document 01's values of each answer
-abbrev pub next_as : Next → Standing
-next_as (found.Refused r) = refused (number r) (block r)
-next_as found.Ended = ended
-next_as (found.Chunk c) = chunk c
-next_as (found.Opcode o) = opcode o
+abbrev pub next_as : Result Next Refusal → Standing
+next_as (Err r) = refused (number r) (block r)
+next_as (Ok found.Ended) = ended
+next_as (Ok (found.Chunk c)) = chunk c
+next_as (Ok (found.Opcode o)) = opcode o
 
 -- on where a verdict accepts, else its refusal
 unfoldable pub on : Verdict → Standing → Standing

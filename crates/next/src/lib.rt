@@ -7,55 +7,50 @@ ghost use Rattle.sound.specs.Format.{chosen};
 ghost use Rattle.heads.specs.Heads.{taken_verdict};
 ghost use Rattle.next.specs.Next.{next_as, on, opcode, end_of_chunk, standing_at, next_of, Possible};
 
-use heads::{ChunkHead, OpcodeHead, chunk_head, judge_opcode, opcode_head};
-use packet::Checked;
+use heads::{chunk_head, judge_opcode, opcode_head};
 use refusal::Refusal;
 use sound::is_chosen;
 use state::{Cursor, State, area_of, judge_lent, judge_state};
 
 #[derive(Clone, Copy)]
 pub enum Next {
-    Refused(Refusal),
     Ended,
     Chunk(Cursor),
     Opcode(heads::Opcode),
 }
 
-fn shaped(o: heads::Opcode, hears: bool) -> Next
+#[tactic(auto, unfolding(crate::specs::Next::on))]
+fn shaped(o: heads::Opcode, hears: bool) -> Result<Next, Refusal>
     ensures { next_as result ≡ on (taken_verdict hears o.kind o.version o.long) (opcode o) }
 {
-    match judge_opcode(hears, o.kind, o.version, o.long) {
-        Checked::Accepted => Next::Opcode(o),
-        Checked::Refused(r) => Next::Refused(r),
-    }
+    judge_opcode(hears, o.kind, o.version, o.long)?;
+    Ok(Next::Opcode(o))
 }
 
-fn chunk_end(film: &[u8], c: Cursor) -> Next
+#[tactic(auto, unfolding(crate::specs::Next::end_of_chunk, crate::specs::Next::chunk_standing))]
+fn chunk_end(film: &[u8], c: Cursor) -> Result<Next, Refusal>
     requires { c.chunk_end ≤ length film.now }
     ensures { next_as result ≡ end_of_chunk film.now c }
 {
     if c.chunk_end == film.len() {
-        return Next::Ended;
+        return Ok(Next::Ended);
     }
-    match chunk_head(film, c) {
-        ChunkHead::Chunk(chunk) => Next::Chunk(chunk),
-        ChunkHead::BadChunk(r) => Next::Refused(r),
-    }
+    let chunk = chunk_head(film, c)?;
+    Ok(Next::Chunk(chunk))
 }
 
 // What stands at a cursor: the work of a reader. hears: a stream of sound is chosen.
 // One value for both branches: after a `return` in the first the compiler built the answer on the stack before it gave it.
-fn next_at(film: &[u8], c: Cursor, hears: bool) -> Next
+#[tactic(auto, unfolding(crate::specs::Next::standing_at, crate::specs::Next::opcode_standing))]
+fn next_at(film: &[u8], c: Cursor, hears: bool) -> Result<Next, Refusal>
     requires { (c.position ≤ c.chunk_end) × (c.chunk_end ≤ length film.now) }
     ensures { next_as result ≡ standing_at hears film.now c }
 {
     if c.position == c.chunk_end {
         chunk_end(film, c)
     } else {
-        match opcode_head(film, c) {
-            OpcodeHead::Op(o) => shaped(o, hears),
-            OpcodeHead::BadOp(r) => Next::Refused(r),
-        }
+        let o = opcode_head(film, c)?;
+        shaped(o, hears)
     }
 }
 
@@ -74,7 +69,7 @@ impl<'a> Reader<'a> {
     }
 
     // What stands at its position.
-    fn standing(self, hears: bool) -> Next
+    fn standing(self, hears: bool) -> Result<Next, Refusal>
         requires { (self.at.position ≤ self.at.chunk_end) × (self.at.chunk_end ≤ length self.film.now) }
         ensures { next_as result ≡ standing_at hears self.entry.film.now self.entry.at }
     {
@@ -83,34 +78,27 @@ impl<'a> Reader<'a> {
 }
 
 // What stands at a cursor, through a reader. All that read a film call this.
-pub fn standing_at(film: &[u8], c: Cursor, hears: bool) -> Next
+pub fn standing_at(film: &[u8], c: Cursor, hears: bool) -> Result<Next, Refusal>
     requires { (c.position ≤ c.chunk_end) × (c.chunk_end ≤ length film.now) }
     ensures { next_as result ≡ standing_at hears film.now c }
 {
     Reader::new(film, c).standing(hears)
 }
 
-fn next_with_lent(film: &[u8], st: State, palette: usize, shortest: usize) -> Next
+#[tactic(auto, unfolding(crate::specs::Next::on))]
+fn next_with_lent(film: &[u8], st: State, palette: usize, shortest: usize) -> Result<Next, Refusal>
     requires { Possible st (length film.now) }
     ensures { next_as result ≡ on (lent_verdict (area st.columns st.rows) palette shortest) (standing_at (chosen st.sound.stream) film.now st.cursor) }
 {
-    let pixels = area_of(st.columns, st.rows);
-    match judge_lent(pixels, palette, shortest) {
-        Checked::Accepted => {
-            let c = st.cursor;
-            let s = st.sound;
-            standing_at(film, c, is_chosen(s.stream))
-        }
-        Checked::Refused(r) => Next::Refused(r),
-    }
+    judge_lent(area_of(st.columns, st.rows), palette, shortest)?;
+    standing_at(film, st.cursor, is_chosen(st.sound.stream))
 }
 
 // What stands where the state is, where the palette and the shortest of the film's own pictures are this long.
-pub fn find(film: &[u8], st: State, palette: usize, shortest: usize) -> Next
+#[tactic(auto, unfolding(crate::specs::Next::next_of, crate::specs::Next::on))]
+pub fn find(film: &[u8], st: State, palette: usize, shortest: usize) -> Result<Next, Refusal>
     ensures { next_as result ≡ next_of film.now st palette shortest }
 {
-    match judge_state(st, film.len()) {
-        Checked::Accepted => next_with_lent(film, st, palette, shortest),
-        Checked::Refused(r) => Next::Refused(r),
-    }
+    judge_state(st, film.len())?;
+    next_with_lent(film, st, palette, shortest)
 }

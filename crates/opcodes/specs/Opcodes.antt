@@ -1,10 +1,10 @@
 -- What each opcode that is taken does to the state (document 01, "Film, chunks, opcodes"), and the answer of a step.
 -- Assumes nothing.
-use Rattle.std.specs.Prelude.{Bool, true, false, cond, List, ℕ, eqb}
+use Rattle.std.specs.Prelude.{Bool, true, false, cond, List, ℕ, eqb, Result, Ok, Err, Option, None}
 use Rattle.words.specs.Word.{word_at}
+use Rattle.refusal.specs.declared.Refusal.{Refusal}
 use Rattle.refusal.specs.Number.{number, block}
-use Rattle.packet.specs.declared.Touched.{Touched}
-use Rattle.packet.specs.declared.Touched.TheVariants.{None}
+use Rattle.packet.specs.declared.Rows.{Rows}
 use Rattle.packet.specs.Verdict.{legal_size}
 use Rattle.stores.specs.Calls as drawing
 use Rattle.draw.specs.Call.{Reason, Report}
@@ -12,7 +12,7 @@ use Rattle.sound.specs.Sound as sound
 use Rattle.state.specs.declared.State.{State}
 use Rattle.state.specs.Moves.{behind, at_end, sized, sent, heard, finished}
 use Rattle.opcodes.specs.declared.Stepped.{Stepped}
-use Rattle.opcodes.specs.declared.Stepped.TheVariants.{Taken, Heard, Whole, Unfinished, Ended, Refused}
+use Rattle.opcodes.specs.declared.Stepped.TheVariants.{Taken, Heard, Whole, Unfinished, Ended}
 
 -- ---- answers
 
@@ -27,9 +27,9 @@ pub record Step : Type 0 where
   pub answer : Answer
   pub stores : ℕ
   pub bytes : ℕ
-  pub rows : Touched
+  pub rows : Option Rows
 
-abbrev pub drew : Answer → ℕ → Touched → Step
+abbrev pub drew : Answer → ℕ → Option Rows → Step
 drew x n t = record { answer = x; stores = n; bytes = 0; rows = t }
 
 -- a step that does not draw tells no rows
@@ -44,13 +44,13 @@ abbrev pub wrote : Answer → ℕ → Step
 wrote x n = record { answer = x; stores = 0; bytes = n; rows = None }
 
 -- document 01's values of each answer
-abbrev pub stepped_as : Stepped → Step
-stepped_as (Taken st n) = stored (taken st) n
-stepped_as (Heard st n) = wrote (taken st) n
-stepped_as (Whole st n t) = drew (whole st) n t
-stepped_as (Unfinished st n t) = drew (unfinished st) n t
-stepped_as (Ended st) = quiet (ended st)
-stepped_as (Refused r) = quiet (refused (number r) (block r))
+abbrev pub stepped_as : Result Stepped Refusal → Step
+stepped_as (Ok (Taken st n)) = stored (taken st) n
+stepped_as (Ok (Heard st n)) = wrote (taken st) n
+stepped_as (Ok (Whole st n t)) = drew (whole st) n t
+stepped_as (Ok (Unfinished st n t)) = drew (unfinished st) n t
+stepped_as (Ok (Ended st)) = quiet (ended st)
+stepped_as (Err r) = quiet (refused (number r) (block r))
 
 -- ---- opcodes that change nothing lent
 
@@ -81,7 +81,7 @@ heard_step st p (sound.heard s n) = wrote (taken (heard st p s)) n
 heard_step st p (sound.refusal n k) = quiet (refused n k)
 
 -- 11: "whole" uses the map up and marks the frame finished; "unfinished" keeps the state; a refused drawing makes no store
-unfoldable pub drawn_as : State → ℕ → drawing.Answer Reason → ℕ → Touched → Step
+unfoldable pub drawn_as : State → ℕ → drawing.Answer Reason → ℕ → Option Rows → Step
 drawn_as st p drawing.whole n t = drew (whole (finished st p)) n t
 drawn_as st p drawing.unfinished n t = drew (unfinished st) n t
 drawn_as st p (drawing.refusal r) n t = quiet (refused r.number r.block)

@@ -1,12 +1,10 @@
 -- Opening a film (document 01, "Film, chunks, opcodes"): the header, and the first state.
 -- Assumes nothing.
-use Rattle.std.specs.Prelude.{Bool, true, false, cond, List, [], ◌∷◌, ℕ, zero, suc, eqb, ltb, length, get_or}
+use Rattle.std.specs.Prelude.{Bool, true, false, cond, List, [], ◌∷◌, ℕ, zero, suc, eqb, ltb, length, get_or, Result, Ok, Err, None}
+use Rattle.refusal.specs.declared.Refusal.{Refusal}
 use Rattle.refusal.specs.Number.{number, block}
 use Rattle.sound.specs.Format.{first_sound}
-use Rattle.state.specs.declared.Map.TheVariants.{Missing}
 use Rattle.state.specs.declared.State.{State}
-use Rattle.opening.specs.declared.Opened.{Opened}
-use Rattle.opening.specs.declared.Opened.TheVariants.{First, Refused}
 
 -- `Interplay MVE File`, 1A, 00, then the words 001A, 0100, 1133
 unfoldable pub header : List ℕ
@@ -21,7 +19,7 @@ begins film (suc n) = cond (eqb (get_or film n 0) (get_or header n 0)) (begins f
 -- position and chunk end behind the header, no size and no true colour, the first lent picture shown, no map, nothing unsent, and the stream of sound that is given
 unfoldable pub first_state : ℕ → State
 first_state stream =
-    record { cursor = record { position = 26; chunk_end = 26 }; columns = 0; rows = 0; deep = false; front = 0; map = Missing; unsent = false; sound = first_sound stream }
+    record { cursor = record { position = 26; chunk_end = 26 }; columns = 0; rows = 0; deep = false; front = 0; map = None; unsent = false; sound = first_sound stream }
 
 -- what opening comes to: a state, or a refusal's number and block
 pub data Opening : Type 0 where
@@ -29,9 +27,9 @@ pub data Opening : Type 0 where
   refuses : ℕ → ℕ → Opening
 
 -- document 01's values of each answer
-abbrev pub opened_as : Opened → Opening
-opened_as (First st) = started st
-opened_as (Refused r) = refuses (number r) (block r)
+abbrev pub opened_as : Result State Refusal → Opening
+opened_as (Ok st) = started st
+opened_as (Err r) = refuses (number r) (block r)
 
 unfoldable pub opening_of : List ℕ → ℕ → Opening
 opening_of film stream = cond (ltb (length film) 26) (refuses 1 0) (cond (begins film 26) (started (first_state stream)) (refuses 1 0))

@@ -1,6 +1,6 @@
 -- What a trace answers, by what code found.
 -- Assumes nothing.
-use mathlib.Core.Path.{◌≡◌, refl, sym, ap}
+use mathlib.Core.Path.{◌≡◌, refl, sym}
 use mathlib.Core.Bool.{true, false}
 use mathlib.Core.List.{List}
 use Prim.Native.Nat.{ℕ, ◌+◌, ◌*◌, ◌/◌, ◌%◌, ◌≤◌, ◌<◌, zero-le}
@@ -18,11 +18,6 @@ use Rattle.origin.specs.declared.Origin.TheVariants.{Byte}
 use Rattle.book.specs.Picture.{source_at}
 use Rattle.origin.specs.Trace.{block_at, pixel_at, picture_origin, named, origin_of, Answer, found, refused, found_at, position_verdict, trace_verdict, answered, trace_of}
 use Rattle.origin.specs.Asked.{Traceable}
-
--- ---- a pixel of a picture, by its name
-
-pub picture_named : (x y : ℕ) {p q : Picture} → p ≡ q → picture_origin q x y ≡ picture_origin p x y
-picture_named x y e = ap (λ (z : Picture). picture_origin z x y) (sym e)
 
 -- ---- an accepted packet, by the source that was read
 

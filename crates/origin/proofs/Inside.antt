@@ -16,7 +16,7 @@ use Rattle.block.specs.Asked.{Readable, Among}
 use Rattle.pixel.proofs.Sources.{source_among}
 use Rattle.packet.specs.Packet.{Packet, blocks, width, height, left, top, code, start, data_of, offsets_of, kind}
 use Rattle.packet.specs.Accepted.{Takes}
-use Rattle.packet.proofs.Walk.{code_below, blocks_few}
+use Rattle.packet.proofs.Walk.{code_below}
 use Rattle.packet.proofs.Exactly.{is_copy}
 use Rattle.book.specs.Picture.{source_at}
 use Rattle.book.proofs.Picture as grid
@@ -61,9 +61,6 @@ byte_below true j long l = omega arith
 module _ (p : Packet) (x y : ℕ) (t : Traceable p x y) where
   pub inside : block_at p.columns x y < blocks p
   inside = block_below p.columns p.rows x y t.across t.down
-
-  pub block_few : block_at p.columns x y < 4800
-  block_few = omega (arith, inside, blocks_few p t.sized)
 
   takes : Takes p (block_at p.columns x y)
   takes = t.taken (block_at p.columns x y) inside

@@ -3,7 +3,8 @@
 -- picture is front, the oldest is back as it was lent, which codes 1 and 2 read, and the new one is read by code 3: code 2 copies from blocks that are not drawn yet,
 -- code 3 from blocks that are (`book/proofs/Picture`).
 -- Assumes nothing.
-use Rattle.std.specs.Prelude.{cond, List, ℕ, ◌+◌, ◌*◌, ◌/◌, ◌%◌, leb}
+use Rattle.std.specs.Prelude.{cond, List, ℕ, ◌+◌, ◌*◌, ◌/◌, ◌%◌, leb, Result, Ok, Err}
+use Rattle.refusal.specs.declared.Refusal.{Refusal}
 use Rattle.refusal.specs.Number.{Verdict, accept, refuse, number, block}
 use Rattle.block.specs.declared.Picture.{Picture}
 use Rattle.block.specs.declared.Picture.TheVariants.{Last, New, Oldest}
@@ -16,7 +17,6 @@ use Rattle.book.specs.Picture.{source_at}
 use Rattle.origin.specs.declared.Origin.{Origin}
 use Rattle.origin.specs.declared.Origin.TheVariants.{Byte, InFront, InBack, InNew}
 use Rattle.origin.specs.declared.Traced.{Traced}
-use Rattle.origin.specs.declared.Traced.TheVariants.{Found, Refused}
 
 -- ---- a pixel and its source
 
@@ -49,9 +49,9 @@ pub data Answer : Type 0 where
   refused : ℕ → ℕ → Answer
 
 -- document 01's values of each answer
-abbrev pub told : Traced → Answer
-told (Found k code origin) = found k code origin
-told (Refused r) = refused (number r) (block r)
+abbrev pub told : Result Traced Refusal → Answer
+told (Ok t) = found t.block t.code t.origin
+told (Err r) = refused (number r) (block r)
 
 unfoldable pub found_at : Packet → ℕ → ℕ → Answer
 found_at p x y = found (block_at p.columns x y) (code p (block_at p.columns x y)) (origin_of p (block_at p.columns x y) (pixel_at x y))

@@ -283,8 +283,5 @@ next_flat map bytes s i at c l e f g h =
     let q = found_flat map bytes i at e in
     ap (λ (a : Position). a.bytes) (position_next false map bytes [] s [] i at 0 c l 0 q f g refl (h []) (offset_flat s [] c (rw f (code_below map i))))
 
-pub end_flat : (map bytes : List ℕ) (i k at : ℕ) → i ≡ k → at ≡ (start_of false map bytes [] i).bytes → at ≡ (start_of false map bytes [] k).bytes
-end_flat map bytes i k at e f = f ∙ ap (λ (n : ℕ). (start_of false map bytes [] n).bytes) e
-
 pub offset_few : (deep : Bool) (c l : ℕ) → c < 16 → ((s o : List ℕ) → l ≡ offset_length (kind_of deep c s o)) → l ≤ 1
 offset_few deep c l h e = omega (arith, e [] [], (length_few deep [] [] c h).1)

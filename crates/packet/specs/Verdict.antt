@@ -1,17 +1,16 @@
 -- The verdict on a packet, for both widths, in the documents' order: 6, 10, 20, then block by block 12, 13, 14, then 15.
 -- Document 02, W6: one byte may be left over; in the strict form none. Both are one definition, over the bytes that may be (`spare`).
 -- Assumes nothing.
-use Rattle.std.specs.Prelude.{Bool, true, false, cond, List, ℕ, zero, suc, ◌+◌, ◌/◌, eqb, leb, ltb, length}
+use Rattle.std.specs.Prelude.{Bool, true, false, cond, List, ℕ, zero, suc, ◌+◌, ◌/◌, eqb, leb, ltb, length, Result, Ok, Err}
+use Rattle.refusal.specs.declared.Refusal.{Refusal}
 use Rattle.refusal.specs.Number.{Verdict, accept, refuse, refusal}
 use Rattle.block.specs.Block.{data_length, offset_length, is_refused, copy_inside}
 use Rattle.packet.specs.Packet.{Packet, offsets_at, packet_in, blocks, width, height, left, top, start, data_of, offsets_of, kind}
-use Rattle.packet.specs.declared.Checked.{Checked}
-use Rattle.packet.specs.declared.Checked.TheVariants.{Accepted, Refused}
 
--- document 01's number and block of each answer of the check
-abbrev pub told : Checked → Verdict
-told Accepted = accept
-told (Refused r) = refusal r
+-- document 01's number and block of each answer of a test
+abbrev pub told : Result Unit Refusal → Verdict
+told (Ok u) = accept
+told (Err r) = refusal r
 
 -- the next verdict where the first accepts
 unfoldable pub and_then : Verdict → Verdict → Verdict

@@ -3,7 +3,7 @@
 
 ghost use Rattle.std.specs.Prelude.{◌≡◌, false, [], ◌*◌, ◌≤◌, length};
 ghost use Rattle.packet.specs.Packet.{packet, start_of};
-ghost use Rattle.packet.specs.Verdict.{legal, legal_size, default, strict, blocks_verdict, verdict};
+ghost use Rattle.packet.specs.Verdict.{legal, legal_size, blocks_verdict, verdict};
 ghost use Rattle.packet.specs.Rows.{first_from, past_touched, rows_from, touched, finding, found};
 ghost use Rattle.packet.specs.Asked.{Sized};
 
@@ -11,45 +11,27 @@ use block::{code_at, copy_inside, data_length};
 use refusal::Refusal;
 use words::part_from;
 
-// What a test finds.
-#[derive(Clone, Copy)]
-pub enum Checked {
-    Accepted,
-    Refused(Refusal),
-}
-
 // The rows of blocks that a packet touches, counted from 0: the first and the last that hold a block other than code 1.
 #[derive(Clone, Copy)]
-pub enum Touched {
-    None,
-    Rows(usize, usize),
-}
-
-// What the check of a packet finds.
-#[derive(Clone, Copy)]
-pub enum Inspected {
-    Accepted(Touched),
-    Refused(Refusal),
+pub struct Rows {
+    pub first: usize,
+    pub last: usize,
 }
 
 // Whether n is from 1 to most.
+#[tactic(auto, unfolding(crate::specs::Verdict::legal))]
 fn is_legal(most: usize, n: usize) -> bool
     ensures { result ≡ legal most n }
 {
-    if n < 1 {
-        return false;
-    }
-    n <= most
+    1 <= n && n <= most
 }
 
 // Whether a picture may be so many columns and rows of blocks.
+#[tactic(auto, unfolding(crate::specs::Verdict::legal_size))]
 pub fn is_legal_size(columns: usize, rows: usize) -> bool
     ensures { result ≡ legal_size columns rows }
 {
-    if is_legal(80, columns) {
-        return is_legal(60, rows);
-    }
-    false
+    is_legal(80, columns) && is_legal(60, rows)
 }
 
 // The position of block k's data in an 8-bit packet, found from the map and the data in front of it.
@@ -58,57 +40,64 @@ pub fn data_position(map: &[u8], data: &[u8], k: usize) -> usize
     ensures { result ≡ (start_of false map.now «data».now [] k).bytes }
 {
     let mut at = 0;
-    let mut i = 0;
-    while i < k {
-        at += data_length(code_at(map, i), part_from(data, at));
-        i += 1;
+    for i in 0..k {
+        at += data_length::<false>(code_at(map, i), part_from(data, at));
     }
     at
 }
 
 // The first of n blocks that is touched, by a code other than u; n where none is.
+#[tactic(auto, using(crate::proofs::Strip::first_next), unfolding(crate::specs::Rows::first_from))]
 fn first_touched(u: u8, map: &[u8], n: usize) -> usize
     requires { n ≤ 2 * length map.now }
     ensures { result ≡ first_from u map.now n 0 }
 {
-    let mut k = 0;
-    while k < n {
+    for k in 0..n {
         if code_at(map, k) != u {
             return k;
         }
-        k += 1;
     }
-    k
+    n
 }
 
 // The end of the last of n blocks that is touched, by a code other than u; 0 where none is.
+#[tactic(auto, unfolding(crate::specs::Rows::past_touched))]
 fn past_touched(u: u8, map: &[u8], n: usize) -> usize
     requires { n ≤ 2 * length map.now }
     ensures { result ≡ past_touched u map.now n }
 {
-    let mut k = n;
-    while 0 < k {
-        if code_at(map, k - 1) != u {
-            return k;
+    for k in (0..n).rev() {
+        if code_at(map, k) != u {
+            return k + 1;
         }
-        k -= 1;
     }
-    k
+    0
 }
 
 // The rows of the first touched block and of the last, which ends at past.
-fn rows_from(columns: usize, first: usize, past: usize) -> Touched
+#[tactic(auto, unfolding(crate::specs::Rows::rows_from))]
+fn rows_from(columns: usize, first: usize, past: usize) -> Option<Rows>
     requires { 1 ≤ columns }
     ensures { result ≡ rows_from columns first past }
 {
     if past == 0 {
-        return Touched::None;
+        None
+    } else {
+        Some(Rows {
+            first: first / columns,
+            last: (past - 1) / columns,
+        })
     }
-    Touched::Rows(first / columns, (past - 1) / columns)
 }
 
 // The blocks of an 8-bit packet in order, and then what they leave over: at most spare bytes. Those before the first touched block and behind the last are code 1: they have no data and are never refused.
-pub fn check_blocks(spare: usize, columns: usize, rows: usize, map: &[u8], data: &[u8]) -> Inspected
+pub fn check_blocks(
+    spare: usize,
+    columns: usize,
+    rows: usize,
+    map: &[u8],
+    data: &[u8],
+) -> Result<Option<Rows>, Refusal>
     requires { Sized (packet columns rows map.now «data».now) }
     ensures { found result ≡ finding (blocks_verdict spare (packet columns rows map.now «data».now)) (touched (packet columns rows map.now «data».now)) }
 {
@@ -116,63 +105,53 @@ pub fn check_blocks(spare: usize, columns: usize, rows: usize, map: &[u8], data:
     let h = 8 * rows;
     let first = first_touched(1, map, columns * rows);
     let past = past_touched(1, map, columns * rows);
-    let mut k = first;
     let mut at = 0;
     // From the block's left edge to the picture's right edge: fewer instructions a block than its distance from the left.
     let mut right = w - 8 * (first % columns);
     let mut y = 8 * (first / columns);
-    while k < past {
+    for k in first..past {
         let code = code_at(map, k);
         if code == 6 {
-            return Inspected::Refused(Refusal::Code(k));
+            return Err(Refusal::Code(k));
         }
         let s = &data[at..];
-        let length = data_length(code, s);
+        let length = data_length::<false>(code, s);
         if s.len() < length {
-            return Inspected::Refused(Refusal::DataShort(k));
+            return Err(Refusal::DataShort(k));
         }
-        if copy_inside(false, code, s, s, w, h, w - right, y) {
-            k += 1;
-            at += length;
-            right -= 8;
-            if right == 0 {
-                right = w;
-                y += 8;
-            }
-        } else {
-            return Inspected::Refused(Refusal::CopyOutside(k));
+        if !copy_inside(false, code, s, s, w, h, w - right, y) {
+            return Err(Refusal::CopyOutside(k));
+        }
+        at += length;
+        right -= 8;
+        if right == 0 {
+            right = w;
+            y += 8;
         }
     }
     let over = data.len() - at;
     if over <= spare {
-        return Inspected::Accepted(rows_from(columns, first, past));
+        Ok(rows_from(columns, first, past))
+    } else {
+        Err(Refusal::LeftOver)
     }
-    Inspected::Refused(Refusal::LeftOver)
 }
 
 // Whether the rules accept an 8-bit packet for a picture of columns by rows blocks, where so many bytes may be left over, and if not, why.
-fn check_leaving(spare: usize, columns: usize, rows: usize, map: &[u8], data: &[u8]) -> Inspected
+pub fn check(
+    spare: usize,
+    columns: usize,
+    rows: usize,
+    map: &[u8],
+    data: &[u8],
+) -> Result<Option<Rows>, Refusal>
     ensures { found result ≡ finding (verdict spare columns rows map.now «data».now) (touched (packet columns rows map.now «data».now)) }
 {
-    if is_legal_size(columns, rows) {
-        if map.len() == (columns * rows + 1) / 2 {
-            return check_blocks(spare, columns, rows, map, data);
-        }
-        return Inspected::Refused(Refusal::MapLength);
+    if !is_legal_size(columns, rows) {
+        return Err(Refusal::Size);
     }
-    Inspected::Refused(Refusal::Size)
-}
-
-// The check: one byte may be left over.
-pub fn check(columns: usize, rows: usize, map: &[u8], data: &[u8]) -> Inspected
-    ensures { found result ≡ finding (verdict default columns rows map.now «data».now) (touched (packet columns rows map.now «data».now)) }
-{
-    check_leaving(1, columns, rows, map, data)
-}
-
-// The strict check: no byte may be left over.
-pub fn check_strict(columns: usize, rows: usize, map: &[u8], data: &[u8]) -> Inspected
-    ensures { found result ≡ finding (verdict strict columns rows map.now «data».now) (touched (packet columns rows map.now «data».now)) }
-{
-    check_leaving(0, columns, rows, map, data)
+    if map.len() != (columns * rows + 1) / 2 {
+        return Err(Refusal::MapLength);
+    }
+    check_blocks(spare, columns, rows, map, data)
 }

@@ -1,6 +1,7 @@
 -- How many pixels a block stores: none of code 1 of an 8-bit film, 64 of any other.
 -- Assumes nothing.
 use mathlib.Core.Path.{◌≡◌, refl}
+use mathlib.Core.Bool.{true}
 use mathlib.Core.List.{List}
 use Prim.Native.Nat.{ℕ, ◌≤◌, ◌<◌}
 use native.Mathlib.Omega.{arith}
@@ -30,3 +31,9 @@ count_few (patterned f) = omega arith
 count_few (celled c) = omega arith
 count_few dithered = omega arith
 count_few refused = omega arith
+
+-- every block of a film with true colour stores 64
+pub count_deep : (s o : List ℕ) (c : ℕ) → c < 16 → 64 ≡ pixel_count (kind_of true c s o)
+unfolding kind_of kinds pixel_count
+count_deep s o =
+    each_code (λ c. 64 ≡ pixel_count (kind_of true c s o)) refl refl refl refl refl refl refl refl refl refl refl refl refl refl refl refl

@@ -9,7 +9,7 @@ use Rattle.motion.specs.Motion.{raster_index, Inside}
 use Rattle.block.specs.Block.{cell_source}
 use Rattle.block.specs.Asked.{Sided}
 use Rattle.block.proofs.Codes.{cell}
-use Rattle.pattern.specs.Form.{Shape}
+use Rattle.pattern.specs.declared.Shape.{Shape}
 use Rattle.pattern.specs.Pattern.{Shaped, pattern_length, pattern_source}
 use Rattle.pattern.proofs.Bounds.{small, source_inside}
 use Rattle.pixel.proofs.Sources.{raster_below}

@@ -1,8 +1,8 @@
 -- How many pixels of a block are stored, and what each becomes.
 -- Assumes nothing.
-use Rattle.std.specs.Prelude.{Bool, false, cond, List, [], ℕ}
+use Rattle.std.specs.Prelude.{Bool, true, false, cond, List, [], ℕ}
 use Rattle.motion.specs.Motion.{raster_index}
-use Rattle.block.specs.Block.{Kind, same, kept, copied, patterned, celled, dithered, refused, byte_kind, source, fetched}
+use Rattle.block.specs.Block.{Kind, same, kept, copied, patterned, celled, dithered, refused, kind_of, byte_kind, source, fetched}
 use Rattle.stores.specs.Stores.{Plan}
 
 -- document 01: 64 for each block but code 1 of an 8-bit film
@@ -20,6 +20,9 @@ pub record Older : Type 0 where
   pub last : List ℕ
   pub oldest : List ℕ
 
+abbrev pub older : List ℕ → List ℕ → Older
+older last oldest = record { last = last; oldest = oldest }
+
 -- of an 8-bit film, whose oldest picture is the one that is drawn on: its second is not read
 abbrev pub flat : List ℕ → Older
 flat last = record { last = last; oldest = [] }
@@ -36,6 +39,14 @@ block_plan deep κ s w x y older =
 -- the plan of the block that code draws at x, y in an 8-bit film: the list of its pixel stores
 abbrev pub plan_of : ℕ → List ℕ → List ℕ → ℕ → ℕ → ℕ → Plan
 plan_of code s front w x y = block_plan false (byte_kind code s) s w x y (flat front)
+
+-- the same in a film with true colour (document 02, W7): a word is one store. s, o: its data in both parts
+abbrev pub word_plan : ℕ → List ℕ → List ℕ → List ℕ → List ℕ → ℕ → ℕ → ℕ → Plan
+word_plan code s o last oldest w x y = block_plan true (kind_of true code s o) s w x y (older last oldest)
+
+-- a plan that stores nothing
+abbrev pub no_plan : Plan
+no_plan = record { blocks = 0; size = λ k. 0; target = λ k i. 0; value = λ k i b. 0 }
 
 -- pixel i of the block that code draws at x, y in an 8-bit film
 abbrev pub byte_value : ℕ → List ℕ → ℕ → ℕ → ℕ → List ℕ → ℕ → List ℕ → ℕ

@@ -1,6 +1,6 @@
 -- Opcode 0C by its tests: a law for each way out, over the words that code has read.
 -- Assumes nothing.
-use mathlib.Core.Path.{◌≡◌, refl, sym, ◌∙◌}
+use mathlib.Core.Path.{◌≡◌, sym, ◌∙◌}
 use mathlib.Core.Bool.{true, false}
 use mathlib.Core.List.{List}
 use Prim.Native.Nat.{ℕ, ◌+◌, ◌-◌, ◌*◌, ◌≤◌, ◌<◌, min}
@@ -9,15 +9,13 @@ use borrow.Author.Tests.{eq-eqb, ne_eqb, eqb-true, le-leb, lt-leb, leb-true}
 use lib.ListN.{length, take}
 use Rattle.refusal.specs.Number.{accept, refuse}
 use Rattle.listed.specs.Store.{applied, bytes, from, Within}
-use Rattle.palette.specs.declared.Updated.{Updated}
-use Rattle.palette.specs.declared.Updated.TheVariants.{Taken}
-use Rattle.palette.specs.Update.{legal, verdict, verdict_for, told}
+use Rattle.palette.specs.Update.{legal, verdict, verdict_for}
 use Rattle.listed.proofs.Lists.{bytes_length, within_bytes}
 use Rattle.palette.proofs.Allowing.{due_list}
 use Rattle.palette.proofs.Judging.{legal_bytes}
 use Rattle.palette.proofs.Outcome.{refuses_5, refuses_range, refuses_component, accepts, accepted, taken_on}
 use Rattle.palette.specs.Entries.{start, count, set_palette}
-use Rattle.palette.specs.Asked.{stores_of, Next}
+use Rattle.palette.specs.Asked.{Next}
 
 module _ (body : List ℕ) (m : ℕ) (h : m ≡ 768) (s n : ℕ) (x : s ≡ start body) (y : n ≡ count body) where
   pub wrong_length : (length body ≡ 4 + 3 * n → ⊥) → refuse 5 0 ≡ verdict_for (set_palette body) m
@@ -41,23 +39,19 @@ module _ (body : List ℕ) (m : ℕ) (h : m ≡ 768) (s n : ℕ) (x : s ≡ star
       takes_entries e = accepts (set_palette body) m h right_length in_range (rw (← y) (legal_bytes _ 0 (from body 4) (3 * n) ∙ e))
 
 -- what is known of a body that is taken, by the words that code has read
-module _ (body : List ℕ) (m : ℕ) (z : Updated) (v : told z ≡ verdict_for (set_palette body) m) (e : z ≡ Taken) (s n : ℕ) (x : s ≡ start body) (y : n ≡ count body) where
+module _ (body : List ℕ) (m : ℕ) (v : accept ≡ verdict_for (set_palette body) m) (s n : ℕ) (x : s ≡ start body) (y : n ≡ count body) where
   pub entries_fit : (m ≡ 768) × (length body ≡ 4 + 3 * n) × (s + n ≤ 256)
   entries_fit =
-      let a = taken_on (set_palette body) m z v e in
+      let a = taken_on (set_palette body) m v in
       (a.0, rw y (eqb-true _ _ a.1.exact), rw (x, y) (leb-true _ _ a.1.inside))
 
-  entries_list : stores_of 12 body ≡ bytes (3 * s) (from body 4) (3 * n)
-  unfolding stores_of
-  entries_list = rw (x, y) refl
-
-  pub entries_next : (allowed : ℕ) (p : List ℕ) → length p ≡ m → Next 12 body allowed 0 (bytes (3 * s) (from body 4) (3 * n)) p
+  pub entries_next : (allowed : ℕ) (p : List ℕ) → length p ≡ m → Next (set_palette body).stores allowed 0 (bytes (3 * s) (from body 4) (3 * n)) p
   entries_next allowed p l =
       let a = entries_fit in
       let w : Within (length p) (bytes (3 * s) (from body 4) (3 * n)) = within_bytes (length p) (3 * s) (from body 4) (3 * n) (λ i h. omega (arith, a.0, a.2)) in
       let z : min 0 allowed ≡ 0 = omega arith in
       record {
-        due = rw (z, entries_list) (due_list (allowed - 0) (bytes (3 * s) (from body 4) (3 * n)) p w);
+        due = rw (z, ← x, ← y) (due_list (allowed - 0) (bytes (3 * s) (from body 4) (3 * n)) p w);
         few = omega (arith, bytes_length (3 * s) (from body 4) (3 * n), a.2);
       }
 
@@ -69,7 +63,7 @@ module _ (body : List ℕ) (m : ℕ) (z : Updated) (v : told z ≡ verdict_for (
 
 pub entries_few : (body : List ℕ) (n : ℕ) → verdict_for (set_palette body) n ≡ accept → length (set_palette body).stores ≤ 1536
 entries_few body n v =
-    let a = taken_on (set_palette body) n Taken (sym v) refl in
+    let a = taken_on (set_palette body) n (sym v) in
     omega (arith, bytes_length (3 * start body) (from body 4) (3 * count body), leb-true (start body + count body) 256 a.1.inside)
 
 -- each index is one of the palette's

@@ -5,40 +5,32 @@ use mathlib.Core.Bool.{Bool, true, false, cond}
 use mathlib.Core.List.{List}
 use Prim.Native.Nat.{ℕ, zero, suc, ◌+◌, ◌-◌, ◌*◌, ◌/◌, ◌%◌, ◌≤◌, ◌<◌, zero-le, min}
 use native.Mathlib.Omega.{arith}
-use native.Mathlib.Nat.{mul-le-mul, mul-le-mul_left, mul_comm, mul-zero, mod-lt, div-lt_iff_lt-mul, div-le_of_le-mul}
+use native.Mathlib.Nat.{mul-le-mul_left, mul_comm, mul-zero, mod-lt, div-lt_iff_lt-mul, div-le_of_le-mul}
 use borrow.Author.Tests.{eq-eqb, ne_eqb, leb-true}
 use lib.Arith.{digits_div, digits_mod}
 use lib.Dec.{eqb, ltb}
-use lib.ListN.{length, get_or, take, length-append, length-take}
+use lib.ListN.{length, take, length-append, length-take}
 use Rattle.words.proofs.Tests.{first}
 use Rattle.refusal.specs.Number.{accept, refuse}
-use Rattle.listed.specs.Store.{Store, applied, bytes, Within}
-use Rattle.palette.specs.declared.Updated.{Updated}
-use Rattle.palette.specs.declared.Updated.TheVariants.{Taken}
-use Rattle.palette.specs.Update.{legal, verdict, verdict_for, told}
+use Rattle.listed.specs.Store.{Store, applied, Within}
+use Rattle.palette.specs.Update.{legal, verdict, verdict_for}
 use Rattle.listed.proofs.Lists.{applied_append, bytes_length, within_append, within_bytes}
 use Rattle.palette.proofs.Allowing.{take_both, due_part, due_rest}
 use Rattle.palette.proofs.Judging.{legal_both, legal_each, byte_legal}
 use Rattle.palette.proofs.Outcome.{refuses_range, accepts, accepted, taken_on}
-use Rattle.palette.specs.Gradient.{Gradient, entries, fits, gradient_fits, level, component, gradient_stores, gradient_at, red_blue, red_green, create_gradient}
-use Rattle.palette.specs.Asked.{stores_of, Next, Step, Entry}
+use Rattle.palette.specs.Gradient.{Gradient, entries, fits, gradient_fits, level, component, gradient_stores, red_blue, red_green, create_gradient}
+use Rattle.palette.specs.Asked.{Next}
 
 -- ---- numbers
 
-pub product_below : (a b : ℕ) → a < 256 → b < 256 → a * b < 65536
-product_below a b ha hb =
-    let x : a ≤ 255 = omega arith in
-    let y : b ≤ 255 = omega arith in
-    omega (arith, mul-le-mul x y)
-
-pub quotient_most : (most i n : ℕ) → i < n → most * i / (n - 1) ≤ most
+quotient_most : (most i n : ℕ) → i < n → most * i / (n - 1) ≤ most
 quotient_most most i n h =
     let l : i ≤ n - 1 = omega arith in
     div-le_of_le-mul (n - 1) (omega (arith, mul-le-mul_left most l, mul_comm most (n - 1)))
 
 -- ---- byte i of the entries
 
-pub columns_some : (rows columns i : ℕ) → i < 3 * (rows * columns) → 0 < columns
+columns_some : (rows columns i : ℕ) → i < 3 * (rows * columns) → 0 < columns
 columns_some rows zero i h = absurd (let z : ⊥ = omega (arith, mul-zero rows) in z)
 columns_some rows (suc n) i h = omega arith
 
@@ -51,49 +43,15 @@ module _ (rows columns i : ℕ) (h : i < 3 * (rows * columns)) where
   column_below : i / 3 % columns < columns
   column_below = mod-lt (i / 3) (columns_some rows columns i h)
 
-module _ (rows columns i : ℕ) (e : Entry rows columns i) where
-  pub row_step : (most : ℕ) → most < 256 → Step most (i / 3 / columns) rows
-  row_step most h = record { bound = h; within = row_below rows columns i e.within; few = e.few_rows }
-
-  pub column_step : (most : ℕ) → most < 256 → Step most (i / 3 % columns) columns
-  column_step most h = record { bound = h; within = column_below rows columns i e.within; few = e.few_columns }
-
--- by its component: red, the second colour, the third
-module _ (rows columns second i r : ℕ) where
-  pub red_is : i % 3 ≡ 0 → r ≡ level 63 (i / 3 / columns) rows → r ≡ component rows columns second i
-  unfolding component
-  red_is k e = rw (eq-eqb _ _ k) e
-
-  module _ (n : i % 3 ≡ 0 → ⊥) where
-    pub second_is : i % 3 ≡ second → r ≡ level 39 (i / 3 % columns) columns → r ≡ component rows columns second i
-    unfolding component
-    second_is k e = rw (ne_eqb _ _ n, eq-eqb _ _ k) e
-
-    pub third_is : (i % 3 ≡ second → ⊥) → r ≡ 0 → r ≡ component rows columns second i
-    unfolding component
-    third_is k e = rw (ne_eqb _ _ n, ne_eqb _ _ k) e
-
 -- ---- entries are among the 256
 
 fits_is : (base n : ℕ) → fits base n ≡ true → (n ≡ 0 → ⊥) → base + n ≤ 256
 unfolding fits
 fits_is base n e z = leb-true _ _ (rw (ne_eqb _ _ z) at e)
 
--- the gradient that three bytes of a body give
-module _ (body : List ℕ) (at second base rows columns : ℕ) (x : base ≡ get_or body at 0) (y : rows ≡ get_or body (at + 1) 0) (z : columns ≡ get_or body (at + 2) 0) where
-  pub fits_at : fits base (rows * columns) ≡ gradient_fits (gradient_at body at second)
-  fits_at = rw (x, y, z)
-
-  pub stored_at : (k : ℕ) (p q : List ℕ) → q ≡ applied (take k (bytes (3 * base) (component rows columns second) (3 * (rows * columns)))) p
-      → q ≡ applied (take k (gradient_stores (gradient_at body at second))) p
-  stored_at k p q e = rw (← x, ← y, ← z) e
-
-  pub next_at : (allowed before : ℕ) (p : List ℕ) → Next 11 body allowed before (gradient_stores (gradient_at body at second)) p
-      → Next 11 body allowed before (bytes (3 * base) (component rows columns second) (3 * (rows * columns))) p
-  next_at allowed before p d = rw (x, y, z) d
-
-  pub count_at : (before : ℕ) → before + 3 * (rows * columns) ≡ before + length (gradient_stores (gradient_at body at second))
-  count_at before = rw (← x, ← y, ← z) (ap (λ (n : ℕ). before + n) (sym (bytes_length (3 * base) (component rows columns second) (3 * (rows * columns)))))
+-- behind a gradient's stores
+pub count_at : (g : Gradient) (before : ℕ) → before + 3 * entries g ≡ before + length (gradient_stores g)
+count_at g before = omega (arith, bytes_length (3 * g.base) (component g.rows g.columns g.second) (3 * entries g))
 
 -- component k of the entry in row i and column j
 pub entry_is : (rows columns second i j k : ℕ) → j < columns → k < 3
@@ -157,10 +115,10 @@ module _ (body : List ℕ) (n : ℕ) (h : n ≡ 768) (e : length body ≡ 6) whe
     takes_both b = accepts (create_gradient body) n h (eq-eqb _ _ e) (rw a b) (both_legal body)
 
 -- what is known of a body that is taken
-pub both_fit : (body : List ℕ) (n : ℕ) (x : Updated) → told x ≡ verdict_for (create_gradient body) n → x ≡ Taken
+pub both_fit : (body : List ℕ) (n : ℕ) → accept ≡ verdict_for (create_gradient body) n
     → (n ≡ 768) × (gradient_fits (red_blue body) ≡ true) × (gradient_fits (red_green body) ≡ true)
-both_fit body n x v e =
-    let a = taken_on (create_gradient body) n x v e in
+both_fit body n v =
+    let a = taken_on (create_gradient body) n v in
     let i = first _ _ _ _ false_true a.1.inside in
     (a.0, i.0, i.1)
 
@@ -181,8 +139,7 @@ module _ (body : List ℕ) (n before : ℕ) (c : before ≡ 0 + length (gradient
 
 -- red and blue come first, then red and green
 module _ (body p : List ℕ) (l : length p ≡ 768) (a : gradient_fits (red_blue body) ≡ true) (b : gradient_fits (red_green body) ≡ true) (n : ℕ) where
-  pub red_blue_next : Next 11 body n 0 (gradient_stores (red_blue body)) p
-  unfolding stores_of
+  pub red_blue_next : Next (create_gradient body).stores n 0 (gradient_stores (red_blue body)) p
   red_blue_next =
       let z : min 0 n ≡ 0 = omega arith in
       record {
@@ -191,8 +148,7 @@ module _ (body p : List ℕ) (l : length p ≡ 768) (a : gradient_fits (red_blue
       }
 
   pub red_green_next : (q : List ℕ) → q ≡ applied (take (n - 0) (gradient_stores (red_blue body))) p → (before : ℕ) → before ≡ 0 + length (gradient_stores (red_blue body))
-      → Next 11 body n before (gradient_stores (red_green body)) q
-  unfolding stores_of
+      → Next (create_gradient body).stores n before (gradient_stores (red_green body)) q
   red_green_next q e before c =
       let g = gradient_stores (red_blue body) in
       let w = within_append 768 g (gradient_stores (red_green body)) (gradient_within (red_blue body) a) (gradient_within (red_green body) b) in
@@ -206,7 +162,7 @@ module _ (body p : List ℕ) (l : length p ≡ 768) (a : gradient_fits (red_blue
 -- there are at most two whole palettes
 pub gradients_few : (body : List ℕ) (n : ℕ) → verdict_for (create_gradient body) n ≡ accept → length (create_gradient body).stores ≤ 1536
 gradients_few body n v =
-    let a = both_fit body n Taken (sym v) refl in
+    let a = both_fit body n (sym v) in
     omega (arith, length-append (gradient_stores (red_blue body)) (gradient_stores (red_green body)), gradient_few (red_blue body) a.1, gradient_few (red_green body) a.2)
 
 -- each index is one of the palette's

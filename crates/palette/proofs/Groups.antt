@@ -5,14 +5,17 @@ use mathlib.Core.List.{List}
 use Prim.Native.Nat.{ℕ, zero, suc, ◌+◌, ◌-◌, ◌*◌, ◌≤◌, ◌<◌, zero-le, min}
 use native.Mathlib.Omega.{arith}
 use native.Mathlib.Numerals.{add-one}
+use borrow.Author.Tests.{eqb-true}
 use lib.ListN.{length, get_or, take}
 use Rattle.listed.specs.Store.{Store, applied, each, bytes, from, Within}
-use Rattle.palette.specs.Update.{legal}
+use Rattle.refusal.specs.Number.{accept}
+use Rattle.palette.specs.Update.{legal, verdict_for}
 use Rattle.listed.proofs.Lists.{each_few, bytes_add, bytes_length, from_add, within_each, within_bytes}
 use Rattle.palette.proofs.Allowing.{due_list, Allowing, allowing_end}
+use Rattle.palette.proofs.Outcome.{taken_on}
 use Rattle.palette.proofs.Judging.{legal_append, legal_bytes}
 use Rattle.palette.specs.Mask.{bit, ones, group_end, group_at, masked, group_stores, set_palette_compressed}
-use Rattle.palette.specs.Asked.{stores_of, Next, Group}
+use Rattle.palette.specs.Asked.{Next, Group}
 use Rattle.palette.proofs.Order.{next_turn, count_more}
 use Rattle.palette.proofs.Masks.{bit_most, ones_most, rising}
 
@@ -21,6 +24,10 @@ use Rattle.palette.proofs.Masks.{bit_most, ones_most, rising}
 group_more : (body : List ℕ) (k : ℕ) → group_at body (k + 1) ≡ group_end body (group_at body k)
 unfolding group_at
 group_more body k = rw (add-one k)
+
+-- what is known of a body that is taken: all bytes are used up
+pub used_up : (body : List ℕ) (n : ℕ) → accept ≡ verdict_for (set_palette_compressed body) n → (group_at body 32 ≡ length body) × (n ≡ 768)
+used_up body n v = let q = taken_on (set_palette_compressed body) n v in (eqb-true _ _ q.1.exact, q.0)
 
 -- groups are short
 group_few : (body : List ℕ) (k : ℕ) → group_at body k ≤ 25 * k
@@ -122,8 +129,7 @@ groups_few body =
     (λ i. omega (arith, bytes_length (3 * (8 * k + i)) (from body (group_at body k + 1 + 3 * ones (get_or body (group_at body k) 0) i)) (3 * bit (get_or body (group_at body k) 0) i), bit_most (get_or body (group_at body k) 0) i)) in
     omega (arith, each_few (group_stores body) 24 32 group)
 
-pub groups_next : (body : List ℕ) (allowed : ℕ) (p : List ℕ) → length p ≡ 768 → Next 13 body allowed 0 (each (group_stores body) 32) p
-unfolding stores_of
+pub groups_next : (body : List ℕ) (allowed : ℕ) (p : List ℕ) → length p ≡ 768 → Next (each (group_stores body) 32) allowed 0 (each (group_stores body) 32) p
 groups_next body allowed p l =
     let z : min 0 allowed ≡ 0 = omega arith in
     record { due = rw z (due_list (allowed - 0) _ p (rw l (masks_within body))); few = omega (arith, groups_few body) }
@@ -131,8 +137,8 @@ groups_next body allowed p l =
 -- group k, with the count that code keeps
 module _ (body : List ℕ) (allowed before k at mask : ℕ) (w : Walked body k at) (n : before ≡ 0 + length (each (group_stores body) k)) (m : mask ≡ get_or body at 0) where
   pub group_next : (p₀ : List ℕ) → length p₀ ≡ 768 → (p : List ℕ) → Allowing (group_stores body) p₀ (allowed - 0) 32 p k → k < 32
-      → Next 13 body allowed before (each (masked body mask (at + 1) (8 * k)) 8) p
-  group_next p₀ l p g h = rw (group_is body k at mask w m) (next_turn 13 body allowed 0 (group_stores body) 32 p₀ (groups_next body allowed p₀ l) p k g h before n)
+      → Next (each (group_stores body) 32) allowed before (each (masked body mask (at + 1) (8 * k)) 8) p
+  group_next p₀ l p g h = rw (group_is body k at mask w m) (next_turn (each (group_stores body) 32) allowed 0 (group_stores body) 32 p₀ (groups_next body allowed p₀ l) p k g h before n)
 
   pub group_left : (p q : List ℕ) → q ≡ applied (take (allowed - before) (each (masked body mask (at + 1) (8 * k)) 8)) p
       → q ≡ applied (take (allowed - 0 - length (each (group_stores body) k)) (group_stores body k)) p

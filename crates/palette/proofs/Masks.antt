@@ -8,7 +8,7 @@ use native.Mathlib.Omega.{arith}
 use native.Mathlib.Numerals.{add-one}
 use native.Mathlib.Nat.{le_refl, div-one, div-div-eq-div-mul, pow-suc, eq-or-lt_of_le, le_of_suc-le-suc}
 use lib.ListN.{length, take}
-use Rattle.listed.specs.Store.{applied, each, bytes, from}
+use Rattle.listed.specs.Store.{Store, applied, each, bytes, from}
 use Rattle.listed.proofs.Lists.{bytes_length}
 use Rattle.palette.specs.Mask.{bit, ones, masked}
 use Rattle.palette.specs.Asked.{Next, Group}
@@ -72,9 +72,9 @@ module _ (body p₀ : List ℕ) (allowed before entry mask at : ℕ) (p : List �
   own : bits % 2 ≡ bit mask i
   own = bit_is mask i bits m.shifted
 
-  pub masking_next : Next 13 body allowed before (each (masked body mask at entry) 8) p₀
-      → Next 13 body allowed then (bytes (3 * (entry + i)) (from body next) (3 * (bits % 2))) p
-  masking_next d = rw (own, m.behind) (next_turn 13 body allowed before (masked body mask at entry) 8 p₀ d p i m.stored h then m.counted)
+  pub masking_next : (list : List Store) → Next list allowed before (each (masked body mask at entry) 8) p₀
+      → Next list allowed then (bytes (3 * (entry + i)) (from body next) (3 * (bits % 2))) p
+  masking_next list d = rw (own, m.behind) (next_turn list allowed before (masked body mask at entry) 8 p₀ d p i m.stored h then m.counted)
 
   pub masking_there : Group body p₀ mask at entry → next + 3 * (bits % 2) ≤ length body
   masking_there g =
@@ -92,10 +92,3 @@ module _ (body p₀ : List ℕ) (allowed before entry mask at : ℕ) (p : List �
         shifted = bits_more mask i bits m.shifted;
         behind = omega (arith, own, m.behind, ones_more mask i);
       }
-
--- behind the last bit
-pub masked_count : (body p₀ : List ℕ) (allowed before entry mask at : ℕ) (p : List ℕ) (then bits next i : ℕ) → Masking body p₀ allowed before entry mask at p then bits next i → 8 ≤ i
-    → then ≡ before + length (each (masked body mask at entry) 8)
-masked_count body p₀ allowed before entry mask at p then bits next i m h =
-    let e : i ≡ 8 = omega (arith, m.stored.within) in
-    m.counted ∙ ap (λ (k : ℕ). before + length (each (masked body mask at entry) k)) e

@@ -3,9 +3,9 @@
 use mathlib.Core.Path.{◌≡◌, refl, sym, ap, ◌∙◌}
 use mathlib.Core.Bool.{true, false}
 use mathlib.Core.List.{List}
-use Prim.Native.Nat.{ℕ, ◌≤◌, ◌<◌}
+use Prim.Native.Nat.{ℕ, ◌≤◌}
 use native.Mathlib.Omega.{arith}
-use borrow.Author.Tests.{eq-eqb, ne_eqb, eqb-true, lt-ltb, le-ltb}
+use borrow.Author.Tests.{eq-eqb, ne_eqb, eqb-true, le-ltb}
 use lib.Dec.{eqb}
 use lib.ListN.{length, take}
 use lib.Seq.{take_all, take-length}
@@ -13,9 +13,7 @@ use Rattle.words.proofs.Tests.{first}
 use Rattle.refusal.specs.declared.Refusal.{Refusal}
 use Rattle.refusal.specs.Number.{Verdict, accept, refuse, refusal, number, block}
 use Rattle.listed.specs.Store.{Store, applied}
-use Rattle.palette.specs.declared.Updated.{Updated}
-use Rattle.palette.specs.declared.Updated.TheVariants.{Taken, Refused}
-use Rattle.palette.specs.Update.{Update, legal, verdict, verdict_for, verdict_on, told, Change, whole, unfinished, refused, change_of, change_by, change_on, on_accept, palette_after}
+use Rattle.palette.specs.Update.{Update, legal, verdict, verdict_for, verdict_on, Change, refused, change_of, change_by, change_on, on_accept, palette_after}
 use Rattle.listed.proofs.Lists.{applied_length}
 
 -- ---- the verdict, a law for each way out
@@ -50,28 +48,19 @@ module _ (u : Update) (n : ℕ) where
 
 -- ---- the palette that is left
 
-module _ (u : Update) (n : ℕ) (p : List ℕ) (x : Updated) (v : told x ≡ verdict_on u p) where
+module _ (u : Update) (n : ℕ) (p : List ℕ) where
   -- what comes of it, with the palette q left
   abbrev pub Out : Change → List ℕ → Type 0
   Out c q = (c ≡ change_on u n p) × (q ≡ palette_after u n p)
 
-  pub keeps : (r : Refusal) → x ≡ Refused r → Out (refused (number r) (block r)) p
+  pub keeps : (r : Refusal) → refusal r ≡ verdict_on u p → Out (refused (number r) (block r)) p
   unfolding palette_after on_accept change_by
-  keeps r e = let w : refusal r ≡ verdict_on u p = sym (ap told e) ∙ v in (rw (← w), rw (← w))
+  keeps r w = (rw (← w), rw (← w))
 
   -- by the count of stores that code found
-  pub stores_some : x ≡ Taken → (q : List ℕ) → q ≡ applied (take n u.stores) p → (due : ℕ) → due ≡ length u.stores → (c : Change) → c ≡ change_of n due → Out c q
+  pub stores_some : accept ≡ verdict_on u p → (q : List ℕ) → q ≡ applied (take n u.stores) p → (due : ℕ) → due ≡ length u.stores → (c : Change) → c ≡ change_of n due → Out c q
   unfolding palette_after on_accept change_by
-  stores_some e q s due d c f = let w : accept ≡ verdict_on u p = sym (ap told e) ∙ v in (rw (← w) (f ∙ ap (change_of n) d), rw (← w) s)
-
--- what becomes of a body that is taken
-pub change_short : (allowed due : ℕ) → allowed < due → unfinished allowed ≡ change_of allowed due
-unfolding change_of
-change_short allowed due h = rw (lt-ltb _ _ h)
-
-pub change_whole : (allowed due : ℕ) → due ≤ allowed → whole due ≡ change_of allowed due
-unfolding change_of
-change_whole allowed due h = rw (le-ltb _ _ h)
+  stores_some w q s due d c f = (rw (← w) (f ∙ ap (change_of n) d), rw (← w) s)
 
 -- where as many are allowed as are due, it is the same whatever the number
 module _ (u : Update) (n : ℕ) (p : List ℕ) (few : verdict_on u p ≡ accept → length u.stores ≤ n) where
@@ -119,8 +108,8 @@ accepted u e =
     record { exact = a.0; inside = b.0; components = c.0 }
 
 -- on a palette this long, by what code found
-pub taken_on : (u : Update) (n : ℕ) (x : Updated) → told x ≡ verdict_for u n → x ≡ Taken → (n ≡ 768) × Accepted u
+pub taken_on : (u : Update) (n : ℕ) → accept ≡ verdict_for u n → (n ≡ 768) × Accepted u
 unfolding verdict_for
-taken_on u n x v e =
-    let a = first (eqb n 768) (refuse 8 0) (verdict u) accept (refuses 8) (sym v ∙ ap told e) in
+taken_on u n v =
+    let a = first (eqb n 768) (refuse 8 0) (verdict u) accept (refuses 8) (sym v) in
     (eqb-true n 768 a.0, accepted u a.1)

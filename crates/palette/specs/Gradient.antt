@@ -4,13 +4,8 @@
 use Rattle.std.specs.Prelude.{Bool, true, false, cond, List, ◌++◌, ℕ, ◌+◌, ◌-◌, ◌*◌, ◌/◌, ◌%◌, eqb, ltb, leb, length, get_or}
 use Rattle.listed.specs.Store.{Store, bytes}
 use Rattle.palette.specs.Update.{Update}
-
 -- second: which component is the second colour, 1 green, 2 blue; red is 0
-pub record Gradient : Type 0 where
-  pub base : ℕ
-  pub rows : ℕ
-  pub columns : ℕ
-  pub second : ℕ
+pub use Rattle.palette.specs.declared.Gradient.{Gradient}
 
 abbrev pub gradient : ℕ → ℕ → ℕ → ℕ → Gradient
 gradient base rows columns second = record { base = base; rows = rows; columns = columns; second = second }

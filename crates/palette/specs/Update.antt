@@ -3,13 +3,12 @@
 -- The palette is 768 bytes, 3 an entry: red, green and blue of entry e stand at 3·e, 3·e + 1 and 3·e + 2, so bytes side by side go entry by entry,
 -- red, green, blue.
 -- Assumes nothing.
-use Rattle.std.specs.Prelude.{Bool, true, false, cond, List, [], ◌∷◌, ℕ, eqb, ltb, length, take}
+use Rattle.std.specs.Prelude.{Bool, true, false, cond, List, [], ◌∷◌, ℕ, eqb, ltb, length, take, Result, Ok, Err}
+use Rattle.refusal.specs.declared.Refusal.{Refusal}
 use Rattle.refusal.specs.Number.{Verdict, accept, refuse, refusal, number, block}
 use Rattle.listed.specs.Store.{Store, applied}
-use Rattle.palette.specs.declared.Updated.{Updated}
-use Rattle.palette.specs.declared.Updated.TheVariants.{Taken, Refused}
 use Rattle.palette.specs.declared.Changed.{Changed}
-use Rattle.palette.specs.declared.Changed.TheVariants as changed
+use Rattle.palette.specs.declared.Changed.TheVariants.{Whole, Unfinished}
 
 -- what a body asks for. exact: its length is right. inside: the entries that it names are among the 256. stores: the bytes that it sets, in order
 pub record Update : Type 0 where
@@ -34,9 +33,9 @@ abbrev pub verdict_on : Update → List ℕ → Verdict
 verdict_on u palette = verdict_for u (length palette)
 
 -- document 01's number and block of each verdict
-abbrev pub told : Updated → Verdict
-told Taken = accept
-told (Refused r) = refusal r
+abbrev pub told : Result Unit Refusal → Verdict
+told (Ok u) = accept
+told (Err r) = refusal r
 
 -- ---- stores
 
@@ -66,7 +65,7 @@ unfoldable pub palette_after : Update → ℕ → List ℕ → List ℕ
 palette_after u allowed palette = on_accept (verdict_on u palette) (applied (take allowed u.stores) palette) palette
 
 -- document 01's values of each answer
-abbrev pub changed_as : Changed → Change
-changed_as (changed.Whole n) = whole n
-changed_as (changed.Unfinished n) = unfinished n
-changed_as (changed.Refused r) = refused (number r) (block r)
+abbrev pub changed_as : Result Changed Refusal → Change
+changed_as (Ok (Whole n)) = whole n
+changed_as (Ok (Unfinished n)) = unfinished n
+changed_as (Err r) = refused (number r) (block r)

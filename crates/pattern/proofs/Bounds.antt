@@ -6,11 +6,10 @@ use mathlib.Core.Bool.{Bool, true, false, cond}
 use mathlib.Core.List.{List}
 use Prim.Native.Nat.{ℕ, zero, suc, ◌+◌, ◌-◌, ◌*◌, ◌/◌, ◌%◌, ◌^◌, ◌≤◌, ◌<◌}
 use native.Mathlib.Omega.{arith}
-use lib.Dec.{leb, ltb}
-use lib.ListN.{get_or}
 use Rattle.pattern.specs.declared.Form.{Form}
 use Rattle.pattern.specs.declared.Form.TheVariants.{Two1x1, Two2x2, TwoQuarters, TwoLeftRight, TwoTopBottom, Four1x1, Four2x2, Four2x1, Four1x2, FourQuarters, FourLeftRight, FourTopBottom}
-use Rattle.pattern.specs.Form.{bytes, Shape, shape, falling, form7, form8, form9, form_a}
+use Rattle.pattern.specs.declared.Shape.{Shape}
+use Rattle.pattern.specs.Form.{bytes, shape, falling, form7, form8, form9, form_a}
 use Rattle.pattern.specs.Pattern.{Shaped, FieldInside, colours, cells, part_length, pattern_length, part_start, field_number, field_at, pattern_source}
 
 -- of a form's numbers: no divisor is 0, and nothing is large
@@ -177,26 +176,6 @@ field_lies i z h l e g =
 pub source_met : {q : Shape} {part n f : ℕ} (s : List ℕ) (i : ℕ) → Shaped q → part ≡ part_start q i → n ≡ field_number q i → f ≡ field_at s (part + q.colour * (2 * q.bits)) q.bits n → part + q.colour * f ≡ pattern_source q s i
 unfolding pattern_source
 source_met s i z e g h = rw (h, e, g, colours_twice z)
-
--- a test b is of the pair at byte p
-pub by_pair : {b : Bool} (deep : Bool) (s : List ℕ) (p : ℕ) → b ≡ falling deep s p → b ≡ falling deep s p
-by_pair deep s p e = e
-
--- the same where the byte was worked out from the bytes of a pixel
-pub by_second : {b : Bool} {n : ℕ} (deep : Bool) (s : List ℕ) (a k : ℕ) → n ≡ bytes deep → b ≡ falling deep s (a * n + k) → b ≡ falling deep s (a * bytes deep + k)
-by_second deep s a k e h = rw (← e) h
-
-pub by_second₀ : {b : Bool} {n : ℕ} (deep : Bool) (s : List ℕ) (a : ℕ) → n ≡ bytes deep → b ≡ falling deep s (a * n) → b ≡ falling deep s (a * bytes deep)
-by_second₀ deep s a e h = rw (← e) h
-
--- a test of the pair at byte p, by the width that was found
-pub met_deep : {b : ℕ} {deep : Bool} (s : List ℕ) (p : ℕ) → deep ≡ true → b ≡ get_or s (p + 1) 0 → leb 128 b ≡ falling deep s p
-unfolding falling
-met_deep s p d e = rw (d, e)
-
-pub met_flat : {a b : ℕ} {deep : Bool} (s : List ℕ) (p : ℕ) → deep ≡ false → a ≡ get_or s (p + 1) 0 → b ≡ get_or s p 0 → ltb a b ≡ falling deep s p
-unfolding falling
-met_flat s p d e g = rw (d, e, g)
 
 -- a field is the number of a colour
 pub field_below : {r : ℕ} (s : List ℕ) (p b n : ℕ) → r ≡ field_at s p b n → (b ≡ 1) ⊎ (b ≡ 2) → r < 2 * b

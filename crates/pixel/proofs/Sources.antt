@@ -1,16 +1,17 @@
 -- Laws of a pixel's source, by the kind of its block, as code finds it.
 -- Assumes nothing.
-use mathlib.Core.Path.{◌≡◌, refl, sym, ap, ◌∙◌, subst}
+use mathlib.Core.Path.{◌≡◌, refl, sym, ◌∙◌, subst}
 use mathlib.Core.Bool.{Bool, true, false}
 use mathlib.Core.List.{List}
 use Prim.Native.Nat.{ℕ, ◌+◌, ◌*◌, ◌/◌, ◌≤◌, ◌<◌}
 use native.Mathlib.Omega.{arith}
+use native.Mathlib.Decide.{ℕ_discrete}
 use native.Mathlib.Nat.{mul-le-mul_right, add-mul}
-use lib.ListN.{length, get_or}
+use lib.ListN.{length}
 use Rattle.pattern.specs.declared.Form.{Form}
-use Rattle.pattern.specs.Form.{bytes, Shape, shape}
-use Rattle.pattern.specs.Pattern.{Shaped, pattern_length, pattern_source}
-use Rattle.pattern.proofs.Bounds.{numbers_shaped, form_inside}
+use Rattle.pattern.specs.Form.{shape}
+use Rattle.pattern.specs.Pattern.{pattern_length, pattern_source}
+use Rattle.pattern.proofs.Bounds.{form_inside}
 use Rattle.motion.specs.declared.Vector.{Vector}
 use Rattle.motion.specs.Motion.{points_inside, raster_index, copied_index, Short, Inside}
 use Rattle.motion.proofs.Vectors.{inside_each}
@@ -18,20 +19,9 @@ use Rattle.block.specs.declared.Picture.{Picture}
 use Rattle.block.specs.declared.Picture.TheVariants.{Last, New, Oldest}
 use Rattle.block.specs.declared.Source.{Source}
 use Rattle.block.specs.declared.Source.TheVariants.{Data, Copied}
-use Rattle.block.specs.Block.{Side, pixels, Kind, same, kept, copied, patterned, celled, dithered, refused, kinds, kind_of, colour_bytes, data_length, is_refused, copy_inside, cell_source, dither_source, source, pictured, fetched}
+use Rattle.block.specs.Block.{Side, pixels, Kind, same, kept, copied, patterned, celled, dithered, refused, kinds, kind_of, colour_bytes, data_length, is_refused, copy_inside, cell_source, dither_source, source, pictured}
 use Rattle.block.specs.Asked.{Sided, last_copied, vector_at, Readable, Among}
-use Rattle.block.proofs.Codes.{code_known, copy_judged, cell, kind_6_deep, cell_inside, dither_below, colour_within}
-
--- ---- a patterned block, its form's numbers written out
-
--- q: the form's numbers, by the bytes of a colour. c: these bytes, as code found them
-module _ (deep : Bool) (f g : Form) (q : ℕ → Shape) (c i : ℕ) (b : c ≡ bytes deep) (e : f ≡ g) (n : shape deep g ≡ q (bytes deep)) where
-  -- `long`: how long the data is
-  pub numbers_asked : (long : ℕ) → (pattern_length (shape deep f) ≤ long) × (i < 64) → Shaped (q c) × (pattern_length (q c) ≤ long) × (i < 64)
-  numbers_asked long h = let s = numbers_shaped deep f g (q c) long e (n ∙ ap q (sym b)) h.0 in (s.0, s.1, h.1)
-
-  pub numbers_source : (s : List ℕ) (r : ℕ) → r ≡ pattern_source (q c) s i → r ≡ pattern_source (shape deep f) s i
-  numbers_source s r h = h ∙ ap (λ (x : Shape). pattern_source x s i) (sym (ap (shape deep) e ∙ n ∙ ap q (sym b)))
+use Rattle.block.proofs.Codes.{code_known, copy_judged, cell, kind_4, kind_5, kind_6_deep, cell_inside, dither_below, colour_within}
 
 -- ---- what each source asks
 
@@ -45,13 +35,6 @@ module _ (deep : Bool) (code : ℕ) (s o : List ℕ) (w h x y i : ℕ) where
   pub form_asked : (f : Form) → Readable deep code s o w h x y i → kind_of deep code s o ≡ patterned f → (pattern_length (shape deep f) ≤ length s) × (i < 64)
   unfolding data_length
   form_asked f r k = (subst (λ (κ : Kind). data_length deep κ ≤ length s) k r.there, omega (arith, r.at.pixel))
-
-  -- the same of a block whose code is known
-  pub as_code : (n : ℕ) → code ≡ n → Readable deep code s o w h x y i → Readable deep n s o w h x y i
-  as_code n e r = subst (λ (c : ℕ). Readable deep c s o w h x y i) e r
-
-pub as_source : (deep : Bool) (s o : List ℕ) (w x y i code n : ℕ) {u : Source} → code ≡ n → u ≡ source deep (kind_of deep n s o) s w x y i → u ≡ source deep (kind_of deep code s o) s w x y i
-as_source deep s o w x y i code n e h = rw e h
 
 -- a block has few cells
 pub cell_few : (side i j : ℕ) → Sided side → i < 64 → j ≡ cell_source side i → j < 64
@@ -74,10 +57,6 @@ module _ (deep : Bool) (κ : Kind) (s : List ℕ) (w x y i : ℕ) where
   unfolding source
   copied_source p j n m u v k e q = rw (k, ← e, q)
 
-  pub refused_source : κ ≡ refused → Data 0 ≡ source deep κ s w x y i
-  unfolding source
-  refused_source k = rw k
-
   pub form_source_is : (j : ℕ) (f : Form) → κ ≡ patterned f → j ≡ pattern_source (shape deep f) s i → Data j ≡ source deep κ s w x y i
   unfolding source
   form_source_is j f k q = rw (k, q)
@@ -85,6 +64,15 @@ module _ (deep : Bool) (κ : Kind) (s : List ℕ) (w x y i : ℕ) where
   pub cell_source_is : (j n : ℕ) (c : Side) → κ ≡ celled c → n ≡ cell_source (pixels c) i → j ≡ colour_bytes deep n → Data j ≡ source deep κ s w x y i
   unfolding source
   cell_source_is j n c k q e = rw (k, e, q)
+
+-- codes 4 and 5 copy the last picture
+pub last_source : (deep : Bool) (s o : List ℕ) (w x y i code j : ℕ) (v : Vector) → 3 < code → code < 6 → v ≡ vector_at deep code s o → j ≡ copied_index v w x y i
+    → Copied Last j ≡ source deep (kind_of deep code s o) s w x y i
+last_source deep s o w x y i code j v g l e q =
+    elim (ℕ_discrete code 4) [
+      | yes a ↦ copied_source deep _ s w x y i Last j _ _ _ v (kind_4 deep s o code a) e q
+      | no n ↦ copied_source deep _ s w x y i Last j _ _ _ v (kind_5 deep s o code (omega arith)) e q
+    ]
 
 -- code 1 is the block of the oldest picture, touched or not
 pub oldest_source : (deep : Bool) (s o : List ℕ) (w x y i code j : ℕ) → code ≡ 1 → j ≡ raster_index w x y i → Copied Oldest j ≡ source deep (kind_of deep code s o) s w x y i
@@ -154,28 +142,3 @@ module _ (deep : Bool) (s : List ℕ) (w h x y i last new oldest : ℕ) (across 
   pub source_among : (o : List ℕ) (code : ℕ) (u : Source) → Readable deep code s o w h x y i → (deep ≡ false → code ≡ 6 → ⊥) → u ≡ source deep (kind_of deep code s o) s w x y i
       → Among deep u (length s) last new oldest
   source_among o code u r n e = rw e (kind_among (kind_of deep code s o) (code_known s o deep code r.known n) r.there r.inside)
-
--- ---- what stands at a source of an 8-bit film
-
-module _ (u : Source) (j : ℕ) (s last new : List ℕ) where
-  pub data_among : u ≡ Data j → Among false u (length s) (length last) (length new) (length new) → j < length s
-  data_among e h =
-      let g : j + 1 ≤ length s = subst (λ (v : Source). Among false v (length s) (length last) (length new) (length new)) e h in omega arith
-
-  pub copied_among : (p : Picture) → u ≡ Copied p j → Among false u (length s) (length last) (length new) (length new) → j < pictured p (length last) (length new) (length new)
-  copied_among p e h = subst (λ (v : Source). Among false v (length s) (length last) (length new) (length new)) e h
-
-  pub data_fetched : u ≡ Data j → get_or s j 0 ≡ fetched false u s last new new
-  unfolding fetched
-  data_fetched e = rw e
-
-  pub copied_fetched : (p : Picture) (r : ℕ) → u ≡ Copied p j → r ≡ get_or (pictured p last new new) j 0 → r ≡ fetched false u s last new new
-  unfolding fetched
-  copied_fetched p r e h = rw e h
-
--- one of the pictures, by its name
-pub in_picture : (a b c j : ℕ) {p q : Picture} → p ≡ q → j < pictured p a b c → j < pictured q a b c
-in_picture a b c j e h = subst (λ (z : Picture). j < pictured z a b c) e h
-
-pub of_picture : (a b c : List ℕ) (j r : ℕ) {p q : Picture} → p ≡ q → r ≡ get_or (pictured q a b c) j 0 → r ≡ get_or (pictured p a b c) j 0
-of_picture a b c j r e h = h ∙ ap (λ (z : Picture). get_or (pictured z a b c) j 0) (sym e)

@@ -1,36 +1,35 @@
-// The source of each pixel of a block, in films of either kind, and its value.
+// The source of each pixel of a block, in films of either kind.
 #![tactic(auto)]
 
-ghost use Rattle.std.specs.Prelude.{◌≡◌, List, false, ℕ, ◌≤◌, ◌<◌, length, get_or};
+ghost use Rattle.std.specs.Prelude.{◌≡◌, List, ℕ, ◌≤◌, ◌<◌, length};
 ghost use Rattle.pattern.specs.Form.{shape};
 ghost use Rattle.pattern.specs.Pattern.{pattern_length, pattern_source};
 ghost use Rattle.motion.specs.Motion.{Inside};
-ghost use Rattle.block.specs.Block.{kind_of, colour_bytes, source, pictured, fetched};
-ghost use Rattle.block.specs.Asked.{Readable, Among};
+ghost use Rattle.block.specs.Block.{kind_of, colour_bytes, source};
+ghost use Rattle.block.specs.Asked.{Readable};
 
 use block::{Picture, Source, cell_source, copied_vector, dither_source};
 use motion::{copied_index, raster_index};
-use pattern::{Form, bytes_of, form_of_7, form_of_8, form_of_9, form_of_a, pattern_source};
+use pattern::{Form, form_of_7, form_of_8, form_of_9, form_of_a, shape_of};
 
-// The first byte of a patterned block's data s that gives pixel i.
+// The first byte of a patterned block's data s that gives pixel i. An arm a form, so that its numbers are literals.
 fn form_source(deep: bool, form: Form, s: &[u8], i: usize) -> usize
     requires { (pattern_length (shape deep form) ≤ length s.now) × (i < 64) }
     ensures { result ≡ pattern_source (shape deep form) s.now i }
 {
-    let colour = bytes_of(deep);
     match form {
-        Form::Two1x1 => pattern_source(colour, 1, 8, 8, 1, 1, s, i),
-        Form::Two2x2 => pattern_source(colour, 1, 8, 8, 2, 2, s, i),
-        Form::TwoQuarters => pattern_source(colour, 1, 4, 4, 1, 1, s, i),
-        Form::TwoLeftRight => pattern_source(colour, 1, 4, 8, 1, 1, s, i),
-        Form::TwoTopBottom => pattern_source(colour, 1, 8, 4, 1, 1, s, i),
-        Form::Four1x1 => pattern_source(colour, 2, 8, 8, 1, 1, s, i),
-        Form::Four2x2 => pattern_source(colour, 2, 8, 8, 2, 2, s, i),
-        Form::Four2x1 => pattern_source(colour, 2, 8, 8, 2, 1, s, i),
-        Form::Four1x2 => pattern_source(colour, 2, 8, 8, 1, 2, s, i),
-        Form::FourQuarters => pattern_source(colour, 2, 4, 4, 1, 1, s, i),
-        Form::FourLeftRight => pattern_source(colour, 2, 4, 8, 1, 1, s, i),
-        Form::FourTopBottom => pattern_source(colour, 2, 8, 4, 1, 1, s, i),
+        Form::Two1x1 => shape_of(deep, Form::Two1x1).source(s, i),
+        Form::Two2x2 => shape_of(deep, Form::Two2x2).source(s, i),
+        Form::TwoQuarters => shape_of(deep, Form::TwoQuarters).source(s, i),
+        Form::TwoLeftRight => shape_of(deep, Form::TwoLeftRight).source(s, i),
+        Form::TwoTopBottom => shape_of(deep, Form::TwoTopBottom).source(s, i),
+        Form::Four1x1 => shape_of(deep, Form::Four1x1).source(s, i),
+        Form::Four2x2 => shape_of(deep, Form::Four2x2).source(s, i),
+        Form::Four2x1 => shape_of(deep, Form::Four2x1).source(s, i),
+        Form::Four1x2 => shape_of(deep, Form::Four1x2).source(s, i),
+        Form::FourQuarters => shape_of(deep, Form::FourQuarters).source(s, i),
+        Form::FourLeftRight => shape_of(deep, Form::FourLeftRight).source(s, i),
+        Form::FourTopBottom => shape_of(deep, Form::FourTopBottom).source(s, i),
     }
 }
 
@@ -39,13 +38,11 @@ fn colour_start(deep: bool, n: usize) -> usize
     requires { n < 64 }
     ensures { result ≡ colour_bytes deep n }
 {
-    if deep {
-        return 2 * n;
-    }
-    n
+    if deep { 2 * n } else { n }
 }
 
 // Code 6: a copy of the oldest picture; an 8-bit film has none.
+#[tactic(auto, using(crate::proofs::Sources::six_deep, crate::proofs::Sources::six_flat))]
 fn source_of_6(
     deep: bool,
     s: &[u8],
@@ -61,20 +58,23 @@ fn source_of_6(
 {
     if deep {
         let v = copied_vector(deep, 6, s, o);
-        return Source::Copied(Picture::Oldest, copied_index(v, w, h, x, y, i));
+        Source::Copied(Picture::Oldest, copied_index(v, w, h, x, y, i))
+    } else {
+        Source::Data(0)
     }
-    Source::Data(0)
 }
 
 // Code F: the same block of the oldest picture, or two colours in turn in an 8-bit film.
+#[tactic(auto, using(crate::proofs::Sources::last_deep, crate::proofs::Sources::last_flat))]
 fn source_of_f(deep: bool, w: usize, x: usize, y: usize, i: usize) -> Source
     requires { Inside w x y i }
     ensures { (s o : List ℕ) → result ≡ source deep (kind_of deep 15 s o) s w x y i }
 {
     if deep {
-        return Source::Copied(Picture::Oldest, raster_index(w, x, y, i));
+        Source::Copied(Picture::Oldest, raster_index(w, x, y, i))
+    } else {
+        Source::Data(dither_source(i))
     }
-    Source::Data(dither_source(i))
 }
 
 // Where pixel i of the block at x, y of a picture w by h is read.
@@ -103,11 +103,7 @@ pub fn source_of(
             let v = copied_vector(deep, code, s, o);
             Source::Copied(Picture::New, copied_index(v, w, h, x, y, i))
         }
-        4 => {
-            let v = copied_vector(deep, code, s, o);
-            Source::Copied(Picture::Last, copied_index(v, w, h, x, y, i))
-        }
-        5 => {
+        4 | 5 => {
             let v = copied_vector(deep, code, s, o);
             Source::Copied(Picture::Last, copied_index(v, w, h, x, y, i))
         }
@@ -121,28 +117,5 @@ pub fn source_of(
         13 => Source::Data(colour_start(deep, cell_source(4, i))),
         14 => Source::Data(colour_start(deep, cell_source(8, i))),
         _ => source_of_f(deep, w, x, y, i),
-    }
-}
-
-// Pixel j of a picture of an 8-bit film: the oldest is the one that is drawn on.
-fn byte_of(picture: Picture, last: &[u8], new: &[u8], j: usize) -> u8
-    requires { j < pictured picture (length last.now) (length new.now) (length new.now) }
-    ensures { result ≡ get_or (pictured picture last.now new.now new.now) j 0 }
-{
-    match picture {
-        Picture::Last => last[j],
-        Picture::New => new[j],
-        Picture::Oldest => new[j],
-    }
-}
-
-// What stands at a source in an 8-bit film.
-pub fn fetch(from: Source, s: &[u8], front: &[u8], back: &[u8]) -> u8
-    requires { Among false from (length s.now) (length front.now) (length back.now) (length back.now) }
-    ensures { result ≡ fetched false from s.now front.now back.now back.now }
-{
-    match from {
-        Source::Data(j) => s[j],
-        Source::Copied(picture, j) => byte_of(picture, front, back, j),
     }
 }

@@ -4,7 +4,7 @@
 ghost use Rattle.std.specs.Prelude.{◌≡◌};
 ghost use Rattle.refusal.specs.Number.{number, block};
 
-#[derive(Clone, Copy)]
+#[derive(Clone, Copy, PartialEq, Eq, Debug)]
 pub enum Refusal {
     // The header is wrong or short.
     Header,
@@ -60,68 +60,47 @@ pub enum Refusal {
     EndMark,
 }
 
-pub fn number_of(r: Refusal) -> u8
-    ensures { result ≡ number r }
-{
-    match r {
-        Refusal::Header => 1,
-        Refusal::FilmEnd => 2,
-        Refusal::ChunkEnd => 3,
-        Refusal::Opcode => 4,
-        Refusal::BodyLength => 5,
-        Refusal::Size => 6,
-        Refusal::Palette => 7,
-        Refusal::Buffer => 8,
-        Refusal::NoMap => 9,
-        Refusal::MapLength => 10,
-        Refusal::Place => 11,
-        Refusal::Code(_) => 12,
-        Refusal::DataShort(_) => 13,
-        Refusal::CopyOutside(_) => 14,
-        Refusal::LeftOver => 15,
-        Refusal::State => 16,
-        Refusal::SoundFormat => 17,
-        Refusal::SoundLength => 18,
-        Refusal::Room => 19,
-        Refusal::Parts => 20,
-        Refusal::NoSize => 21,
-        Refusal::Position => 22,
-        Refusal::PacketLength => 23,
-        Refusal::FrameShort => 24,
-        Refusal::SkipOutside => 25,
-        Refusal::EndMark => 26,
+impl Refusal {
+    pub fn number(self) -> u8
+        ensures { result ≡ number self }
+    {
+        match self {
+            Refusal::Header => 1,
+            Refusal::FilmEnd => 2,
+            Refusal::ChunkEnd => 3,
+            Refusal::Opcode => 4,
+            Refusal::BodyLength => 5,
+            Refusal::Size => 6,
+            Refusal::Palette => 7,
+            Refusal::Buffer => 8,
+            Refusal::NoMap => 9,
+            Refusal::MapLength => 10,
+            Refusal::Place => 11,
+            Refusal::Code(_) => 12,
+            Refusal::DataShort(_) => 13,
+            Refusal::CopyOutside(_) => 14,
+            Refusal::LeftOver => 15,
+            Refusal::State => 16,
+            Refusal::SoundFormat => 17,
+            Refusal::SoundLength => 18,
+            Refusal::Room => 19,
+            Refusal::Parts => 20,
+            Refusal::NoSize => 21,
+            Refusal::Position => 22,
+            Refusal::PacketLength => 23,
+            Refusal::FrameShort => 24,
+            Refusal::SkipOutside => 25,
+            Refusal::EndMark => 26,
+        }
     }
-}
 
-pub fn block_of(r: Refusal) -> usize
-    ensures { result ≡ block r }
-{
-    match r {
-        Refusal::Code(k) => k,
-        Refusal::DataShort(k) => k,
-        Refusal::CopyOutside(k) => k,
-        Refusal::Header => 0,
-        Refusal::FilmEnd => 0,
-        Refusal::ChunkEnd => 0,
-        Refusal::Opcode => 0,
-        Refusal::BodyLength => 0,
-        Refusal::Size => 0,
-        Refusal::Palette => 0,
-        Refusal::Buffer => 0,
-        Refusal::NoMap => 0,
-        Refusal::MapLength => 0,
-        Refusal::Place => 0,
-        Refusal::LeftOver => 0,
-        Refusal::State => 0,
-        Refusal::SoundFormat => 0,
-        Refusal::SoundLength => 0,
-        Refusal::Room => 0,
-        Refusal::Parts => 0,
-        Refusal::NoSize => 0,
-        Refusal::Position => 0,
-        Refusal::PacketLength => 0,
-        Refusal::FrameShort => 0,
-        Refusal::SkipOutside => 0,
-        Refusal::EndMark => 0,
+    // The block that is drawn, where a block is refused; else 0.
+    pub fn block(self) -> usize
+        ensures { result ≡ block self }
+    {
+        match self {
+            Refusal::Code(k) | Refusal::DataShort(k) | Refusal::CopyOutside(k) => k,
+            _ => 0,
+        }
     }
 }

@@ -5,6 +5,7 @@ ghost use Rattle.std.specs.Prelude.{◌≡◌, ◌≤◌, ◌<◌, length, get_o
 ghost use Rattle.room.specs.Room.{written, NextByte};
 
 // The one store of `put_all`: byte i of the bytes, when those before it are written.
+#[tactic(auto, unfolding(listed::specs::Store::Within))]
 fn put_byte(room: &mut [u8], bytes: &[u8], i: usize)
     requires i_in_bounds { i < length bytes.now }
     requires next_byte { NextByte bytes.now i (get_or bytes.now i 0) room.old }
@@ -14,18 +15,19 @@ fn put_byte(room: &mut [u8], bytes: &[u8], i: usize)
 }
 
 // Bytes, as they are.
+#[tactic(auto, using(listed::proofs::Making::making_length))]
 pub fn put_all(room: &mut [u8], bytes: &[u8])
     requires { length bytes.now ≤ length room.old }
     ensures { room.new ≡ written bytes.now room.old }
 {
-    let mut i = 0;
-    while i < bytes.len() {
+    for i in 0..bytes.len() {
         put_byte(room, bytes, i);
-        i += 1;
     }
 }
 
-// The one store of `put_same`: byte i of n equal ones, when those before it are written. n is for the contract alone.
+// The one store of `put_same`: byte i of n equal ones, when those before it are written. n is for the contract alone: it names the list of stores, as the
+// bytes do for `put_byte`, so the two stay apart.
+#[tactic(auto, unfolding(listed::specs::Store::Within))]
 fn put_value(room: &mut [u8], n: usize, value: u8, i: usize)
     requires { NextByte (replicate n value) i value room.old }
     ensures { room.new ≡ set room.old i value }
@@ -34,13 +36,12 @@ fn put_value(room: &mut [u8], n: usize, value: u8, i: usize)
 }
 
 // One byte n times.
+#[tactic(auto, using(listed::proofs::Making::making_length))]
 pub fn put_same(room: &mut [u8], n: usize, value: u8)
     requires { n ≤ length room.old }
     ensures { room.new ≡ written (replicate n value) room.old }
 {
-    let mut i = 0;
-    while i < n {
+    for i in 0..n {
         put_value(room, n, value, i);
-        i += 1;
     }
 }

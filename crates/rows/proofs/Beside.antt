@@ -2,17 +2,14 @@
 -- Assumes nothing.
 use mathlib.Core.Path.{◌≡◌, refl, sym, ap, ◌∙◌}
 use mathlib.Core.List.{List, ◌++◌}
-use Prim.Native.Nat.{ℕ, zero, suc, ◌+◌, ◌≤◌, ◌<◌}
+use Prim.Native.Nat.{ℕ, zero, suc, ◌+◌, ◌<◌}
 use native.Mathlib.Nat.{add-zero}
 use native.Mathlib.Omega.{arith}
 use lib.ListN.{length, get_or, set, get_or-append}
 use lib.Seq.{get_or-append-add}
-use Rattle.block.specs.Block.{byte_kind}
 use Rattle.stores.specs.Stores.{Plan, further}
 use Rattle.stores.specs.Loop.{Next}
 use Rattle.stores.proofs.Order.{further_add, begun_further, further_long}
-use Rattle.paint.specs.Value.{plan_of}
-use Rattle.paint.proofs.Counts.{count_few}
 use Rattle.paint.proofs.Painting.{Painting, painting_start, painting_more, painting_end, painting_length, painting_begun}
 use Rattle.rows.specs.Row.{colours, Beside}
 
@@ -37,10 +34,6 @@ module _ {d : Plan} {p n : ℕ} {b₀ : List ℕ} {to : ℕ} {value : ℕ → �
 
     pub beside_more : (at v : ℕ) (b' : List ℕ) → at ≡ to + j → v ≡ value j → b' ≡ set b at v → Painting d p b₀ n b' (j + 1)
     beside_more at v b' ea ev e = painting_more d p b₀ n b j g h b' at v (ea ∙ r.targets j h) (ev ∙ beside_value) e
-
--- the numbers of a block's pixels are small
-pub beside_low : (code : ℕ) (s front : List ℕ) (w x y : ℕ) {p n : ℕ} {b : List ℕ} {to : ℕ} {value : ℕ → ℕ} → Beside (plan_of code s front w x y) p n b to value → p + n ≤ 64
-beside_low code s front w x y r = omega (arith, r.listed, count_few (byte_kind code s))
 
 -- ---- four
 
@@ -144,11 +137,3 @@ module _ (f : ℕ → ℕ) {u₁ u₂ u₃ u₄ u₅ u₆ u₇ u₈ : ℕ} (q : 
 -- the first of those that f reads from index from on
 pub read_first : (f : ℕ → ℕ) (from : ℕ) → f from ≡ f (from + 0)
 read_first f from = ap f (sym (add-zero from))
-
--- bytes of t
-module _ (t : List ℕ) (from : ℕ) where
-  pub beside_read : {d : Plan} {p : ℕ} {b : List ℕ} {to : ℕ} → Beside d p 8 b to (λ i. get_or t (from + i) 0)
-      → Beside d p 8 b to (λ i. get_or (colours (get_or t from 0) (get_or t (from + 1) 0) (get_or t (from + 2) 0) (get_or t (from + 3) 0) ++ colours (get_or t (from + 4) 0) (get_or t (from + 5) 0) (get_or t (from + 6) 0) (get_or t (from + 7) 0)) i 0)
-  beside_read =
-      eight_read (λ i. get_or t (from + i) 0)
-      (record { first = read_first (λ n. get_or t n 0) from; second = refl; third = refl; fourth = refl; fifth = refl; sixth = refl; seventh = refl; eighth = refl })

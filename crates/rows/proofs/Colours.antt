@@ -1,39 +1,23 @@
 -- Colours read once for several pixels: the value that a pixel takes from them is the one that the block's rule gives it.
 -- Assumes nothing.
-use mathlib.Core.Path.{◌≡◌, refl, ap, subst, ◌∙◌}
-use mathlib.Core.Bool.{Bool}
+use mathlib.Core.Path.{◌≡◌, refl, subst}
+use mathlib.Core.Bool.{Bool, true, false}
 use mathlib.Core.List.{List}
-use Prim.Native.Nat.{ℕ, zero, suc, ◌+◌, ◌*◌, ◌/◌, ◌%◌, ◌≤◌, ◌<◌}
+use Prim.Native.Nat.{ℕ, ◌+◌, ◌*◌, ◌/◌, ◌%◌, ◌≤◌, ◌<◌}
 use native.Mathlib.Omega.{arith}
-use lib.ListN.{length, get_or}
-use Rattle.block.specs.declared.Source.TheVariants.{Data}
-use Rattle.block.specs.Block.{Side, one, two, four, eight, pixels, Kind, colour_bytes, cell_source, dither_source, colour_at, stored}
+use lib.ListN.{get_or}
+use Rattle.block.specs.Block.{Side, one, two, four, eight, pixels, colour_bytes, cell_source, dither_source}
 use Rattle.block.specs.Asked.{Sided}
-use Rattle.motion.specs.Motion.{raster_index}
-use Rattle.stores.specs.Stores.{Plan, further}
-use Rattle.stores.specs.Loop.{Begun}
-use Rattle.paint.specs.Value.{Older, block_plan}
-use Rattle.paint.specs.Asked.{Square}
-use Rattle.paint.proofs.Painting.{Painting, painting_start, painting_by, painting_length, painting_begun}
-use Rattle.rows.specs.Row.{colours, Sources, Beside, Band}
-use Rattle.rows.proofs.Rows.{row_below, row_low, square_kept, data_beside}
+use Rattle.pattern.specs.Form.{bytes}
+use Rattle.block.proofs.Codes.{cell, colour_within}
+use Rattle.rows.specs.Row.{Band}
+use Rattle.rows.proofs.Beside.{Eight}
 
 -- ---- a row
 
 pub raw_source : (i : ℕ) → i ≡ cell_source 1 i
 unfolding cell_source
 raw_source i = omega arith
-
-pub last_of_four : (a b c d k : ℕ) → k < 4 → 3 ≤ k → d ≡ get_or (colours a b c d) k 0
-last_of_four a b c d k h l = let e : k ≡ 3 = omega arith in rw e
-
--- four colours that are f 0 to f 3
-colour_is : (f : ℕ → ℕ) (a b c d : ℕ) → a ≡ f 0 → b ≡ f 1 → c ≡ f 2 → d ≡ f 3 → (k : ℕ) → k < 4 → get_or (colours a b c d) k 0 ≡ f k
-colour_is f a b c d ea eb ec ed zero h = ea
-colour_is f a b c d ea eb ec ed (suc zero) h = eb
-colour_is f a b c d ea eb ec ed (suc (suc zero)) h = ec
-colour_is f a b c d ea eb ec ed (suc (suc (suc zero))) h = ed
-colour_is f a b c d ea eb ec ed (suc (suc (suc (suc k)))) h = absurd (let z : ⊥ = omega arith in z)
 
 -- ---- codes C to E
 
@@ -81,7 +65,7 @@ module _ {side p : ℕ} (z : Band side p) (r i : ℕ) (even : r % 8 ≡ 0) (l : 
       (λ f g w. record { down = band_down z.sided.0 p r f g; across = band_across z.sided.0 i w h })
       z.first l z.wide
 
-  band_cell : cell_source side (p + i / 2 % 4 * 2) ≡ cell_source side (p + (r + i))
+  pub band_cell : cell_source side (p + i / 2 % 4 * 2) ≡ cell_source side (p + (r + i))
   unfolding cell_source
   band_cell =
       let f = (band_room z).row in
@@ -91,90 +75,60 @@ module _ {side p : ℕ} (z : Band side p) (r i : ℕ) (even : r % 8 ≡ 0) (l : 
       let d : (p + (r + i)) % 8 ≡ i = omega (arith, f) in
       rw (a, b, c, d, band_both.down, band_both.across)
 
--- the colours of a band: those of pixels 0, 2, 4 and 6 of its first row
-abbrev pub cell_colour : Bool → ℕ → List ℕ → ℕ → ℕ
-cell_colour deep side s i = stored deep (colour_at deep s (colour_bytes deep (cell_source side i)))
-
-pub record Read (deep : Bool) (side p : ℕ) (s : List ℕ) (a b c d : ℕ) : Type 0 where
-  pub first : a ≡ cell_colour deep side s p
-  pub second : b ≡ cell_colour deep side s (p + 2)
-  pub third : c ≡ cell_colour deep side s (p + 4)
-  pub fourth : d ≡ cell_colour deep side s (p + 6)
-
-band_value : (deep : Bool) {side p : ℕ} (z : Band side p) (s : List ℕ) (a b c d : ℕ) → Read deep side p s a b c d
-    → (r i : ℕ) → r % 8 ≡ 0 → r < 8 * side → i < 8 → get_or (colours a b c d) (i / 2 % 4) 0 ≡ cell_colour deep side s ((p + r) + i)
-band_value deep {side} {p} z s a b c d q r i even l h =
-    let e : p ≡ p + 0 * 2 = omega arith in
-    let f : p + (r + i) ≡ (p + r) + i = omega arith in
-    colour_is (λ (n : ℕ). cell_colour deep side s (p + n * 2)) a b c d (q.first ∙ ap (cell_colour deep side s) e) q.second q.third q.fourth (i / 2 % 4) (omega arith)
-    ∙ ap (λ (n : ℕ). stored deep (colour_at deep s (colour_bytes deep n))) (band_cell z r i even l h ∙ ap (cell_source side) f)
-
--- the loop over the rows of a band: after each the picture is as the band's pixels up to there leave it
-pub record Banded (d : Plan) (w x y p side : ℕ) (b₀ b : List ℕ) (at r : ℕ) : Type 0 where
-  pub even : r % 8 ≡ 0
-  pub place : at ≡ raster_index w x y (p + r)
-  pub painting : Painting d p b₀ (8 * side) b r
-
-pub banded_start : (d : Plan) (w x y p side : ℕ) (b : List ℕ) (to : ℕ) → to ≡ raster_index w x y p → Banded d w x y p side b b to 0
-banded_start d w x y p side b to e =
-    let z : p ≡ p + 0 = omega arith in
-    record { even = refl; place = e ∙ ap (raster_index w x y) z; painting = painting_start _ _ _ _ }
-
-module _ {d : Plan} {w x y p side : ℕ} {b₀ b : List ℕ} {at r : ℕ} (g : Banded d w x y p side b₀ b at r)
-    (z : Band side p) (q : Square w x y (length b₀)) (l : r < 8 * side) where
-  pub banded_small : p + r < 64
-  banded_small = omega (arith, (band_room z).room)
-
-  pub banded_low : at + w ≤ 320000
-  banded_low = row_low w x y (p + r) at g.place q banded_small
-
-  pub banded_more : {b' : List ℕ} → b' ≡ further d 0 b (p + r) 8 → Banded d w x y p side b₀ b' (at + w) (r + 8)
-  banded_more {b'} e =
-      let f : (p + r) + 8 ≡ p + (r + 8) = omega arith in
-      record {
-        even = omega (arith, g.even);
-        place = row_below w x y (p + r) at g.place ∙ ap (raster_index w x y) f;
-        painting = painting_by _ _ _ _ _ _ g.painting 8 (omega (arith, g.even)) b' e;
-      }
-
--- a row asks, as the block does
-pub banded_beside : (older : Older) {deep : Bool} {κ : Kind} {s : List ℕ} {w x y p side : ℕ} {b₀ b : List ℕ} {at r : ℕ} → Banded (block_plan deep κ s w x y older) w x y p side b₀ b at r
-    → Band side p → Square w x y (length b₀) → r < 8 * side → Sources deep κ s w x y (λ i. Data (colour_bytes deep (cell_source side i))) → Begun (block_plan deep κ s w x y older) 0 p b₀
-    → {u₁ u₂ u₃ u₄ : ℕ} → Read deep side p s u₁ u₂ u₃ u₄ → Beside (block_plan deep κ s w x y older) (p + r) 8 b at (λ i. get_or (colours u₁ u₂ u₃ u₄) (i / 2 % 4) 0)
-banded_beside older {deep} {s = s} {r = r} g z q l k o {u₁} {u₂} {u₃} {u₄} c =
-    data_beside older k (omega (arith, (band_room z).row, g.even)) (banded_small g z q l) g.place
-    (square_kept q (painting_length _ _ _ _ _ _ g.painting)) (painting_begun _ _ _ _ _ _ g.painting o)
-    (λ i. get_or (colours u₁ u₂ u₃ u₄) (i / 2 % 4) 0) (λ i h. band_value deep z s u₁ u₂ u₃ u₄ c r i g.even l h)
-
 -- ---- code F
 
--- a and b are the colours of the row from pixel p on
-pub record Turned (s : List ℕ) (p a b : ℕ) : Type 0 where
-  pub first : a ≡ get_or s (p / 8 % 2) 0
-  pub second : b ≡ get_or s ((p / 8 + 1) % 2) 0
+-- a and b are the colours of row r
+pub record Turned (s : List ℕ) (r a b : ℕ) : Type 0 where
+  pub first : a ≡ get_or s (r % 2) 0
+  pub second : b ≡ get_or s ((r + 1) % 2) 0
 
 pub turned_start : (s : List ℕ) → Turned s 0 (get_or s 0 0) (get_or s 1 0)
 turned_start s = record { first = refl; second = refl }
 
-pub turned_next : (s : List ℕ) (p a b : ℕ) → Turned s p a b → Turned s (p + 8) b a
-turned_next s p a b t =
-    let e : (p + 8) / 8 % 2 ≡ (p / 8 + 1) % 2 = omega arith in
-    let f : ((p + 8) / 8 + 1) % 2 ≡ p / 8 % 2 = omega arith in
-    record { first = rw e t.second; second = rw f t.first }
+pub turned_next : (s : List ℕ) (r a b : ℕ) → Turned s r a b → Turned s (r + 1) b a
+turned_next s r a b t =
+    let e : (r + 1 + 1) % 2 ≡ r % 2 = omega arith in
+    record { first = t.second; second = rw e t.first }
 
--- what is in turn by two is in turn by four
-turned_pair : (n i : ℕ) → (n + i / 1 % 4) % 2 ≡ (n + i) % 2
-turned_pair n i = omega arith
-
--- the row of pixel p
-pub turned_value : {s : List ℕ} {p a b : ℕ} → Turned s p a b → p % 8 ≡ 0 → (i : ℕ) → i < 8
-    → get_or (colours a b a b) (i / 1 % 4) 0 ≡ get_or s (dither_source (p + i)) 0
+-- pixel i of the row
+turned_even : (s : List ℕ) (r i a b : ℕ) → Turned s r a b → i < 8 → i % 2 ≡ 0 → a ≡ get_or s (dither_source (8 * r + i)) 0
 unfolding dither_source
-turned_value {s} {p} {a} {b} t even i h =
-    let d : (p / 8 + 0) % 2 ≡ p / 8 % 2 = omega arith in
-    let e : (p / 8 + 2) % 2 ≡ p / 8 % 2 = omega arith in
-    let f : (p / 8 + 3) % 2 ≡ (p / 8 + 1) % 2 = omega arith in
-    let g : (p + i) / 8 ≡ p / 8 = omega (arith, even) in
-    let j : (p + i) % 8 ≡ i = omega (arith, even) in
-    colour_is (λ (n : ℕ). get_or s ((p / 8 + n) % 2) 0) a b a b (rw d t.first) t.second (rw e t.first) (rw f t.second) (i / 1 % 4) (omega arith)
-    ∙ rw (g, j, turned_pair (p / 8) i)
+turned_even s r i a b t h e =
+    let f : ((8 * r + i) / 8 + (8 * r + i) % 8) % 2 ≡ r % 2 = omega arith in
+    rw f t.first
+
+turned_odd : (s : List ℕ) (r i a b : ℕ) → Turned s r a b → i < 8 → i % 2 ≡ 1 → b ≡ get_or s (dither_source (8 * r + i)) 0
+unfolding dither_source
+turned_odd s r i a b t h e =
+    let f : ((8 * r + i) / 8 + (8 * r + i) % 8) % 2 ≡ (r + 1) % 2 = omega arith in
+    rw f t.second
+
+pub turned_eight : (s : List ℕ) (r : ℕ) {a b : ℕ} → Turned s r a b → Eight (λ i. get_or s (dither_source (8 * r + i)) 0) a b a b a b a b
+turned_eight s r t =
+    record {
+      first = turned_even s r 0 _ _ t (omega arith) refl;
+      second = turned_odd s r 1 _ _ t (omega arith) refl;
+      third = turned_even s r 2 _ _ t (omega arith) refl;
+      fourth = turned_odd s r 3 _ _ t (omega arith) refl;
+      fifth = turned_even s r 4 _ _ t (omega arith) refl;
+      sixth = turned_odd s r 5 _ _ t (omega arith) refl;
+      seventh = turned_even s r 6 _ _ t (omega arith) refl;
+      eighth = turned_odd s r 7 _ _ t (omega arith) refl;
+    }
+
+-- ---- a colour
+
+-- colour n of m is there
+pub colour_there : (deep : Bool) (w n m long : ℕ) → w ≡ bytes deep → n < m → colour_bytes deep m ≤ long → colour_bytes deep n + w ≤ long
+colour_there deep w n m long e h l = let k = colour_within deep n m h in omega arith
+
+-- the first n of m are there
+pub colours_few : (deep : Bool) (n m long : ℕ) → n ≤ m → colour_bytes deep m ≤ long → colour_bytes deep n ≤ long
+colours_few true n m long h l = omega arith
+colours_few false n m long h l = omega arith
+
+-- the colour of pixel i's cell is there
+pub cell_there : (deep : Bool) (w side i j long : ℕ) → w ≡ bytes deep → Sided side → i < 64 → colour_bytes deep (8 / side * (8 / side)) ≤ long → j ≡ cell_source side i
+    → colour_bytes deep j + w ≤ long
+unfolding cell_source
+cell_there deep w side i j long e z h l f = colour_there deep w j (8 / side * (8 / side)) long e (omega (arith, cell side i z h, f)) l

@@ -2,25 +2,18 @@
 -- and for what a row asks.
 -- Assumes nothing.
 use mathlib.Core.Path.{◌≡◌, refl, sym, ap, subst, ◌∙◌}
-use mathlib.Core.Bool.{Bool, cond}
 use mathlib.Core.List.{List}
 use Prim.Native.Nat.{ℕ, ◌+◌, ◌*◌, ◌/◌, ◌%◌, ◌≤◌, ◌<◌}
 use native.Mathlib.Nat.{mul-le-mul, zero-add}
 use native.Mathlib.Omega.{arith}
-use lib.ListN.{length, get_or}
+use lib.ListN.{length}
 use Rattle.motion.specs.Motion.{raster_index}
 use Rattle.motion.proofs.Vectors.{row_small}
-use Rattle.block.specs.declared.Picture.{Picture}
-use Rattle.block.specs.declared.Source.{Source}
-use Rattle.block.specs.declared.Source.TheVariants.{Data, Copied}
-use Rattle.block.specs.Block.{Kind, colour_at, stored, pictured, fetched}
 use Rattle.stores.specs.Stores.{Plan, first_pixels, further}
 use Rattle.stores.specs.Loop.{Begun}
-use Rattle.stores.proofs.Order.{further_first, further_off, begun_none}
-use Rattle.paint.specs.Value.{Older, pixel_value, block_plan}
+use Rattle.stores.proofs.Order.{further_first, begun_none}
 use Rattle.paint.specs.Asked.{Square}
 use Rattle.paint.proofs.Painting.{Painting, painting_start, painting_by, painting_end, painting_length, painting_begun, square_inside, square_below}
-use Rattle.rows.specs.Row.{Sources, Beside, Disjoint}
 
 -- ---- a row a turn
 
@@ -33,9 +26,6 @@ pub rows_start : (d : Plan) (b : List ℕ) → Rows d b b 0
 rows_start d b = record { whole = refl; painting = painting_start d 0 b 64 }
 
 module _ {d : Plan} {b₀ b : List ℕ} {p : ℕ} (r : Rows d b₀ b p) where
-  pub rows_room : p < 64 → p ≤ 56
-  rows_room h = omega (arith, r.whole)
-
   -- the pixels before the row stand
   pub rows_begun : Begun d 0 p b
   rows_begun = rw zero-add at (painting_begun d 0 b₀ 64 b p r.painting (begun_none d 0 b₀))
@@ -100,64 +90,3 @@ module _ (w x y p to : ℕ) (z : p % 8 ≡ 0) (e : to ≡ raster_index w x y p) 
   pub row_inside : {long : ℕ} → Square w x y long → p < 64 → to + 8 ≤ long
   row_inside {long} q h =
       omega (arith, square_below w x y long (p + 7) q (omega (arith, z)) (to + 7) (row_target 7 (p + 7) (omega arith) refl))
-
--- ---- what a row asks
-
-module _ (older : Older) {deep : Bool} {κ : Kind} {s : List ℕ} {w x y : ℕ} {from : ℕ → Source} (q : Sources deep κ s w x y from) {p to : ℕ} (z : p % 8 ≡ 0) (h : p < 64)
-    (e : to ≡ raster_index w x y p) {b : List ℕ} (l : Square w x y (length b)) (g : Begun (block_plan deep κ s w x y older) 0 p b) where
-  -- its values are what stands at the block's sources; new i is the picture as the row's first i pixels leave it
-  pub row_beside : (value : ℕ → ℕ)
-      → ((i : ℕ) → i < 8 → (new : List ℕ) → new ≡ further (block_plan deep κ s w x y older) 0 b p i → value i ≡ fetched deep (from (p + i)) s older.last new (cond deep older.oldest new))
-      → Beside (block_plan deep κ s w x y older) p 8 b to value
-  unfolding pixel_value
-  row_beside value vs =
-      record {
-        begun = g;
-        listed = omega (arith, q.all, z);
-        targets = λ i k. row_target w x y p to z e i (p + i) k refl;
-        values = λ i k. vs i k (further (block_plan deep κ s w x y older) 0 b p i) refl ∙ ap (λ (u : Source). fetched deep u s older.last (further (block_plan deep κ s w x y older) 0 b p i) (cond deep older.oldest (further (block_plan deep κ s w x y older) 0 b p i))) (q.each (p + i) (omega (arith, z)));
-        inside = row_inside w x y p to z e l h;
-      }
-
--- of a copy of a picture t that no store changes
-pub fixed_beside : (older : Older) (t : List ℕ) (sx sy : ℕ) {deep : Bool} {κ : Kind} {s : List ℕ} {w x y : ℕ} (q : Picture)
-    → ((new : List ℕ) → t ≡ pictured q older.last new (cond deep older.oldest new))
-    → Sources deep κ s w x y (λ i. Copied q (raster_index w sx sy i)) → {p from to : ℕ}
-    → p % 8 ≡ 0 → p < 64 → from ≡ raster_index w sx sy p → to ≡ raster_index w x y p → {b : List ℕ} → Square w x y (length b)
-    → Begun (block_plan deep κ s w x y older) 0 p b → Beside (block_plan deep κ s w x y older) p 8 b to (λ i. stored deep (get_or t (from + i) 0))
-unfolding fetched
-fixed_beside older t sx sy {deep} {w = w} q fixed k {p} {from} z h f e l g =
-    row_beside older k z h e l g (λ i. stored deep (get_or t (from + i) 0))
-    (λ i m new _. ap (stored deep) (ap (λ (u : List ℕ). get_or u (from + i) 0) (fixed new) ∙ ap (λ (n : ℕ). get_or (pictured q older.last new (cond deep older.oldest new)) n 0) (row_target w sx sy p from z f i (p + i) m refl)))
-
--- of a copy of the picture that is drawn on: the pixels stored before one is read are none that is read
-pub drawn_beside : (older : Older) (sx sy : ℕ) {deep : Bool} {κ : Kind} {s : List ℕ} {w x y : ℕ} (q : Picture)
-    → ((new : List ℕ) → pictured q older.last new (cond deep older.oldest new) ≡ new)
-    → Sources deep κ s w x y (λ i. Copied q (raster_index w sx sy i))
-    → Disjoint (raster_index w sx sy 0) (raster_index w x y 0) → {p from to : ℕ}
-    → p % 8 ≡ 0 → p < 64 → from ≡ raster_index w sx sy p → to ≡ raster_index w x y p → {b : List ℕ} → Square w x y (length b)
-    → Begun (block_plan deep κ s w x y older) 0 p b → Beside (block_plan deep κ s w x y older) p 8 b to (λ i. stored deep (get_or b (from + i) 0))
-unfolding fetched raster_index
-drawn_beside older sx sy {deep} {κ} {s} {w} {x} {y} q drawn k apart {p} {from} {to} z h f e {b} l g =
-    row_beside older k z h e l g (λ i. stored deep (get_or b (from + i) 0)) (λ i m new n. ap (stored deep) (read i m new n))
-  where
-    past : (i : ℕ) → i < 8 → (j : ℕ) → j < i → from + i ≡ to + j → ⊥
-    past i k j m v = omega (arith, e, f, apart, v)
-
-    kept_off : (i : ℕ) → i < 8 → get_or b (from + i) 0 ≡ get_or (further (block_plan deep κ s w x y older) 0 b p i) (from + i) 0
-    kept_off i k =
-        sym (further_off (block_plan deep κ s w x y older) 0 b p i (from + i) (λ j m v. past i k j m (v ∙ sym (row_target w x y p to z e j (p + j) (omega arith) refl))))
-
-    read : (i : ℕ) → i < 8 → (new : List ℕ) → new ≡ further (block_plan deep κ s w x y older) 0 b p i
-        → get_or b (from + i) 0 ≡ get_or (pictured q older.last new (cond deep older.oldest new)) (raster_index w sx sy (p + i)) 0
-    read i k new n =
-        kept_off i k ∙ ap (λ (u : List ℕ). get_or u (from + i) 0) (sym n ∙ sym (drawn new))
-        ∙ ap (λ (m : ℕ). get_or (pictured q older.last new (cond deep older.oldest new)) m 0) (row_target w sx sy p from z f i (p + i) k refl)
-
--- of colours of the data
-pub data_beside : (older : Older) {deep : Bool} {κ : Kind} {s : List ℕ} {w x y : ℕ} {at : ℕ → ℕ} → Sources deep κ s w x y (λ i. Data (at i)) → {p to : ℕ}
-    → p % 8 ≡ 0 → p < 64 → to ≡ raster_index w x y p → {b : List ℕ} → Square w x y (length b)
-    → Begun (block_plan deep κ s w x y older) 0 p b → (value : ℕ → ℕ) → ((i : ℕ) → i < 8 → value i ≡ stored deep (colour_at deep s (at (p + i))))
-    → Beside (block_plan deep κ s w x y older) p 8 b to value
-unfolding fetched
-data_beside older q z h e l g value vs = row_beside older q z h e l g value (λ i k new _. vs i k)

@@ -1,32 +1,29 @@
 -- Rows of a block, and what the functions that store them ask.
 -- Assumes nothing.
-use Rattle.std.specs.Prelude.{◌≡◌, Bool, false, List, [], ◌∷◌, ℕ, ◌+◌, ◌-◌, ◌*◌, ◌%◌, ◌≤◌, ◌<◌, length}
-use Rattle.block.specs.declared.Picture.{Picture}
-use Rattle.block.specs.declared.Source.{Source}
-use Rattle.block.specs.declared.Source.TheVariants.{Copied}
-use Rattle.block.specs.Block.{Kind, byte_kind, source, pictured}
+use Rattle.std.specs.Prelude.{◌≡◌, Bool, List, [], ◌∷◌, ℕ, ◌+◌, ◌-◌, ◌*◌, ◌%◌, ◌≤◌, ◌<◌, length}
+use Rattle.motion.specs.Motion.{raster_index}
+use Rattle.block.specs.Block.{colour_bytes, cell_source, colour_at, stored}
 use Rattle.block.specs.Asked.{Sided}
 use Rattle.stores.specs.Stores.{Plan, further}
 use Rattle.stores.specs.Loop.{Begun}
-use Rattle.paint.specs.Value.{pixel_count}
+use Rattle.paint.specs.Asked.{Square}
 
 abbrev pub colours : ℕ → ℕ → ℕ → ℕ → List ℕ
 colours a b c d = a ∷ b ∷ c ∷ d ∷ []
 
--- a block of 64 pixels, of which pixel i is what stands at from i
-pub record Sources (deep : Bool) (κ : Kind) (s : List ℕ) (w x y : ℕ) (from : ℕ → Source) : Type 0 where
-  pub all : 64 ≤ pixel_count κ
-  pub each : (i : ℕ) → i < 64 → from i ≡ source deep κ s w x y i
+-- colour n of a block's data, as it is stored
+abbrev pub colour : Bool → List ℕ → ℕ → ℕ
+colour deep s n = stored deep (colour_at deep s (colour_bytes deep n))
 
--- of an 8-bit film
-abbrev pub ByteSources : ℕ → List ℕ → ℕ → ℕ → ℕ → (ℕ → Source) → Type 0
-ByteSources code s w x y from = Sources false (byte_kind code s) s w x y from
+-- a block of 64 pixels at x, y of a picture w pixels wide: pixel i becomes value i b where the picture drawn on is b
+pub record Block (d : Plan) (w x y : ℕ) (value : ℕ → List ℕ → ℕ) : Type 0 where
+  pub all : 64 ≤ d.size 0
+  pub targets : (i : ℕ) → i < 64 → raster_index w x y i ≡ d.target 0 i
+  pub values : (i : ℕ) → i < 64 → (b : List ℕ) → value i b ≡ d.value 0 i b
 
--- a block of an 8-bit film that is copied from the picture that is drawn on, by either of its names
-pub record BackSources (code : ℕ) (s : List ℕ) (w x y : ℕ) (at : ℕ → ℕ) : Type 0 where
-  pub picture : Picture
-  pub drawn_on : (last new : List ℕ) → pictured picture last new new ≡ new
-  pub sources : ByteSources code s w x y (λ i. Copied picture (at i))
+-- whatever the picture drawn on is
+abbrev pub Fixed : Plan → ℕ → ℕ → ℕ → (ℕ → ℕ) → Type 0
+Fixed d w x y value = Block d w x y (λ i b. value i)
 
 -- The next n pixels of a block are those from pixel p on, stored side by side from index to on. They become value 0, value 1 and so on.
 pub record Beside (d : Plan) (p n : ℕ) (b : List ℕ) (to : ℕ) (value : ℕ → ℕ) : Type 0 where
@@ -48,3 +45,13 @@ pub record Band (side p : ℕ) : Type 0 where
   pub wide : 1 < side
   pub first : p % (8 * side) ≡ 0
   pub below : p < 64
+
+-- it is the next of a block whose cells have these colours in turn, and begins at index to of the picture b, which is w pixels wide
+pub record CellBand (d : Plan) (of : ℕ → ℕ) (w side p : ℕ) (b : List ℕ) (to : ℕ) : Type 0 where
+  pub x : ℕ
+  pub y : ℕ
+  pub block : Fixed d w x y (λ i. of (cell_source side i))
+  pub band : Band side p
+  pub room : Square w x y (length b)
+  pub begun : Begun d 0 p b
+  pub place : to ≡ raster_index w x y p

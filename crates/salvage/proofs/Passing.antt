@@ -1,11 +1,12 @@
 -- The walk over chunks: the loop that keeps chunks or leaves them out.
 -- Assumes nothing.
-use mathlib.Core.Path.{◌≡◌, refl, sym, ap, ◌∙◌, subst}
+use Rattle.std.specs.Prelude.{Result, Ok, Err}
+use mathlib.Core.Path.{◌≡◌, refl, sym, ap, ◌∙◌}
 use mathlib.Core.Bool.{Bool, true, false, cond}
 use mathlib.Core.List.{List, [], ◌∷◌, ◌++◌, append_assoc, append-nil}
 use Prim.Native.Nat.{ℕ, suc, ◌+◌, ◌-◌, ◌*◌, ◌≤◌, ◌<◌}
 use native.Mathlib.Omega.{arith}
-use lib.ListN.{length, set, length-append, length-set}
+use lib.ListN.{length, set, length-append}
 use Rattle.refusal.specs.declared.Refusal.{Refusal}
 use Rattle.refusal.specs.Number.{number}
 use Rattle.room.specs.Room.{written}
@@ -13,29 +14,14 @@ use Rattle.room.proofs.Written.{written_none, written_length, written_more}
 use Rattle.parts.specs.Parts.{part, laid}
 use Rattle.parts.proofs.Laying.{stored_none, stored_length, stored_then}
 use Rattle.parts.proofs.Parts.{part_length}
-use Rattle.chunks.specs.declared.Tested.{Tested}
-use Rattle.chunks.specs.declared.Tested.TheVariants.{Intact, Scratched}
-use Rattle.chunks.specs.declared.Ahead.{Ahead}
-use Rattle.chunks.specs.declared.Ahead.TheVariants.{FilmEnd, PastEnd, ChunkTo}
-use Rattle.chunks.specs.Chunks.{intact, Following, chunk_to, following_as, following_at, condition_as}
+use Rattle.chunks.specs.Chunks.{intact, Following, film_end, past_end, chunk_to, following_at, condition_as}
 use Rattle.chunks.proofs.Heads.{there}
 use Rattle.salvage.specs.declared.Stopped.{Stopped}
 use Rattle.salvage.specs.declared.Stopped.TheVariants.{AtEnd, Behind00, By2}
-use Rattle.salvage.specs.declared.Walked.{Walked}
 use Rattle.salvage.specs.Salvage.{Stop, behind_00, Loss, loss, Saved, no_more, keeping, losing, go_on, save_from, saved, numbers_of, stop_as}
-use Rattle.salvage.specs.Asked.{walked_of, Roomy, Passed}
+use Rattle.salvage.specs.Asked.{Roomy, Passed}
 
 -- ---- three numbers
-
-pub three : (b : Bool) (l l₁ l₂ l₃ : List ℕ) (k x y z : ℕ) → b ≡ true → l₁ ≡ set l k x → l₂ ≡ set l₁ (k + 1) y → l₃ ≡ set l₂ (k + 2) z
-    → l₃ ≡ cond b (set (set (set l k x) (k + 1) y) (k + 2) z) l
-three b l l₁ l₂ l₃ k x y z h e₁ e₂ e₃ = rw (h, e₃, e₂, e₁)
-
-pub room_1 : (l l₁ : List ℕ) (k x : ℕ) → l₁ ≡ set l k x → k + 3 ≤ length l → k + 1 < length l₁
-room_1 l l₁ k x e h = omega (arith, ap length e ∙ length-set l k x)
-
-pub room_2 : (l l₁ l₂ : List ℕ) (k x j y : ℕ) → l₁ ≡ set l k x → l₂ ≡ set l₁ j y → k + 3 ≤ length l → k + 2 < length l₂
-room_2 l l₁ l₂ k x j y e g h = omega (arith, ap length e ∙ length-set l k x, ap length g ∙ length-set l₁ j y)
 
 three_written : (w room : List ℕ) (k x y z : ℕ) → k ≡ length w → k + 3 ≤ length room
     → set (set (set (written w room) k x) (k + 1) y) (k + 2) z ≡ written (w ++ (x ∷ y ∷ z ∷ [])) room
@@ -132,16 +118,15 @@ saving_start storing film room₀ list₀ q =
 
 module _ (storing : Bool) (film room₀ list₀ : List ℕ) (q : Roomy storing film (length room₀) (length list₀)) where
   -- the walk stops behind w and l
-  passed_by : (st : Stopped) (w : List ℕ) (l : List Loss) (kept lost left rest : ℕ) (room list : List ℕ) (r : Walked) → r ≡ walked_of st kept lost left rest
+  passed_by : (st : Stopped) (w : List ℕ) (l : List Loss) (kept lost left rest : ℕ) (room list : List ℕ)
       → saved film ≡ joined w l kept lost (no_more (stop_as st) rest) → kept ≡ length w → left ≡ length l
       → room ≡ cond storing (laid 26 w room₀) room₀ → list ≡ cond storing (written (numbers_of l) list₀) list₀
-      → Passed storing film room₀ list₀ r room list
+      → Passed storing film room₀ list₀ (record { stop = st; kept = kept; lost = lost; left_out = left; rest = rest }) room list
   unfolding joined
-  passed_by st w l kept lost left rest room list r z e ek el er en =
+  passed_by st w l kept lost left rest room list e ek el er en =
       let b : (saved film).bytes ≡ w = ap (λ (s : Saved). s.bytes) e ∙ append-nil w in
       let n : (saved film).losses ≡ l = ap (λ (s : Saved). s.losses) e ∙ append-nil l in
-      subst (λ (y : Walked). Passed storing film room₀ list₀ y room list) (sym z)
-      (record {
+      record {
         stop = sym (ap (λ (s : Saved). s.stop) e);
         kept = omega (arith, ap (λ (s : Saved). s.kept) e);
         bytes = ek ∙ ap length (sym b);
@@ -150,7 +135,7 @@ module _ (storing : Bool) (film room₀ list₀ : List ℕ) (q : Roomy storing f
         rest = sym (ap (λ (s : Saved). s.rest) e);
         room_after = er ∙ ap (λ (x : List ℕ). cond storing (laid 26 x room₀) room₀) (sym b);
         list_after = en ∙ ap (λ (x : List Loss). cond storing (written (numbers_of x) list₀) list₀) (sym n);
-      })
+      }
 
   long_list : (b : Bool) (l : List Loss) → (b ≡ true → 3 * length l ≤ length list₀) → length (cond b (written (numbers_of l) list₀) list₀) ≡ length list₀
   long_list true l h = written_length (numbers_of l) list₀ (omega (arith, numbers_length l, h refl))
@@ -177,124 +162,120 @@ module _ (storing : Bool) (film room₀ list₀ : List ℕ) (q : Roomy storing f
         ap length s.list_is
         ∙ long_list storing s.losses (λ t. omega (arith, q.list_room t, ap (λ (y : Saved). length y.losses) s.same, length-append s.losses (save_from s.turns film e).losses))
 
-    module _ (f : Ahead) (ef : following_as f ≡ following_at film e) where
-      step : saved film ≡ joined s.bytes s.losses kept lost (go_on film e (following_as f) (λ x. save_from (s.turns - 1) film x))
-      unfolding save_from
-      step =
-          let z : s.turns ≡ suc (s.turns - 1) = omega (arith, s.enough) in
-          s.same ∙ ap (λ (n : ℕ). joined s.bytes s.losses kept lost (save_from n film e)) z
-          ∙ ap (λ (y : Following). joined s.bytes s.losses kept lost (go_on film e y (λ x. save_from (s.turns - 1) film x))) (sym ef)
+    by_found : (y : Following) → y ≡ following_at film e → saved film ≡ joined s.bytes s.losses kept lost (go_on film e y (λ x. save_from (s.turns - 1) film x))
+    unfolding save_from
+    by_found y h =
+        let z : s.turns ≡ suc (s.turns - 1) = omega (arith, s.enough) in
+        s.same ∙ ap (λ (n : ℕ). joined s.bytes s.losses kept lost (save_from n film e)) z
+        ∙ ap (λ (y : Following). joined s.bytes s.losses kept lost (go_on film e y (λ x. save_from (s.turns - 1) film x))) (sym h)
 
-      by_found : (g : Ahead) → f ≡ g → saved film ≡ joined s.bytes s.losses kept lost (go_on film e (following_as g) (λ x. save_from (s.turns - 1) film x))
-      by_found g h = step ∙ ap (λ (y : Ahead). joined s.bytes s.losses kept lost (go_on film e (following_as y) (λ x. save_from (s.turns - 1) film x))) h
+    pub pass_end : film_end ≡ following_at film e → Passed storing film room₀ list₀ (record { stop = AtEnd; kept = kept; lost = lost; left_out = left; rest = length film - e }) room list
+    unfolding go_on
+    pass_end g = passed_by AtEnd s.bytes s.losses kept lost left (length film - e) room list (by_found film_end g) s.kept_is s.left_is s.room_is s.list_is
 
-      pub pass_end : f ≡ FilmEnd → (r : Walked) → r ≡ walked_of AtEnd kept lost left (length film - e) → Passed storing film room₀ list₀ r room list
-      unfolding go_on
-      pass_end g r z = passed_by AtEnd s.bytes s.losses kept lost left (length film - e) room list r z (by_found FilmEnd g) s.kept_is s.left_is s.room_is s.list_is
+    pub pass_past : past_end ≡ following_at film e → Passed storing film room₀ list₀ (record { stop = By2; kept = kept; lost = lost; left_out = left; rest = length film - e }) room list
+    unfolding go_on
+    pass_past g = passed_by By2 s.bytes s.losses kept lost left (length film - e) room list (by_found past_end g) s.kept_is s.left_is s.room_is s.list_is
 
-      pub pass_past : f ≡ PastEnd → (r : Walked) → r ≡ walked_of By2 kept lost left (length film - e) → Passed storing film room₀ list₀ r room list
-      unfolding go_on
-      pass_past g r z = passed_by By2 s.bytes s.losses kept lost left (length film - e) room list r z (by_found PastEnd g) s.kept_is s.left_is s.room_is s.list_is
+    module _ (x : ℕ) (t : Result Bool Refusal) (g : chunk_to x (condition_as t) ≡ following_at film e) where
+      pub chunk_ends : (e + 4 ≤ x) × (x ≤ length film)
+      chunk_ends = let k = there film e x (condition_as t) s.within (sym g) in (omega (arith, k.ends), k.inside)
 
-      module _ (x : ℕ) (t : Tested) (g : f ≡ ChunkTo x t) where
-        pub chunk_ends : (e + 4 ≤ x) × (x ≤ length film)
-        chunk_ends = let k = there film e x (condition_as t) s.within (sym ef ∙ ap following_as g) in (omega (arith, k.ends), k.inside)
+      by_chunk : (u : Result Bool Refusal) → t ≡ u → saved film ≡ joined s.bytes s.losses kept lost (go_on film e (chunk_to x (condition_as u)) (λ x. save_from (s.turns - 1) film x))
+      by_chunk u h = by_found (chunk_to x (condition_as u)) (ap (λ (v : Result Bool Refusal). chunk_to x (condition_as v)) (sym h) ∙ g)
 
-        module _ (r : Refusal) (h : t ≡ Scratched r) (n : ℕ) (en : n ≡ number r) where
-          lost_same : saved film ≡ joined s.bytes (s.losses ++ (loss e x n ∷ [])) kept (lost + (x - e)) (save_from (s.turns - 1) film x)
-          unfolding go_on
-          lost_same =
-              by_found (ChunkTo x (Scratched r)) (g ∙ ap (ChunkTo x) h)
-              ∙ ap (λ (i : ℕ). joined s.bytes s.losses kept lost (losing e x i (save_from (s.turns - 1) film x))) (sym en)
-              ∙ joined_loses s.bytes s.losses kept lost e x n (save_from (s.turns - 1) film x)
+      module _ (r : Refusal) (h : t ≡ Err r) (n : ℕ) (en : n ≡ number r) where
+        lost_same : saved film ≡ joined s.bytes (s.losses ++ (loss e x n ∷ [])) kept (lost + (x - e)) (save_from (s.turns - 1) film x)
+        unfolding go_on
+        lost_same =
+            by_chunk (Err r) h
+            ∙ ap (λ (i : ℕ). joined s.bytes s.losses kept lost (losing e x i (save_from (s.turns - 1) film x))) (sym en)
+            ∙ joined_loses s.bytes s.losses kept lost e x n (save_from (s.turns - 1) film x)
 
-          lost_fits : storing ≡ true → 3 * left + 3 ≤ length list₀
-          unfolding joined
-          lost_fits u =
-              omega (arith, q.list_room u, ap (λ (y : Saved). length y.losses) lost_same, length-append (s.losses ++ (loss e x n ∷ [])) (save_from (s.turns - 1) film x).losses, length-append s.losses (loss e x n ∷ []), s.left_is)
+        lost_fits : storing ≡ true → 3 * left + 3 ≤ length list₀
+        unfolding joined
+        lost_fits u =
+            omega (arith, q.list_room u, ap (λ (y : Saved). length y.losses) lost_same, length-append (s.losses ++ (loss e x n ∷ [])) (save_from (s.turns - 1) film x).losses, length-append s.losses (loss e x n ∷ []), s.left_is)
 
-          pub lost_room : storing ≡ true → 3 * left + 3 ≤ length list
-          lost_room u = omega (arith, lost_fits u, list_long)
+        pub lost_room : storing ≡ true → 3 * left + 3 ≤ length list
+        lost_room u = omega (arith, lost_fits u, list_long)
 
-          pub saving_lost : (list' : List ℕ) → list' ≡ cond storing (set (set (set list (3 * left) e) (3 * left + 1) (x - (e + 4))) (3 * left + 2) n) list
-              → Saving storing film room₀ list₀ x kept (lost + (x - e)) (left + 1) room list'
-          saving_lost list' el =
-              record {
-                turns = s.turns - 1;
-                bytes = s.bytes;
-                losses = s.losses ++ (loss e x n ∷ []);
-                enough = omega (arith, chunk_ends, s.enough);
-                within = chunk_ends.1;
-                kept_is = s.kept_is;
-                left_is = omega (arith, length-append s.losses (loss e x n ∷ []), s.left_is);
-                room_is = s.room_is;
-                list_is =
-                    el ∙ ap (λ (l : List ℕ). cond storing (set (set (set l (3 * left) e) (3 * left + 1) (x - (e + 4))) (3 * left + 2) n) l) s.list_is
-                    ∙ lay_three storing s.losses (loss e x n) (3 * left) (ap (λ (i : ℕ). 3 * i) s.left_is) lost_fits;
-                count = omega (arith, chunk_ends, s.count);
-                few = omega (arith, chunk_ends, s.few);
-                same = lost_same;
-              }
+        pub saving_lost : (list' : List ℕ) → list' ≡ cond storing (set (set (set list (3 * left) e) (3 * left + 1) (x - (e + 4))) (3 * left + 2) n) list
+            → Saving storing film room₀ list₀ x kept (lost + (x - e)) (left + 1) room list'
+        saving_lost list' el =
+            record {
+              turns = s.turns - 1;
+              bytes = s.bytes;
+              losses = s.losses ++ (loss e x n ∷ []);
+              enough = omega (arith, chunk_ends, s.enough);
+              within = chunk_ends.1;
+              kept_is = s.kept_is;
+              left_is = omega (arith, length-append s.losses (loss e x n ∷ []), s.left_is);
+              room_is = s.room_is;
+              list_is =
+                  el ∙ ap (λ (l : List ℕ). cond storing (set (set (set l (3 * left) e) (3 * left + 1) (x - (e + 4))) (3 * left + 2) n) l) s.list_is
+                  ∙ lay_three storing s.losses (loss e x n) (3 * left) (ap (λ (i : ℕ). 3 * i) s.left_is) lost_fits;
+              count = omega (arith, chunk_ends, s.count);
+              few = omega (arith, chunk_ends, s.few);
+              same = lost_same;
+            }
 
-        module _ (c : Bool) (h : t ≡ Intact c) where
-          part_long : length (part film e x) ≡ x - e
-          part_long = part_length film e x chunk_ends.1
+      module _ (c : Bool) (h : t ≡ Ok c) where
+        part_long : length (part film e x) ≡ x - e
+        part_long = part_length film e x chunk_ends.1
 
-          -- what comes behind it
-          behind : Bool → Saved
-          behind true = no_more behind_00 (length film - x)
-          behind false = save_from (s.turns - 1) film x
+        -- what comes behind it
+        behind : Bool → Saved
+        behind true = no_more behind_00 (length film - x)
+        behind false = save_from (s.turns - 1) film x
 
-          by_kept : (b : Bool) → go_on film e (chunk_to x (intact b)) (λ x. save_from (s.turns - 1) film x) ≡ keeping film e x (behind b)
-          unfolding go_on behind
-          by_kept true = refl
-          by_kept false = refl
+        by_kept : (b : Bool) → go_on film e (chunk_to x (intact b)) (λ x. save_from (s.turns - 1) film x) ≡ keeping film e x (behind b)
+        unfolding go_on behind
+        by_kept true = refl
+        by_kept false = refl
 
-          kept_same : saved film ≡ joined (s.bytes ++ part film e x) s.losses (kept + (x - e)) lost (behind c)
-          kept_same =
-              by_found (ChunkTo x (Intact c)) (g ∙ ap (ChunkTo x) h)
-              ∙ ap (joined s.bytes s.losses kept lost) (by_kept c)
-              ∙ joined_keeps film s.bytes s.losses kept lost e x (behind c)
+        kept_same : saved film ≡ joined (s.bytes ++ part film e x) s.losses (kept + (x - e)) lost (behind c)
+        kept_same =
+            by_chunk (Ok c) h
+            ∙ ap (joined s.bytes s.losses kept lost) (by_kept c)
+            ∙ joined_keeps film s.bytes s.losses kept lost e x (behind c)
 
-          kept_long : kept + (x - e) ≡ length (s.bytes ++ part film e x)
-          kept_long = omega (arith, s.kept_is, length-append s.bytes (part film e x), part_long)
+        kept_long : kept + (x - e) ≡ length (s.bytes ++ part film e x)
+        kept_long = omega (arith, s.kept_is, length-append s.bytes (part film e x), part_long)
 
-          kept_fits : storing ≡ true → 26 + (kept + (x - e)) ≤ length room₀
-          unfolding joined
-          kept_fits u = omega (arith, q.film_room u, ap (λ (y : Saved). length y.bytes) kept_same, length-append (s.bytes ++ part film e x) (behind c).bytes, kept_long)
+        kept_fits : storing ≡ true → 26 + (kept + (x - e)) ≤ length room₀
+        unfolding joined
+        kept_fits u = omega (arith, q.film_room u, ap (λ (y : Saved). length y.bytes) kept_same, length-append (s.bytes ++ part film e x) (behind c).bytes, kept_long)
 
-          pub kept_room : storing ≡ true → 26 + kept + (x - e) ≤ length room
-          kept_room u = omega (arith, kept_fits u, room_long)
+        pub kept_room : storing ≡ true → 26 + kept + (x - e) ≤ length room
+        kept_room u = omega (arith, kept_fits u, room_long)
 
-          kept_laid : (room' : List ℕ) → room' ≡ cond storing (laid (26 + kept) (part film e x) room) room → room' ≡ cond storing (laid 26 (s.bytes ++ part film e x) room₀) room₀
-          kept_laid room' er =
-              er ∙ ap (λ (r : List ℕ). cond storing (laid (26 + kept) (part film e x) r) r) s.room_is
-              ∙ stored_then storing 26 s.bytes (part film e x) room₀ (26 + kept) (ap (λ (i : ℕ). 26 + i) s.kept_is) (λ u. omega (arith, kept_fits u))
+        kept_laid : (room' : List ℕ) → room' ≡ cond storing (laid (26 + kept) (part film e x) room) room → room' ≡ cond storing (laid 26 (s.bytes ++ part film e x) room₀) room₀
+        kept_laid room' er =
+            er ∙ ap (λ (r : List ℕ). cond storing (laid (26 + kept) (part film e x) r) r) s.room_is
+            ∙ stored_then storing 26 s.bytes (part film e x) room₀ (26 + kept) (ap (λ (i : ℕ). 26 + i) s.kept_is) (λ u. omega (arith, kept_fits u))
 
-          pub kept_room_long : (room' : List ℕ) → room' ≡ cond storing (laid (26 + kept) (part film e x) room) room → length room' ≡ length room₀
-          kept_room_long room' er = ap length (kept_laid room' er) ∙ stored_length storing 26 (s.bytes ++ part film e x) room₀ (λ u. omega (arith, kept_fits u, kept_long))
+        pub pass_closed : c ≡ true → (room' : List ℕ) → room' ≡ cond storing (laid (26 + kept) (part film e x) room) room
+            → Passed storing film room₀ list₀ (record { stop = Behind00; kept = kept + (x - e); lost = lost; left_out = left; rest = length film - x }) room' list
+        unfolding behind
+        pass_closed u room' er =
+            passed_by Behind00 (s.bytes ++ part film e x) s.losses (kept + (x - e)) lost left (length film - x) room' list
+            (kept_same ∙ ap (λ (b : Bool). joined (s.bytes ++ part film e x) s.losses (kept + (x - e)) lost (behind b)) u) kept_long s.left_is (kept_laid room' er) s.list_is
 
-          pub pass_closed : c ≡ true → (room' : List ℕ) → room' ≡ cond storing (laid (26 + kept) (part film e x) room) room
-              → (r : Walked) → r ≡ walked_of Behind00 (kept + (x - e)) lost left (length film - x) → Passed storing film room₀ list₀ r room' list
-          unfolding behind
-          pass_closed u room' er r z =
-              passed_by Behind00 (s.bytes ++ part film e x) s.losses (kept + (x - e)) lost left (length film - x) room' list r z
-              (kept_same ∙ ap (λ (b : Bool). joined (s.bytes ++ part film e x) s.losses (kept + (x - e)) lost (behind b)) u) kept_long s.left_is (kept_laid room' er) s.list_is
-
-          pub saving_kept : c ≡ false → (room' : List ℕ) → room' ≡ cond storing (laid (26 + kept) (part film e x) room) room → Saving storing film room₀ list₀ x (kept + (x - e)) lost left room' list
-          unfolding behind
-          saving_kept u room' er =
-              record {
-                turns = s.turns - 1;
-                bytes = s.bytes ++ part film e x;
-                losses = s.losses;
-                enough = omega (arith, chunk_ends, s.enough);
-                within = chunk_ends.1;
-                kept_is = kept_long;
-                left_is = s.left_is;
-                room_is = kept_laid room' er;
-                list_is = s.list_is;
-                count = omega (arith, chunk_ends, s.count);
-                few = omega (arith, chunk_ends, s.few);
-                same = kept_same ∙ ap (λ (b : Bool). joined (s.bytes ++ part film e x) s.losses (kept + (x - e)) lost (behind b)) u;
-              }
+        pub saving_kept : c ≡ false → (room' : List ℕ) → room' ≡ cond storing (laid (26 + kept) (part film e x) room) room → Saving storing film room₀ list₀ x (kept + (x - e)) lost left room' list
+        unfolding behind
+        saving_kept u room' er =
+            record {
+              turns = s.turns - 1;
+              bytes = s.bytes ++ part film e x;
+              losses = s.losses;
+              enough = omega (arith, chunk_ends, s.enough);
+              within = chunk_ends.1;
+              kept_is = kept_long;
+              left_is = s.left_is;
+              room_is = kept_laid room' er;
+              list_is = s.list_is;
+              count = omega (arith, chunk_ends, s.count);
+              few = omega (arith, chunk_ends, s.few);
+              same = kept_same ∙ ap (λ (b : Bool). joined (s.bytes ++ part film e x) s.losses (kept + (x - e)) lost (behind b)) u;
+            }

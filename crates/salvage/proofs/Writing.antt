@@ -1,5 +1,6 @@
 -- The call: measured, refused 19, or written with its header and its end chunk.
 -- Assumes nothing.
+use Rattle.std.specs.Prelude.{Result, Ok, Err}
 use mathlib.Core.Path.{◌≡◌, refl, sym, ap, ◌∙◌}
 use mathlib.Core.Bool.{true, false}
 use mathlib.Core.List.{List, [], ◌∷◌, ◌++◌, append_assoc}
@@ -15,14 +16,11 @@ use Rattle.room.specs.Room.{written}
 use Rattle.room.proofs.Written.{written_none}
 use Rattle.parts.specs.Parts.{part, laid}
 use Rattle.parts.proofs.Laying.{laid_behind, laid_none, laid_length, laid_then}
-use Rattle.opening.specs.declared.Opened.{Opened}
-use Rattle.opening.specs.declared.Opened.TheVariants as opened
 use Rattle.state.specs.declared.State.{State}
 use Rattle.opening.specs.Opening as opening
 use Rattle.opening.specs.Opening.{Opening, opened_as, opening_of}
 use Rattle.salvage.specs.declared.Walked.{Walked}
 use Rattle.salvage.specs.declared.Salvaged.{Salvaged}
-use Rattle.salvage.specs.declared.Salvaged.TheVariants.{Written, Refused}
 use Rattle.salvage.specs.Salvage.{Stop, at_end, behind_00, by_2, saved, closing, new_film, numbers_of, headed, room_verdict, answer_by, written_by, answer_of, bytes_after, numbers_after, stop_as, answer_as}
 use Rattle.salvage.specs.Asked.{Roomy, Passed, Wrote}
 use Rattle.salvage.proofs.Sums.{sums, few_losses, has_header}
@@ -96,7 +94,7 @@ module _ (film room₀ list₀ : List ℕ) (h : 26 ≤ length film) (w : Walked)
   numbers : 3 * w.left_out ≡ length (numbers_of (saved film).losses)
   numbers = ap (λ (n : ℕ). 3 * n) p.left_out_count ∙ sym (numbers_length (saved film).losses)
 
-  pub wrote_short : length room₁ < 26 + w.kept + cl → Wrote film room₀ list₀ (Refused Room) room₁ list₁
+  pub wrote_short : length room₁ < 26 + w.kept + cl → Wrote film room₀ list₀ (Err Room) room₁ list₁
   unfolding room_verdict answer_by written_by
   wrote_short l =
       let q : length room₀ < length (new_film film) = omega (arith, ap length p.room_after, need) in
@@ -106,7 +104,7 @@ module _ (film room₀ list₀ : List ℕ) (h : 26 ≤ length film) (w : Walked)
     enough : length (new_film film) ≤ length room₀
     enough = omega (arith, ap length p.room_after, need)
 
-    pub wrote_unlisted : length list₁ < 3 * w.left_out → Wrote film room₀ list₀ (Refused Room) room₁ list₁
+    pub wrote_unlisted : length list₁ < 3 * w.left_out → Wrote film room₀ list₀ (Err Room) room₁ list₁
     unfolding room_verdict answer_by written_by
     wrote_unlisted k =
         let q : length list₀ < length (numbers_of (saved film).losses) = omega (arith, ap length p.list_after, numbers) in
@@ -126,10 +124,7 @@ module _ (film room₀ list₀ : List ℕ) (h : 26 ≤ length film) (w : Walked)
         chunks : room₃ ≡ written (take 26 film ++ (saved film).bytes) room₀
         chunks = t.room_after ∙ laid_behind (take 26 film) (saved film).bytes room₀ room₂ 26 headed_room (sym head_long)
 
-        pub closing_fits : length room₃ ≡ length room₂ → 26 + w.kept + length (closing (stop_as w.stop)) ≤ length room₃
-        closing_fits z = omega (arith, room_is_long, ec)
-
-        pub wrote : (room₄ : List ℕ) → room₄ ≡ laid (26 + w.kept) (closing (stop_as w.stop)) room₃ → Wrote film room₀ list₀ (Written (26 + w.kept + cl) w) room₄ list₂
+        pub wrote : (room₄ : List ℕ) → room₄ ≡ laid (26 + w.kept) (closing (stop_as w.stop)) room₃ → Wrote film room₀ list₀ (Ok (record { bytes = 26 + w.kept + cl; walked = w })) room₄ list₂
         unfolding room_verdict answer_by written_by
         wrote room₄ e₄ =
             let q : length (numbers_of (saved film).losses) ≤ length list₀ = omega (arith, ap length p.list_after, numbers) in
@@ -145,22 +140,22 @@ module _ (film room₀ list₀ : List ℕ) (h : 26 ≤ length film) (w : Walked)
 
 -- ---- any film
 
-opens_as : (film : List ℕ) (x : Opened) → opened_as x ≡ opening_of film 16 → (st : State) → x ≡ opened.First st → opening_of film 16 ≡ opening.started st
+opens_as : (film : List ℕ) (x : Result State Refusal) → opened_as x ≡ opening_of film 16 → (st : State) → x ≡ Ok st → opening_of film 16 ≡ opening.started st
 opens_as film x e st q = sym e ∙ ap opened_as q
 
-pub header_there : (film : List ℕ) (x : Opened) → opened_as x ≡ opening_of film 16 → (st : State) → x ≡ opened.First st → 26 ≤ length film
+pub header_there : (film : List ℕ) (x : Result State Refusal) → opened_as x ≡ opening_of film 16 → (st : State) → x ≡ Ok st → 26 ≤ length film
 unfolding headed
 header_there film x e st q = has_header film accept (rw (opens_as film x e st q))
 
-module _ (film room₀ list₀ : List ℕ) (x : Opened) (e : opened_as x ≡ opening_of film 16) where
-  pub refused_1 : (r : Refusal) → x ≡ opened.Refused r
-      → (answer_as (Refused r) ≡ answer_of film (length room₀) (length list₀)) × (room₀ ≡ bytes_after film room₀ (length list₀)) × (list₀ ≡ numbers_after film (length room₀) list₀)
+module _ (film room₀ list₀ : List ℕ) (x : Result State Refusal) (e : opened_as x ≡ opening_of film 16) where
+  pub refused_1 : (r : Refusal) → x ≡ Err r
+      → (answer_as (Err r) ≡ answer_of film (length room₀) (length list₀)) × (room₀ ≡ bytes_after film room₀ (length list₀)) × (list₀ ≡ numbers_after film (length room₀) list₀)
   unfolding headed answer_by written_by
   refused_1 r q =
       let o : opening_of film 16 ≡ opening.refuses (number r) (block r) = sym e ∙ ap opened_as q in
       (rw o, rw o, rw o)
 
-  pub all_told : (st : State) → x ≡ opened.First st → (r : Salvaged) (room list : List ℕ) → Wrote film room₀ list₀ r room list
+  pub all_told : (st : State) → x ≡ Ok st → (r : Result Salvaged Refusal) (room list : List ℕ) → Wrote film room₀ list₀ r room list
       → (answer_as r ≡ answer_of film (length room₀) (length list₀)) × (room ≡ bytes_after film room₀ (length list₀)) × (list ≡ numbers_after film (length room₀) list₀)
   unfolding headed
   all_told st q r room list w = let o = opens_as film x e st q in (rw o w.answer, rw o w.room_after, rw o w.list_after)

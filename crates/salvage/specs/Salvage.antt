@@ -1,6 +1,7 @@
 -- What is left of a scratched film (document 02, W13). A chunk is kept where no opcode of it is refused 3, 4 or 5, else it is left out and listed.
 -- Assumes nothing.
-use Rattle.std.specs.Prelude.{true, false, cond, List, [], ◌∷◌, ◌++◌, ℕ, zero, suc, ◌+◌, ◌-◌, ltb, length, take}
+use Rattle.std.specs.Prelude.{true, false, cond, Result, Ok, Err, List, [], ◌∷◌, ◌++◌, ℕ, zero, suc, ◌+◌, ◌-◌, ltb, length, take}
+use Rattle.refusal.specs.declared.Refusal.{Refusal}
 use Rattle.refusal.specs.Number.{Verdict, accept, refuse, number, block}
 use Rattle.room.specs.Room.{written}
 use Rattle.parts.specs.Parts.{part}
@@ -10,7 +11,6 @@ use Rattle.chunks.specs.Chunks.{intact, scratched, Following, film_end, past_end
 use Rattle.salvage.specs.declared.Stopped.{Stopped}
 use Rattle.salvage.specs.declared.Stopped.TheVariants.{AtEnd, Behind00, By2}
 use Rattle.salvage.specs.declared.Salvaged.{Salvaged}
-use Rattle.salvage.specs.declared.Salvaged.TheVariants.{Written, Refused}
 
 -- ---- the walk
 
@@ -139,6 +139,15 @@ stop_as AtEnd = at_end
 stop_as Behind00 = behind_00
 stop_as By2 = by_2
 
-abbrev pub answer_as : Salvaged → SalvageAnswer
-answer_as (Written bytes w) = writes (record { bytes = bytes; stop = stop_as w.stop; kept = w.kept; lost = w.lost; left_out = w.left_out; rest = w.rest })
-answer_as (Refused r) = not_salvaged (number r) (block r)
+abbrev pub answer_as : Result Salvaged Refusal → SalvageAnswer
+answer_as (Ok s) =
+    writes
+    (record {
+      bytes = s.bytes;
+      stop = stop_as s.walked.stop;
+      kept = s.walked.kept;
+      lost = s.walked.lost;
+      left_out = s.walked.left_out;
+      rest = s.walked.rest;
+    })
+answer_as (Err r) = not_salvaged (number r) (block r)

@@ -4,16 +4,16 @@
 ghost use Rattle.std.specs.Prelude.{◌≡◌, true, cond, ◌+◌, ◌-◌, ◌*◌, ◌≤◌, length, set};
 ghost use Rattle.parts.specs.Parts.{laid};
 ghost use Rattle.salvage.specs.Salvage.{closing, stop_as, answer_as, answer_of, bytes_after, numbers_after};
-ghost use Rattle.salvage.specs.Asked.{walked_of, Roomy, Passed, Wrote};
+ghost use Rattle.salvage.specs.Asked.{stopped, Roomy, Passed, Wrote};
 
-use chunks::{Ahead, Tested, look_ahead};
-use opening::{Opened, open};
+use chunks::{Ahead, look_ahead};
+use opening::open;
 use parts::{copy_part, keep_part, put_number, put_run};
-use refusal::{Refusal, number_of};
+use refusal::Refusal;
 use words::wide;
 
 // How the walk over chunks stops: at the film's end, behind a kept chunk with 00, or at refusal 2.
-#[derive(Clone, Copy)]
+#[derive(Clone, Copy, PartialEq, Eq, Debug)]
 pub enum Stopped {
     AtEnd,
     Behind00,
@@ -30,22 +30,32 @@ pub struct Walked {
     pub rest: usize,
 }
 
-// Written: the length of the new film, and what the walk counted.
+// bytes: the length of the new film.
 #[derive(Clone, Copy)]
-pub enum Salvaged {
-    Written(usize, Walked),
-    Refused(Refusal),
+pub struct Salvaged {
+    pub bytes: usize,
+    pub walked: Walked,
 }
 
-fn counted(stop: Stopped, kept: usize, lost: usize, left_out: usize, rest: usize) -> Walked
-    ensures { result ≡ walked_of stop kept lost left_out rest }
-{
-    Walked {
-        stop,
-        kept,
-        lost,
-        left_out,
-        rest,
+impl Walked {
+    // With all that was walked counted: how the walk stopped, and what it left.
+    fn stopped(self, stop: Stopped, rest: usize) -> Walked
+        ensures { result ≡ stopped self stop rest }
+    {
+        Walked { stop, rest, ..self }
+    }
+}
+
+impl Stopped {
+    // The bytes of the end chunk, where there is one.
+    #[tactic(auto, unfolding(crate::specs::Salvage::closing))]
+    fn closing(self) -> usize
+        ensures { result ≡ length (closing (stop_as self)) }
+    {
+        match self {
+            Stopped::Behind00 => 0,
+            Stopped::AtEnd | Stopped::By2 => 8,
+        }
     }
 }
 
@@ -61,49 +71,39 @@ fn leave_out(storing: bool, list: &mut [usize], at: usize, a: usize, b: usize, c
     }
 }
 
-// The walk over chunks, which stores behind the header, or only measures.
+// The walk over chunks, which stores behind the header, or only measures. A loop, since a turn goes on by a chunk.
 fn walk(film: &[u8], storing: bool, room: &mut [u8], list: &mut [usize]) -> Walked
     requires { Roomy storing film.now (length room.old) (length list.old) }
     ensures { Passed storing film.now room.old list.old result room.new list.new }
 {
     let mut e = 26;
-    let mut kept = 0;
-    let mut lost = 0;
-    let mut left = 0;
+    let mut w = Walked {
+        stop: Stopped::AtEnd,
+        kept: 0,
+        lost: 0,
+        left_out: 0,
+        rest: 0,
+    };
     loop {
-        let found = look_ahead(film, e);
-        match found {
-            Ahead::FilmEnd => return counted(Stopped::AtEnd, kept, lost, left, film.len() - e),
-            Ahead::PastEnd => return counted(Stopped::By2, kept, lost, left, film.len() - e),
-            Ahead::ChunkTo(end, tested) => match tested {
-                Tested::Scratched(r) => {
-                    let number = wide(number_of(r));
-                    leave_out(storing, list, 3 * left, e, end - (e + 4), number);
-                    left += 1;
-                    lost += end - e;
-                    e = end;
+        match look_ahead(film, e) {
+            Ahead::FilmEnd => return w.stopped(Stopped::AtEnd, film.len() - e),
+            Ahead::PastEnd => return w.stopped(Stopped::By2, film.len() - e),
+            Ahead::ChunkTo(end, Err(r)) => {
+                let number = wide(r.number());
+                leave_out(storing, list, 3 * w.left_out, e, end - (e + 4), number);
+                w.left_out += 1;
+                w.lost += end - e;
+                e = end;
+            }
+            Ahead::ChunkTo(end, Ok(closed)) => {
+                keep_part(storing, room, 26 + w.kept, film, e, end);
+                w.kept += end - e;
+                if closed {
+                    return w.stopped(Stopped::Behind00, film.len() - end);
                 }
-                Tested::Intact(closed) => {
-                    keep_part(storing, room, 26 + kept, film, e, end);
-                    kept += end - e;
-                    if closed {
-                        return counted(Stopped::Behind00, kept, lost, left, film.len() - end);
-                    }
-                    e = end;
-                }
-            },
+                e = end;
+            }
         }
-    }
-}
-
-// The bytes of the end chunk, where there is one.
-fn closing_length(stop: Stopped) -> usize
-    ensures { result ≡ length (closing (stop_as stop)) }
-{
-    match stop {
-        Stopped::Behind00 => 0,
-        Stopped::AtEnd => 8,
-        Stopped::By2 => 8,
     }
 }
 
@@ -112,7 +112,7 @@ fn put_closing(room: &mut [u8], at: usize, stop: Stopped)
     requires { at + length (closing (stop_as stop)) ≤ length room.old }
     ensures { room.new ≡ laid at (closing (stop_as stop)) room.old }
 {
-    if closing_length(stop) == 8 {
+    if stop.closing() == 8 {
         put_run(room, at, 1, 4);
         put_run(room, at + 1, 1, 0);
         put_run(room, at + 2, 1, 5);
@@ -121,34 +121,28 @@ fn put_closing(room: &mut [u8], at: usize, stop: Stopped)
 }
 
 // What is left of a film that has its header.
-fn save(film: &[u8], room: &mut [u8], list: &mut [usize]) -> Salvaged
+fn save(film: &[u8], room: &mut [u8], list: &mut [usize]) -> Result<Salvaged, Refusal>
     requires { 26 ≤ length film.now }
     ensures { Wrote film.now room.old list.old result room.new list.new }
 {
-    let w = walk(film, false, room, list);
-    let stop = w.stop;
-    let at = 26 + w.kept;
-    let bytes = at + closing_length(stop);
-    if room.len() < bytes {
-        return Salvaged::Refused(Refusal::Room);
-    }
-    if list.len() < 3 * w.left_out {
-        return Salvaged::Refused(Refusal::Room);
+    let walked = walk(film, false, room, list);
+    let at = 26 + walked.kept;
+    let bytes = at + walked.stop.closing();
+    if room.len() < bytes || list.len() < 3 * walked.left_out {
+        return Err(Refusal::Room);
     }
     copy_part(room, 0, film, 0, 26);
     walk(film, true, room, list);
-    put_closing(room, at, stop);
-    Salvaged::Written(bytes, w)
+    put_closing(room, at, walked.stop);
+    Ok(Salvaged { bytes, walked })
 }
 
 // The new film to the room and three numbers for every chunk left out to the list: the position of its head, its length word, and the refusal first met in it.
-pub fn salvage(film: &[u8], room: &mut [u8], list: &mut [usize]) -> Salvaged
+pub fn salvage(film: &[u8], room: &mut [u8], list: &mut [usize]) -> Result<Salvaged, Refusal>
     ensures result_value { answer_as result ≡ answer_of film.now (length room.old) (length list.old) }
     ensures room_after { room.new ≡ bytes_after film.now room.old (length list.old) }
     ensures list_after { list.new ≡ numbers_after film.now (length room.old) list.old }
 {
-    match open(film, 16) {
-        Opened::Refused(r) => Salvaged::Refused(r),
-        Opened::First(_) => save(film, room, list),
-    }
+    open(film, 16)?;
+    save(film, room, list)
 }

@@ -6,7 +6,8 @@ use mathlib.Core.List.{List, []}
 use Prim.Native.Nat.{ℕ, ◌*◌, ◌≤◌}
 use native.Mathlib.Omega.{arith}
 use borrow.Author.Tests.{ltb-false}
-use lib.ListN.{length, drop, length-replicate}
+use lib.ListN.{length, drop}
+use Rattle.std.specs.Prelude.{Option, Some, None}
 use Rattle.words.specs.Word.{word_at}
 use Rattle.words.proofs.Tests.{first, not_first}
 use Rattle.room.proofs.Written.{written_front, written_rest}
@@ -15,9 +16,8 @@ use Rattle.sound.specs.Step.{Step, taken, room_after, even, sample_bytes, within
 use Rattle.sound.specs.Sound.{of_format, of_mask, audio_data, audio_silence}
 use Rattle.sound.specs.Kept.{Counted, Kept}
 use Rattle.sound.specs.declared.Format.{Format}
-use Rattle.sound.specs.declared.Format.TheVariants.{Unknown, Known}
 use Rattle.sound.specs.declared.Sound.{Sound}
-use Rattle.sound.proofs.Packets.{output_length, silence_bytes}
+use Rattle.sound.proofs.Packets.{output_length, silence_length}
 use Rattle.sound.proofs.Row.{refused_taken, same_taken, took}
 
 -- ---- the bytes written are count times the bytes of a sample, and the room holds them
@@ -54,7 +54,7 @@ silence_counted s stereo wide compressed count room =
       count =
           λ t out e.
           let a = silenced s stereo wide compressed count room t out e in
-          ap length (sym a.written ∙ silence_bytes wide compressed count (sample_bytes wide compressed) refl) ∙ length-replicate (count * sample_bytes wide compressed) _;
+          ap length (sym a.written) ∙ silence_length wide compressed count;
       fits = λ t out e. (silenced s stereo wide compressed count room t out e).fits;
     }
 
@@ -73,10 +73,10 @@ kept_if step room h =
 -- a packet that is masked out writes nothing, and one without a format is refused; else it is as the step of its format
 module _ (step : Bool → Bool → Bool → Step) (room : ℕ) (t : Sound) (bytes : List ℕ)
     (h : (stereo wide compressed : Bool) → step stereo wide compressed ≡ taken t bytes → length bytes ≤ room) where
-  format_fits : (f : Format) → of_format f step ≡ taken t bytes → length bytes ≤ room
+  format_fits : (f : Option Format) → of_format f step ≡ taken t bytes → length bytes ≤ room
   unfolding of_format
-  format_fits Unknown e = absurd (refused_taken 17 0 t bytes e)
-  format_fits (Known stereo wide compressed) e = h stereo wide compressed e
+  format_fits None e = absurd (refused_taken 17 0 t bytes e)
+  format_fits (Some f) e = h f.stereo f.wide f.compressed e
 
   choice_fits : (s : Sound) (b : Bool) → cond b (of_format s.format step) (taken s []) ≡ taken t bytes → length bytes ≤ room
   choice_fits s true e = format_fits s.format e
@@ -110,19 +110,20 @@ silence_kept s body room =
 
 -- ---- of the opcodes: the count word of the body and the format that is kept
 
-of_format_lem : (f : Format) (a b c : Bool) (step : Bool → Bool → Bool → Step) (n room : ℕ) → f ≡ Known a b c → Counted (step a b c) n room → Counted (of_format f step) n room
+of_format_lem : (f : Option Format) (g : Format) (step : Bool → Bool → Bool → Step) (n room : ℕ) → f ≡ Some g → Counted (step g.stereo g.wide g.compressed) n room
+    → Counted (of_format f step) n room
 unfolding of_format
-of_format_lem f a b c step n room e k = rw e k
+of_format_lem f g step n room e k = rw e k
 
-module _ (s : Sound) (body : List ℕ) (room : ℕ) (stereo wide compressed : Bool) (m : masked s.stream (word_at body 2) ≡ true) (f : s.format ≡ Known stereo wide compressed) where
-  pub audio_counted : Counted (audio_data s body room) (word_at body 4 * sample_bytes wide compressed) room
+module _ (s : Sound) (body : List ℕ) (room : ℕ) (g : Format) (m : masked s.stream (word_at body 2) ≡ true) (f : s.format ≡ Some g) where
+  pub audio_counted : Counted (audio_data s body room) (word_at body 4 * sample_bytes g.wide g.compressed) room
   unfolding audio_data of_mask
   audio_counted =
       rw m
-      (of_format_lem s.format stereo wide compressed _ _ room f (data_counted s stereo wide compressed (word_at body 4) (drop 6 body) room))
+      (of_format_lem s.format g _ _ room f (data_counted s g.stereo g.wide g.compressed (word_at body 4) (drop 6 body) room))
 
-  pub silent_counted : Counted (audio_silence s body room) (word_at body 4 * sample_bytes wide compressed) room
+  pub silent_counted : Counted (audio_silence s body room) (word_at body 4 * sample_bytes g.wide g.compressed) room
   unfolding audio_silence of_mask
   silent_counted =
       rw m
-      (of_format_lem s.format stereo wide compressed _ _ room f (silence_counted s stereo wide compressed (word_at body 4) room))
+      (of_format_lem s.format g _ _ room f (silence_counted s g.stereo g.wide g.compressed (word_at body 4) room))

@@ -1,6 +1,5 @@
-pub mod Formats
 pub mod Packets
-pub mod Outcome
 pub mod Row
 pub mod Kept
+pub mod Outcome
 pub mod Dropped

@@ -3,11 +3,11 @@
 use mathlib.Core.Path.{◌≡◌, refl, sym, ap, ◌∙◌}
 use mathlib.Core.Bool.{Bool, true, false, cond}
 use mathlib.Core.List.{List, ◌∷◌}
-use Prim.Native.Nat.{ℕ, zero, suc, ◌+◌, ◌*◌, ◌-◌, ◌≤◌, ◌<◌}
+use Prim.Native.Nat.{ℕ, zero, suc, ◌+◌, ◌*◌, ◌-◌, ◌≤◌}
 use native.Mathlib.Omega.{arith}
-use borrow.Author.Tests.{le-leb, lt-leb, leb-true, eqb-true}
+use borrow.Author.Tests.{leb-true, eqb-true}
 use lib.Dec.{eqb}
-use lib.ListN.{length, replicate}
+use lib.ListN.{length, replicate, length-replicate}
 use Rattle.words.proofs.Tests.{first}
 use Rattle.dpcm.specs.Samples.{bytes_of}
 use Rattle.dpcm.specs.Packet.{channels, packet_samples}
@@ -21,23 +21,6 @@ pub not_true : false ≡ true → ⊥
 not_true e = let z : ◌≡◌ {A = ℕ} 0 1 = cc in omega arith
 
 -- ---- the length of the data
-
-module _ (stereo wide compressed begun : Bool) (count bytes : ℕ) where
-  pub exact_later : compressed ≡ true → begun ≡ true → eqb bytes count ≡ exact stereo wide compressed begun count bytes
-  unfolding exact
-  exact_later c b = rw (c, b)
-
-  pub exact_first : (m : ℕ) → compressed ≡ true → begun ≡ false → m ≡ channels stereo → m ≤ count → eqb bytes (2 * m + (count - m)) ≡ exact stereo wide compressed begun count bytes
-  unfolding exact
-  exact_first m c b e h = let g : channels stereo ≤ count = rw e at h in rw (c, b, le-leb (channels stereo) count g, e)
-
-  pub exact_short : (m : ℕ) → compressed ≡ true → begun ≡ false → m ≡ channels stereo → count < m → false ≡ exact stereo wide compressed begun count bytes
-  unfolding exact
-  exact_short m c b e h = let g : count < channels stereo = rw e at h in rw (c, b, lt-leb (channels stereo) count g)
-
-  pub exact_plain : (each : ℕ) → compressed ≡ false → each ≡ sample_bytes wide false → eqb bytes (count * each) ≡ exact stereo wide compressed begun count bytes
-  unfolding exact
-  exact_plain each c e = rw (c, e)
 
 -- data of the right length, by the kind of packet
 pub data Exact (stereo wide : Bool) (count bytes : ℕ) : Bool → Bool → Type 0 where
@@ -64,12 +47,6 @@ writable stereo wide true false count bytes room (start g e) h =
 writable stereo wide false begun count bytes room (plain e) h =
     record { packet = λ t. absurd (not_true t); copied = λ t. omega arith }
 
--- the same by the tests of a step
-pub may_write : (stereo wide compressed begun : Bool) (count bytes room : ℕ) (t : Bool) (each : ℕ) → t ≡ exact stereo wide compressed begun count bytes → t ≡ true
-    → each ≡ sample_bytes wide compressed → count * each ≤ room → Writable stereo compressed begun bytes room
-may_write stereo wide compressed begun count bytes room t each e h k l =
-    writable stereo wide compressed begun count bytes room (exact_data stereo wide compressed begun count bytes (sym e ∙ h)) (rw k at l)
-
 -- the bytes written are count times the bytes of a sample
 pub output_length : (s : Sound) (stereo wide compressed : Bool) (count : ℕ) (bytes : List ℕ) → Exact stereo wide count (length bytes) compressed s.begun
     → length (output s stereo compressed bytes) ≡ count * sample_bytes wide compressed
@@ -93,3 +70,6 @@ unfolding sample_bytes silence
 silence_bytes wide true count each e = rw e (zeros count)
 silence_bytes true false count each e = rw e (zeros count)
 silence_bytes false false count each e = let q : count * 1 ≡ count = omega arith in rw (e, q) refl
+
+pub silence_length : (wide compressed : Bool) (count : ℕ) → length (silence (sample_bytes wide compressed) count) ≡ count * sample_bytes wide compressed
+silence_length wide compressed count = ap length (silence_bytes wide compressed count (sample_bytes wide compressed) refl) ∙ length-replicate (count * sample_bytes wide compressed) _

@@ -1,15 +1,14 @@
 -- Opcodes 03, 08 and 09 (document 02, W5), for the stream that opening was given: what each comes to, and the answer.
 -- Assumes nothing.
-use Rattle.std.specs.Prelude.{Bool, cond, List, [], ℕ, length, drop}
+use Rattle.std.specs.Prelude.{Bool, cond, Option, Some, None, Result, Ok, Err, List, [], ℕ, length, drop}
 use Rattle.words.specs.Word.{word_at}
 use Rattle.refusal.specs.Number.{number, block}
+use Rattle.refusal.specs.declared.Refusal.{Refusal}
 use Rattle.sound.specs.Format.{masked, format_of, possible_format, afresh}
 use Rattle.sound.specs.Step.{Step, taken, refused, data_step, silence_step}
 use Rattle.sound.specs.declared.Format.{Format}
-use Rattle.sound.specs.declared.Format.TheVariants.{Unknown, Known}
 use Rattle.sound.specs.declared.Sound.{Sound}
 use Rattle.sound.specs.declared.Heard.{Heard}
-use Rattle.sound.specs.declared.Heard.TheVariants.{Taken, Refused}
 
 -- ---- answers
 
@@ -19,9 +18,9 @@ pub data Answer : Type 0 where
   refusal : ℕ → ℕ → Answer
 
 -- document 01's values of each answer
-abbrev pub heard_as : Heard → Answer
-heard_as (Taken s n) = heard s n
-heard_as (Refused r) = refusal (number r) (block r)
+abbrev pub heard_as : Result Heard Refusal → Answer
+heard_as (Ok h) = heard h.sound h.bytes
+heard_as (Err r) = refusal (number r) (block r)
 
 unfoldable pub answer : Step → Answer
 answer (taken s bytes) = heard s (length bytes)
@@ -36,9 +35,9 @@ initialize_audio s version body =
 -- ---- 08 and 09: words index, mask and count, then data
 
 -- 17 before a 03
-unfoldable pub of_format : Format → (Bool → Bool → Bool → Step) → Step
-of_format Unknown step = refused 17 0
-of_format (Known stereo wide compressed) step = step stereo wide compressed
+unfoldable pub of_format : Option Format → (Bool → Bool → Bool → Step) → Step
+of_format None step = refused 17 0
+of_format (Some f) step = step f.stereo f.wide f.compressed
 
 -- a packet whose mask lacks the bit of the chosen stream gets no further test
 unfoldable pub of_mask : Sound → ℕ → (Bool → Bool → Bool → Step) → Step

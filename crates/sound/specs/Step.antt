@@ -1,6 +1,6 @@
 -- Packets of a known format (document 02, W5): 18, then 19; what goes out, and the sound then.
 -- Assumes nothing.
-use Rattle.std.specs.Prelude.{◌≡◌, Bool, true, false, cond, List, ℕ, ◌+◌, ◌*◌, ◌-◌, ◌%◌, ◌≤◌, eqb, ltb, leb, length, replicate}
+use Rattle.std.specs.Prelude.{◌≡◌, Bool, true, false, cond, List, ℕ, ◌+◌, ◌*◌, ◌-◌, ◌%◌, ◌≤◌, ◌<◌, eqb, ltb, leb, length, replicate}
 use Rattle.room.specs.Room.{written}
 use Rattle.dpcm.specs.Samples.{bytes_of}
 use Rattle.dpcm.specs.Packet.{channels, packet_samples, packet_last, Fits}
@@ -65,6 +65,14 @@ data_step s stereo wide compressed count bytes room =
 pub record Writable (stereo compressed begun : Bool) (bytes room : ℕ) : Type 0 where
   pub packet : compressed ≡ true → Fits stereo begun bytes room
   pub copied : compressed ≡ false → bytes ≤ room
+
+-- or the room is empty, and what goes out is dropped
+abbrev pub WritableOrNone : Bool → Bool → Bool → ℕ → ℕ → Type 0
+WritableOrNone stereo compressed begun bytes room = 0 < room → Writable stereo compressed begun bytes room
+
+-- the room has so many bytes, or it is empty
+abbrev pub LongOrNone : ℕ → ℕ → Type 0
+LongOrNone long room = 0 < room → room ≡ long
 
 -- ---- 09
 

@@ -1,9 +1,8 @@
 -- The moves of a cursor and of a state over a film (document 01, "Film, chunks, opcodes"): what comes back of a step that is not refused.
 -- Assumes nothing.
-use Rattle.std.specs.Prelude.{Bool, true, false, cond, ℕ, ◌+◌, eqb}
+use Rattle.std.specs.Prelude.{Bool, true, false, cond, ℕ, ◌+◌, eqb, Option, None}
 use Rattle.state.specs.declared.Cursor.{Cursor}
-use Rattle.state.specs.declared.Map.{Map}
-use Rattle.state.specs.declared.Map.TheVariants.{Missing}
+use Rattle.state.specs.declared.Part.{Part}
 use Rattle.sound.specs.declared.Sound.{Sound}
 use Rattle.state.specs.declared.State.{State}
 
@@ -28,7 +27,7 @@ cursor_at_end c film = cursor film film
 
 -- with another cursor, and all else as it was
 unfoldable pub at : State → Cursor → State
-at st c = record { cursor = c; columns = st.columns; rows = st.rows; deep = st.deep; front = st.front; map = st.map; unsent = st.unsent; sound = st.sound }
+at st c = record st { cursor = c }
 
 -- behind an opcode
 abbrev pub behind : State → ℕ → State
@@ -44,8 +43,7 @@ at_end st film = at st (cursor_at_end st.cursor film)
 
 -- 05: with a size, and whether with true colour
 unfoldable pub sized : State → ℕ → ℕ → ℕ → Bool → State
-sized st p columns rows deep =
-    record { cursor = cursor_behind st.cursor p; columns = columns; rows = rows; deep = deep; front = st.front; map = st.map; unsent = st.unsent; sound = st.sound }
+sized st p columns rows deep = record st { cursor = cursor_behind st.cursor p; columns = columns; rows = rows; deep = deep }
 
 -- if a frame is finished and unsent, front and back change roles, or, with true colour, front becomes the next of three; otherwise nothing does
 unfoldable pub shown_next : Bool → Bool → ℕ → ℕ
@@ -53,20 +51,16 @@ shown_next deep unsent front = cond unsent (cond (eqb front 0) 1 (cond deep (con
 
 -- 07: nothing is then unsent
 unfoldable pub sent : State → ℕ → State
-sent st p =
-    record { cursor = cursor_behind st.cursor p; columns = st.columns; rows = st.rows; deep = st.deep; front = shown_next st.deep st.unsent st.front; map = st.map; unsent = false; sound = st.sound }
+sent st p = record st { cursor = cursor_behind st.cursor p; front = shown_next st.deep st.unsent st.front; unsent = false }
 
 -- 0F: with this pending map
-unfoldable pub mapped : State → ℕ → Map → State
-mapped st p map =
-    record { cursor = cursor_behind st.cursor p; columns = st.columns; rows = st.rows; deep = st.deep; front = st.front; map = map; unsent = st.unsent; sound = st.sound }
+unfoldable pub mapped : State → ℕ → Option Part → State
+mapped st p map = record st { cursor = cursor_behind st.cursor p; map = map }
 
 -- 03, 08, 09 where a stream is chosen: with the sound that comes of them
 unfoldable pub heard : State → ℕ → Sound → State
-heard st p sound =
-    record { cursor = cursor_behind st.cursor p; columns = st.columns; rows = st.rows; deep = st.deep; front = st.front; map = st.map; unsent = st.unsent; sound = sound }
+heard st p sound = record st { cursor = cursor_behind st.cursor p; sound = sound }
 
 -- 11, drawn whole: the map is used up, and a frame is finished and unsent
 unfoldable pub finished : State → ℕ → State
-finished st p =
-    record { cursor = cursor_behind st.cursor p; columns = st.columns; rows = st.rows; deep = st.deep; front = st.front; map = Missing; unsent = true; sound = st.sound }
+finished st p = record st { cursor = cursor_behind st.cursor p; map = None; unsent = true }

@@ -1,12 +1,11 @@
 -- The state of a walk over a film, the tests of a state (16) and of what is lent (8), and the shown picture (document 01, "Film, chunks, opcodes").
 -- Assumes nothing.
-use Rattle.std.specs.Prelude.{Bool, true, false, cond, List, [], ℕ, ◌+◌, eqb, leb, ltb, length, take}
+use Rattle.std.specs.Prelude.{Bool, true, false, cond, List, [], ℕ, ◌+◌, eqb, leb, ltb, length, take, Option, Some, None}
 use Rattle.refusal.specs.Number.{Verdict, accept, refuse}
 use Rattle.packet.specs.Packet.{pixels}
 use Rattle.packet.specs.Verdict.{legal_size}
 use Rattle.sound.specs.Format.{possible_sound}
-use Rattle.state.specs.declared.Map.{Map}
-use Rattle.state.specs.declared.Map.TheVariants.{Missing, Part}
+use Rattle.state.specs.declared.Part.{Part}
 use Rattle.state.specs.declared.State.{State}
 
 -- ---- 16
@@ -19,10 +18,14 @@ most_front deep = cond deep 2 1
 unfoldable pub possible_size : Bool → ℕ → ℕ → Bool
 possible_size deep columns rows = cond (eqb columns 0) (cond deep false (eqb rows 0)) (legal_size columns rows)
 
+-- the part that starts here and is this long, pending
+abbrev pub some_part : ℕ → ℕ → Option Part
+some_part start long = Some (record { start = start; long = long })
+
 -- a pending map lies inside a film this long
-unfoldable pub map_inside : Map → ℕ → Bool
-map_inside Missing film = true
-map_inside (Part start long) film = leb (start + long) film
+unfoldable pub map_inside : Option Part → ℕ → Bool
+map_inside None film = true
+map_inside (Some map) film = leb (map.start + map.long) film
 
 -- the size and the sound that a state keeps: no format that is both 8-bit and compressed
 unfoldable pub possible : State → Bool
@@ -59,7 +62,7 @@ lent_verdict pixels palette shortest = cond (eqb palette 768) (cond (ltb shortes
 -- ---- the shown picture
 
 -- the leading part of a list, empty where the list is shorter
-unfoldable pub leading : List ℕ → ℕ → List ℕ
+unfoldable pub leading : {A : Type 0} → List A → ℕ → List A
 leading s n = cond (leb n (length s)) (take n s) (take 0 s)
 
 -- of the picture that is front, 0 or 1

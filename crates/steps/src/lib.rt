@@ -5,6 +5,7 @@
 ghost use Rattle.std.specs.Prelude.{◌≡◌, get_or};
 ghost use Rattle.steps.specs.Steps.{steps};
 
+#[tactic(auto, unfolding(crate::specs::Steps::steps))]
 pub fn step_of(b: u8) -> u16
     ensures { result ≡ get_or steps b 0 }
 {

@@ -1,7 +1,7 @@
 -- A chunk: its opcodes measured, then its head and its opcodes written.
 -- Assumes nothing.
 use mathlib.Core.Path.{◌≡◌, refl, sym, ap, ◌∙◌}
-use mathlib.Core.Bool.{Bool, true, false, cond, not}
+use mathlib.Core.Bool.{Bool, true, false, cond}
 use mathlib.Core.List.{List, [], ◌∷◌, ◌++◌}
 use Prim.Native.Nat.{ℕ, ◌+◌, ◌≤◌}
 use native.Mathlib.Omega.{arith}
@@ -15,14 +15,6 @@ use Rattle.strip.specs.Asked.{Stored, Opcodes, Chunk}
 
 no : false ≡ true → ⊥
 no t = let z : ◌≡◌ {A = ℕ} 0 1 = cc in omega arith
-
-pub unset : (b : Bool) → not b ≡ true → b ≡ false
-unset true e = absurd (no e)
-unset false e = refl
-
-pub set_so : (b : Bool) → not b ≡ false → b ≡ true
-set_so true e = refl
-set_so false e = absurd (no (sym e))
 
 -- nothing is left of an empty body
 left_none : (film : List ℕ) (e : ℕ) (k : List ℕ) → length k ≡ 0 → chunk_left film e k ≡ []

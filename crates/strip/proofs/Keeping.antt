@@ -1,49 +1,22 @@
 -- The opcodes of a chunk that are kept: one, and the loop over all of them.
 -- Assumes nothing.
 use mathlib.Core.Path.{◌≡◌, refl, sym, ap, ◌∙◌}
-use mathlib.Core.Bool.{Bool, true, false, cond, not}
+use mathlib.Core.Bool.{Bool, true, false, cond}
 use mathlib.Core.List.{List, [], ◌∷◌, ◌++◌, append-nil, append_assoc}
 use Prim.Native.Nat.{ℕ, zero, suc, ◌+◌, ◌-◌, ◌/◌, ◌%◌, ◌≤◌, ◌<◌}
 use native.Mathlib.Omega.{arith}
 use borrow.Author.Tests.{eq-eqb, ne_eqb}
 use lib.ListN.{length, get_or, replicate, length-append}
-use Rattle.words.specs.Word.{word_at}
-use Rattle.refusal.specs.declared.Refusal.{Refusal}
 use Rattle.parts.specs.Parts.{part, laid}
 use Rattle.parts.proofs.Laying.{laid_then, stored_none, stored_length, stored_then}
 use Rattle.parts.proofs.Parts.{part_length, part_two}
-use Rattle.sound.specs.Format.{chosen, masked}
-use Rattle.state.specs.declared.Cursor.{Cursor}
 use Rattle.state.specs.Moves.{cursor, cursor_behind}
 use Rattle.heads.specs.declared.Opcode.{Opcode}
-use Rattle.heads.specs.Heads.{hears, is_sound, passed_over}
-use Rattle.next.specs.declared.Next.{Next}
-use Rattle.next.specs.declared.Next.TheVariants as found
-use Rattle.next.specs.Next.{Standing, next_as, standing_at}
+use Rattle.next.specs.Next.{Standing, opcode, standing_at}
 use Rattle.next.proofs.Standing.{standing_ready}
 use Rattle.chunks.specs.Chunks.{end_of}
 use Rattle.strip.specs.Strip.{is_kept, opcode_left, kept_at, kept_from, kept_of, head_with}
 use Rattle.strip.specs.Asked.{Stored, Opcodes}
-
--- ---- whether an opcode is kept
-
-module _ (stream kind : ℕ) (body : List ℕ) (heard : Bool) (eh : heard ≡ hears true kind) where
-  module _ (h : heard ≡ true) where
-    sounds : is_sound kind ≡ true
-    unfolding hears
-    sounds = sym eh ∙ h
-
-    pub kept_03 : kind ≡ 3 → (r : Bool) → r ≡ chosen stream → r ≡ is_kept stream kind body
-    unfolding is_kept
-    kept_03 k r e = rw (sounds, eq-eqb _ _ k) e
-
-    pub kept_sound : (kind ≡ 3 → ⊥) → (w : ℕ) → w ≡ word_at body 2 → (r : Bool) → r ≡ masked stream w → r ≡ is_kept stream kind body
-    unfolding is_kept
-    kept_sound k w ew r e = rw (sounds, ne_eqb _ _ k) (e ∙ ap (masked stream) ew)
-
-  pub kept_other : heard ≡ false → (p : Bool) → p ≡ passed_over kind → not p ≡ is_kept stream kind body
-  unfolding is_kept hears
-  kept_other h p e = let s : is_sound kind ≡ false = sym eh ∙ h in rw s (ap not e)
 
 -- ---- one opcode
 
@@ -141,32 +114,25 @@ module _ (storing : Bool) (film : List ℕ) (stream p e to : ℕ) (room₀ : Lis
         over zero z = refl
         over (suc n) z = rw (eq-eqb _ _ z)
 
-    module _ (h : at < e) (x : Next) (ex : next_as x ≡ standing_at true film (cursor at e)) where
+    module _ (h : at < e) where
       then : Standing → List ℕ
       then y = kept_at film stream at y (λ o. kept_from (s.turns - 1) film stream (cursor (end_of o) e))
 
-      next : (y : Next) → x ≡ y → rest ≡ then (next_as y)
+      next : (y : Standing) → y ≡ standing_at true film (cursor at e) → rest ≡ then y
       unfolding kept_from cursor_behind then
       next y ey =
           let n : at ≡ e → ⊥ = λ z. omega arith in
           let t : s.turns ≡ suc (s.turns - 1) = omega (arith, s.enough) in
-          ap (λ (m : ℕ). kept_from m film stream (cursor at e)) t ∙ rw (ne_eqb at e n) (ap then (sym ex ∙ ap next_as ey))
+          ap (λ (m : ℕ). kept_from m film stream (cursor at e)) t ∙ rw (ne_eqb at e n) (ap then (sym ey))
 
-      pub keeping_refused : (r : Refusal) → x ≡ found.Refused r → Stored storing (kept_of film stream (cursor p e)) to room₀ kept room
-      unfolding kept_at then
-      keeping_refused r y = all_kept (next (found.Refused r) y)
+      -- no opcode stands there
+      pub keeping_stops : (y : Standing) → y ≡ standing_at true film (cursor at e) → ((f : Opcode → List ℕ) → kept_at film stream at y f ≡ []) → Stored storing (kept_of film stream (cursor p e)) to room₀ kept room
+      unfolding then
+      keeping_stops y ey n = all_kept (next y ey ∙ n (λ o. kept_from (s.turns - 1) film stream (cursor (end_of o) e)))
 
-      pub keeping_ended : x ≡ found.Ended → Stored storing (kept_of film stream (cursor p e)) to room₀ kept room
-      unfolding kept_at then
-      keeping_ended y = all_kept (next found.Ended y)
-
-      pub keeping_chunk : (c : Cursor) → x ≡ found.Chunk c → Stored storing (kept_of film stream (cursor p e)) to room₀ kept room
-      unfolding kept_at then
-      keeping_chunk c y = all_kept (next (found.Chunk c) y)
-
-      module _ (o : Opcode) (y : x ≡ found.Opcode o) where
+      module _ (o : Opcode) (y : opcode o ≡ standing_at true film (cursor at e)) where
         pub keeping_ends : (at + 4 ≤ end_of o) × (end_of o ≤ e)
-        keeping_ends = let r = standing_ready true film (cursor at e) o q.inside (sym ex ∙ ap next_as y) in (omega (arith, r.behind), r.within)
+        keeping_ends = let r = standing_ready true film (cursor at e) o q.inside (sym y) in (omega (arith, r.behind), r.within)
 
         one : List ℕ
         one = opcode_left film stream at o
@@ -176,7 +142,7 @@ module _ (storing : Bool) (film : List ℕ) (stream p e to : ℕ) (room₀ : Lis
 
         on_opcode : kept_of film stream (cursor p e) ≡ (s.bytes ++ one) ++ more
         unfolding kept_at then one more
-        on_opcode = s.same ∙ ap (λ (w : List ℕ). s.bytes ++ w) (next (found.Opcode o) y) ∙ sym (append_assoc s.bytes one more)
+        on_opcode = s.same ∙ ap (λ (w : List ℕ). s.bytes ++ w) (next (opcode o) y) ∙ sym (append_assoc s.bytes one more)
 
         pub keeping_room : storing ≡ true → to + kept + length (opcode_left film stream at o) ≤ length room
         unfolding one

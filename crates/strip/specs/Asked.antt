@@ -1,10 +1,10 @@
 -- What the functions below the call ask of their callers, and what they give.
 -- Assumes nothing.
-use Rattle.std.specs.Prelude.{◌≡◌, Bool, true, cond, List, ℕ, ◌+◌, ◌≤◌, length, take}
+use Rattle.std.specs.Prelude.{◌≡◌, Bool, true, cond, Result, List, ℕ, ◌+◌, ◌≤◌, length, take}
 use Rattle.words.specs.Word.{word_at}
+use Rattle.refusal.specs.declared.Refusal.{Refusal}
 use Rattle.parts.specs.Parts.{laid}
 use Rattle.state.specs.Moves.{cursor}
-use Rattle.strip.specs.declared.Stripped.{Stripped}
 use Rattle.strip.specs.Strip.{kept_of, left_of_chunk, Left, remains, meets, before, left_of_chunks, roomed, answer_by, written_of, answer_as}
 
 -- these bytes stand in the room from index to on, where they are stored; the answer is how many they are
@@ -36,11 +36,11 @@ unfoldable pub laid_by : Left → List ℕ → List ℕ
 laid_by (remains bytes) room = laid 26 bytes room
 laid_by (meets n) room = room
 
-pub record Passed (storing : Bool) (film : List ℕ) (stream : ℕ) (room₀ : List ℕ) (r : Stripped) (room : List ℕ) : Type 0 where
+pub record Passed (storing : Bool) (film : List ℕ) (stream : ℕ) (room₀ : List ℕ) (r : Result ℕ Refusal) (room : List ℕ) : Type 0 where
   pub answer : answer_as r ≡ answer_by (before (take 26 film) (left_of_chunks film stream))
   pub room_after : room ≡ cond storing (laid_by (left_of_chunks film stream) room₀) room₀
 
 -- of a film that has its header
-pub record Wrote (film : List ℕ) (stream : ℕ) (room₀ : List ℕ) (r : Stripped) (room : List ℕ) : Type 0 where
+pub record Wrote (film : List ℕ) (stream : ℕ) (room₀ : List ℕ) (r : Result ℕ Refusal) (room : List ℕ) : Type 0 where
   pub answer : answer_as r ≡ answer_by (roomed (length room₀) (before (take 26 film) (left_of_chunks film stream)))
   pub room_after : room ≡ written_of (roomed (length room₀) (before (take 26 film) (left_of_chunks film stream))) room₀

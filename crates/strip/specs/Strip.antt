@@ -1,7 +1,8 @@
 -- A film without what the player passes over (document 02, W14): the opcodes that a player of one stream acts on, in chunks of the same type, up to the chunk with 00.
 -- Assumes nothing.
-use Rattle.std.specs.Prelude.{Bool, true, false, cond, not, List, [], ◌∷◌, ◌++◌, ℕ, zero, suc, ◌+◌, ◌/◌, ◌%◌, eqb, ltb, length, take, get_or}
+use Rattle.std.specs.Prelude.{Bool, true, false, cond, not, Result, Ok, Err, List, [], ◌∷◌, ◌++◌, ℕ, zero, suc, ◌+◌, ◌/◌, ◌%◌, eqb, ltb, length, take, get_or}
 use Rattle.words.specs.Word.{word_at}
+use Rattle.refusal.specs.declared.Refusal.{Refusal}
 use Rattle.refusal.specs.Number.{number}
 use Rattle.room.specs.Room.{written}
 use Rattle.parts.specs.Parts.{part}
@@ -14,8 +15,6 @@ use Rattle.next.specs.Next.{Standing, refused, ended, chunk, opcode, standing_at
 use Rattle.opening.specs.Opening as opening
 use Rattle.opening.specs.Opening.{Opening, opening_of}
 use Rattle.chunks.specs.Chunks.{end_of, intact, scratched, Following, film_end, past_end, chunk_to, following_at}
-use Rattle.strip.specs.declared.Stripped.{Stripped}
-use Rattle.strip.specs.declared.Stripped.TheVariants.{Written, Refused}
 
 -- ---- one opcode
 
@@ -127,6 +126,6 @@ abbrev pub strip_room : List ℕ → ℕ → List ℕ → List ℕ
 strip_room film stream room = written_of (roomed (length room) (left_of film stream)) room
 
 -- the values of each answer
-abbrev pub answer_as : Stripped → StripAnswer
-answer_as (Written n) = stripped n
-answer_as (Refused r) = not_stripped (number r)
+abbrev pub answer_as : Result ℕ Refusal → StripAnswer
+answer_as (Ok n) = stripped n
+answer_as (Err r) = not_stripped (number r)

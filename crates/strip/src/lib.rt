@@ -9,34 +9,30 @@ ghost use Rattle.chunks.specs.Chunks.{end_of};
 ghost use Rattle.strip.specs.Strip.{is_kept, opcode_left, kept_of, head_with, left_of_chunk, answer_as, strip_answer, strip_room};
 ghost use Rattle.strip.specs.Asked.{Opcodes, Chunk, Roomy, Stored, Passed, Wrote};
 
-use chunks::{Ahead, Tested, look_ahead};
+use chunks::{Ahead, look_ahead};
 use heads::{Opcode, is_heard, is_passed_over};
 use next::{Next, standing_at};
-use opening::{Opened, open};
+use opening::open;
 use parts::{copy_part, keep_part, put_run};
 use refusal::Refusal;
 use sound::{is_chosen, is_masked};
 use state::Cursor;
 use words::word_at;
 
-// Written: the length of the new film.
-#[derive(Clone, Copy)]
-pub enum Stripped {
-    Written(usize),
-    Refused(Refusal),
-}
-
 // Whether a player of a stream acts on an opcode.
+#[tactic(auto, using(std::proofs::lemmas::Bool::Decides::nat_tests), unfolding(crate::specs::Strip::is_kept, heads::specs::Heads::hears))]
 fn is_kept(stream: usize, kind: usize, body: &[u8]) -> bool
     ensures { result ≡ is_kept stream kind body.now }
 {
     if is_heard(true, kind) {
         if kind == 3 {
-            return is_chosen(stream);
+            is_chosen(stream)
+        } else {
+            is_masked(stream, word_at(body, 2))
         }
-        return is_masked(stream, word_at(body, 2));
+    } else {
+        !is_passed_over(kind)
     }
-    !is_passed_over(kind)
 }
 
 // An opcode whose head stands at p, where it is kept, to the room from index to on, where it is stored. The answer is its length.
@@ -56,12 +52,13 @@ fn keep_opcode(
     let end = o.start + o.long;
     if is_kept(stream, o.kind, &film[start..end]) {
         keep_part(storing, room, to, film, p, end);
-        return end - p;
+        end - p
+    } else {
+        0
     }
-    0
 }
 
-// The opcodes from p to the chunk's end that are kept.
+// The opcodes from p to the chunk's end that are kept. A while, since a turn goes on by an opcode.
 fn keep_opcodes(
     film: &[u8],
     stream: usize,
@@ -78,19 +75,16 @@ fn keep_opcodes(
     let mut at = p;
     let mut kept = 0;
     while at < end {
-        let found = standing_at(
-            film,
-            Cursor {
-                position: at,
-                chunk_end: end,
-            },
-            true,
-        );
-        match found {
-            Next::Refused(_) => return kept,
-            Next::Ended => return kept,
-            Next::Chunk(_) => return kept,
-            Next::Opcode(o) => {
+        let here = Cursor {
+            position: at,
+            chunk_end: end,
+        };
+        match standing_at(film, here, true) {
+            // An arm each: what is known in an arm for all three has no name that the proof can cite.
+            Err(_) => return kept,
+            Ok(Next::Ended) => return kept,
+            Ok(Next::Chunk(_)) => return kept,
+            Ok(Next::Opcode(o)) => {
                 kept += keep_opcode(film, stream, at, o, storing, room, to + kept);
                 at = o.start + o.long;
             }
@@ -128,66 +122,54 @@ fn strip_chunk(
     if n == 0 {
         return 0;
     }
-    if !storing {
-        return 4 + n;
+    if storing {
+        put_head(room, to, film, e, n);
+        keep_opcodes(film, stream, e + 4, end, true, room, to + 4);
     }
-    put_head(room, to, film, e, n);
-    keep_opcodes(film, stream, e + 4, end, true, room, to + 4);
     4 + n
 }
 
-// What is left of all chunks, behind the header. The answer counts the header.
-fn walk(film: &[u8], stream: usize, storing: bool, room: &mut [u8]) -> Stripped
+// What is left of all chunks, behind the header. The answer counts the header. A loop, since a turn goes on by a chunk.
+fn walk(film: &[u8], stream: usize, storing: bool, room: &mut [u8]) -> Result<usize, Refusal>
     requires { Roomy storing film.now stream (length room.old) }
     ensures { Passed storing film.now stream room.old result room.new }
 {
     let mut e = 26;
     let mut to = 26;
     loop {
-        let found = look_ahead(film, e);
-        match found {
-            Ahead::FilmEnd => return Stripped::Written(to),
-            Ahead::PastEnd => return Stripped::Refused(Refusal::FilmEnd),
-            Ahead::ChunkTo(end, tested) => match tested {
-                Tested::Scratched(r) => return Stripped::Refused(r),
-                Tested::Intact(closed) => {
-                    to += strip_chunk(film, stream, e, storing, room, to);
-                    if closed {
-                        return Stripped::Written(to);
-                    }
-                    e = end;
+        match look_ahead(film, e) {
+            Ahead::FilmEnd => return Ok(to),
+            Ahead::PastEnd => return Err(Refusal::FilmEnd),
+            Ahead::ChunkTo(end, tested) => {
+                let closed = tested?;
+                to += strip_chunk(film, stream, e, storing, room, to);
+                if closed {
+                    return Ok(to);
                 }
-            },
+                e = end;
+            }
         }
     }
 }
 
 // What is left of a film that has its header.
-fn write_left(film: &[u8], stream: usize, room: &mut [u8]) -> Stripped
+fn write_left(film: &[u8], stream: usize, room: &mut [u8]) -> Result<usize, Refusal>
     requires { 26 ≤ length film.now }
     ensures { Wrote film.now stream room.old result room.new }
 {
-    let measured = walk(film, stream, false, room);
-    match measured {
-        Stripped::Refused(r) => Stripped::Refused(r),
-        Stripped::Written(bytes) => {
-            if room.len() < bytes {
-                return Stripped::Refused(Refusal::Room);
-            }
-            copy_part(room, 0, film, 0, 26);
-            walk(film, stream, true, room);
-            Stripped::Written(bytes)
-        }
+    let bytes = walk(film, stream, false, room)?;
+    if room.len() < bytes {
+        return Err(Refusal::Room);
     }
+    copy_part(room, 0, film, 0, 26);
+    walk(film, stream, true, room)
 }
 
-// What is left of a film for a stream, to the room.
-pub fn strip(film: &[u8], stream: usize, room: &mut [u8]) -> Stripped
+// What is left of a film for a stream, to the room. The answer is its length.
+pub fn strip(film: &[u8], stream: usize, room: &mut [u8]) -> Result<usize, Refusal>
     ensures result_value { answer_as result ≡ strip_answer film.now stream (length room.old) }
     ensures room_after { room.new ≡ strip_room film.now stream room.old }
 {
-    match open(film, stream) {
-        Opened::Refused(r) => Stripped::Refused(r),
-        Opened::First(_) => write_left(film, stream, room),
-    }
+    open(film, stream)?;
+    write_left(film, stream, room)
 }

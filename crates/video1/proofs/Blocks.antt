@@ -2,16 +2,16 @@
 -- Assumes nothing.
 use mathlib.Core.Path.{◌≡◌, refl, sym, ap, ◌∙◌}
 use mathlib.Core.List.{List}
-use Prim.Native.Nat.{ℕ, ◌+◌, ◌-◌, ◌*◌, ◌/◌, ◌%◌, ◌^◌, ◌≤◌, ◌<◌}
+use Prim.Native.Nat.{ℕ, zero, suc, ◌+◌, ◌-◌, ◌*◌, ◌/◌, ◌%◌, ◌^◌, ◌≤◌, ◌<◌}
 use native.Mathlib.Nat.{mul-le-mul, mul-le-mul_right, add-mul, add-zero, zero-add, zero-mul, mod-lt}
 use native.Mathlib.Omega.{arith}
 use lib.ListN.{length, get_or}
 use Rattle.packet.specs.Packet.{pixels}
 use Rattle.packet.proofs.Grid.{row_below}
-use Rattle.stores.specs.Stores.{first_pixels, further}
+use Rattle.stores.specs.Stores.{Plan, first_pixels, further}
 use Rattle.stores.proofs.Order.{further_first, begun_none}
 use Rattle.paint.proofs.Painting.{Painting, painting_start, painting_by, painting_end, painting_length, painting_begun}
-use Rattle.rows.specs.Row.{Beside}
+use Rattle.rows.specs.Row.{colours, Beside}
 use Rattle.video1.specs.declared.Code.{Code}
 use Rattle.video1.specs.declared.Code.TheVariants.{Skip, Two, Eight, One}
 use Rattle.video1.specs.Code.{code_at, long_of, stores_of, flag, quad, source_of}
@@ -73,9 +73,6 @@ module _ (columns rows k : ℕ) (z : Sized columns rows) (h : k < block_count co
 
 -- ---- the bytes that give its pixels
 
-pub pair_small : (step i : ℕ) → step ≤ 2 → i < 16 → step * (2 * (i / 8) + i % 4 / 2) ≤ 6
-pair_small step i a h = let b : 2 * (i / 8) + i % 4 / 2 ≤ 3 = omega arith in let c : step * (2 * (i / 8) + i % 4 / 2) ≤ 2 * 3 = mul-le-mul a b in c
-
 quad_few : (i : ℕ) → i < 16 → quad i ≤ 3
 unfolding quad
 quad_few i h = omega arith
@@ -112,6 +109,13 @@ module _ (s : List ℕ) (at : ℕ) where
 
 -- ---- a row
 
+four_same : (v i : ℕ) → i < 4 → get_or (colours v v v v) i 0 ≡ v
+four_same v zero h = refl
+four_same v (suc zero) h = refl
+four_same v (suc (suc zero)) h = refl
+four_same v (suc (suc (suc zero))) h = refl
+four_same v (suc (suc (suc (suc i)))) h = absurd (let z : ⊥ = omega arith in z)
+
 -- a code stores 16 pixels of a block or none
 pub stores_all : (c : Code) (p : ℕ) → p < stores_of c → stores_of c ≡ 16
 unfolding stores_of
@@ -120,23 +124,34 @@ stores_all Two p h = refl
 stores_all Eight p h = refl
 stores_all One p h = refl
 
--- n: its pixels, as code counted them
-pub code_stores : (c : Code) (n : ℕ) → n ≡ stores_of c → n ≤ 16
+-- which are few
+pub few_stores : (c : Code) → stores_of c ≤ 64
 unfolding stores_of
-code_stores (Skip m) n e = omega arith
-code_stores Two n e = omega arith
-code_stores Eight n e = omega arith
-code_stores One n e = omega arith
+few_stores (Skip n) = omega arith
+few_stores Two = omega arith
+few_stores Eight = omega arith
+few_stores One = omega arith
 
-pub counted : (s : List ℕ) (at p n : ℕ) (c : Code) → n ≡ stores_of c → c ≡ code_at s at → p < n → p < stores_of (code_at s at)
-counted s at p n c e q h = let z : n ≡ stores_of (code_at s at) = e ∙ ap stores_of q in omega arith
+-- or four rows of them, or none
+rows_whole : (c : Code) → 4 * (stores_of c / 4) ≡ stores_of c
+unfolding stores_of
+rows_whole (Skip n) = refl
+rows_whole Two = refl
+rows_whole Eight = refl
+rows_whole One = refl
 
-module _ (columns rows : ℕ) (s : List ℕ) (at k p : ℕ) (b : List ℕ) (to : ℕ) (r : Rowed columns rows s at k p b to) where
+pub counted : (s : List ℕ) (at row n : ℕ) (c : Code) → n ≡ stores_of c → c ≡ code_at s at → row < n / 4 → 4 * row < stores_of (code_at s at)
+counted s at row n c e q h = let z : n ≡ stores_of (code_at s at) = e ∙ ap stores_of q in omega arith
+
+pub all_rows : (row n : ℕ) (c : Code) → n ≡ stores_of c → n / 4 ≤ row → n ≤ 4 * row
+all_rows row n c e h = let z : 4 * (n / 4) ≡ n = rw e (rows_whole c) in omega arith
+
+module _ {d : Plan} {s : List ℕ} {at p : ℕ} {b : List ℕ} {to : ℕ} (r : Rowed d s at p b to) where
   row_stores : stores_of (code_at s at) ≡ 16
-  row_stores = stores_all (code_at s at) p (omega (arith, r.beside.listed))
+  row_stores = stores_all (code_at s at) p (omega (arith, r.beside.listed, r.size))
 
-  pub row_low : p < 16
-  row_low = omega (arith, r.beside.listed, row_stores)
+  pub row_low : p + 4 ≤ 16
+  row_low = omega (arith, r.beside.listed, r.size, row_stores)
 
   pub row_there : at < length s
   row_there = omega (arith, r.there, long_some (code_at s at))
@@ -147,20 +162,20 @@ module _ (columns rows : ℕ) (s : List ℕ) (at k p : ℕ) (b : List ℕ) (to :
   row_not_skip n c = let z : stores_of (code_at s at) ≡ 0 = rw c in omega (arith, row_stores)
 
   row_gives : (value : ℕ → ℕ) → ((i : ℕ) → i < 4 → value i ≡ get_or s (at + source_of (code_at s at) s at (p + i)) 0)
-      → Beside (block_plan columns rows s at k) p 4 b to value
+      → Beside d p 4 b to value
   row_gives value vs =
-      record { begun = r.beside.begun; listed = r.beside.listed; targets = r.beside.targets; values = vs; inside = r.beside.inside }
+      record { begun = r.beside.begun; listed = r.beside.listed; targets = r.beside.targets; values = λ i q. vs i q ∙ r.beside.values i q; inside = r.beside.inside }
 
   -- of one colour, and of pairs
-  pub one_beside : code_at s at ≡ One → (v : ℕ) → v ≡ get_or s at 0 → Beside (block_plan columns rows s at k) p 4 b to (λ i. v)
+  pub one_beside : code_at s at ≡ One → (v : ℕ) → v ≡ get_or s at 0 → Beside d p 4 b to (λ i. get_or (colours v v v v) i 0)
   unfolding source_of
-  one_beside c v e = row_gives (λ i. v) (λ i q. e ∙ rw (c, add-zero at))
+  one_beside c v e = row_gives (λ i. get_or (colours v v v v) i 0) (λ i q. four_same v i q ∙ e ∙ rw (c, add-zero at))
 
   pub pairs_there : (step : ℕ) → Paired s at step → at + 4 + 3 * step ≤ length s
   pairs_there step c = omega (arith, r.there, c.long)
 
   pub pairs_beside : (step : ℕ) → Paired s at step
-      → Beside (block_plan columns rows s at k) p 4 b to (λ i. get_or s (at + pair_source step (get_or s (at + p / 8) 0) (p + i)) 0)
+      → Beside d p 4 b to (λ i. get_or s (at + pair_source step (get_or s (at + p / 8) 0) (p + i)) 0)
   pairs_beside step c =
       row_gives (λ i. get_or s (at + pair_source step (get_or s (at + p / 8) 0) (p + i)) 0)
       (λ i q.
@@ -200,11 +215,12 @@ module _ (columns rows : ℕ) (s : List ℕ) (at k below : ℕ) (b₀ : List ℕ
       pub rising_room : 8 * columns ≤ to
       rising_room = row_enough columns rows k a.sized a.block p to rising_low r.whole r.over
 
-      pub rising_row : Rowed columns rows s at k p b (to - 8 * columns)
+      pub rising_row : Rowed (block_plan columns rows s at k) s at p b (to - 8 * columns)
       rising_row =
           record {
             there = a.there;
             first = r.whole;
+            size = refl;
             beside =
                 record {
                   begun = rw zero-add at (painting_begun _ 0 b₀ (stores_of (code_at s at)) b p r.painting (begun_none (block_plan columns rows s at k) 0 b₀));
@@ -215,12 +231,13 @@ module _ (columns rows : ℕ) (s : List ℕ) (at k below : ℕ) (b₀ : List ℕ
                 };
           }
 
-      pub rising_more : (b' : List ℕ) → b' ≡ further (block_plan columns rows s at k) 0 b p 4 → Rising columns rows s at k b₀ b' (to - 8 * columns) (p + 4)
-      rising_more b' e =
-          record {
+      pub rising_more : (b' : List ℕ) → b' ≡ further (block_plan columns rows s at k) 0 b p 4 → {p' : ℕ} → p' ≡ p + 4 → Rising columns rows s at k b₀ b' (to - 8 * columns) p'
+      rising_more b' e q =
+          rw q
+          (record {
             whole = omega (arith, r.whole);
             over = row_next columns rows k a.sized a.block p to rising_low r.whole r.over;
             painting =
                 painting_by _ 0 b₀ (stores_of (code_at s at)) b p r.painting 4 (omega (arith, all, rising_low, r.whole)) b'
                 (e ∙ ap (λ (n : ℕ). further (block_plan columns rows s at k) 0 b n 4) (sym (zero-add p)));
-          }
+          })

@@ -1,5 +1,6 @@
 -- The store pass over a frame that is taken, and the call.
 -- Assumes nothing.
+use Rattle.std.specs.Prelude.{Result, Ok, Err}
 use mathlib.Core.Path.{◌≡◌, refl, sym, ap, ◌∙◌}
 use mathlib.Core.Bool.{Bool, true, false}
 use mathlib.Core.List.{List}
@@ -13,8 +14,6 @@ use Rattle.refusal.specs.declared.Refusal.{Refusal}
 use Rattle.refusal.specs.declared.Refusal.TheVariants.{Size, Buffer}
 use Rattle.packet.specs.Packet.{pixels}
 use Rattle.packet.specs.Verdict.{legal_size, told}
-use Rattle.packet.specs.declared.Checked.{Checked}
-use Rattle.packet.specs.declared.Checked.TheVariants.{Accepted, Refused}
 use Rattle.packet.proofs.Grid.{next_column, next_row, row_below}
 use Rattle.packet.proofs.Sizes.{size_is}
 use Rattle.stores.specs.Stores.{Plan, first_pixels, stage, final}
@@ -60,9 +59,6 @@ column_few columns rows k z = let c : 0 < 2 * columns = omega (arith, z.some_col
 module _ (columns rows k below right : ℕ) (z : Sized columns rows) (q : Standing columns rows k below right) (n : ℕ) (one : n ≡ 1) where
   some : 0 < 2 * columns
   some = omega (arith, z.some_columns)
-
-  pub right_some : 0 < right
-  right_some = omega (arith, q.rest, mod-lt k some)
 
   pub standing_right : (right - 1 ≡ 0 → ⊥) → Standing columns rows (k + n) (below + 4) (right - 1)
   unfolding below_of
@@ -149,9 +145,6 @@ module _ (columns rows : ℕ) (s b₀ b : List ℕ) (at k below right : ℕ) (d 
   pub drawing_length : length b ≡ length b₀
   drawing_length = ap length d.made ∙ stage_length (frame_plan columns rows s) b₀ k
 
-  pub drawing_end : block_count columns rows ≤ k → b ≡ final (frame_plan columns rows s) b₀
-  drawing_end h = let e : k ≡ block_count columns rows = omega (arith, d.walked.below) in d.made ∙ ap (stage (frame_plan columns rows s) b₀) e
-
   module _ (c : Canvas columns rows s (length b₀)) (h : k < block_count columns rows) where
     pub drawing_asks : Paints columns rows s at k below (length b)
     drawing_asks =
@@ -202,27 +195,27 @@ legals columns rows t e h =
 -- ---- the call
 
 module _ (columns rows : ℕ) (s b : List ℕ) (t : Bool) (e : t ≡ legal_size columns rows) where
-  pub decoded_6 : t ≡ false → Decoded columns rows s b (Refused Size) b
+  pub decoded_6 : t ≡ false → Decoded columns rows s b (Err Size) b
   unfolding frame_verdict frame_after drawn
   decoded_6 h = let q : legal_size columns rows ≡ false = sym e ∙ h in record { answer = rw q; after = rw q }
 
   module _ (h : t ≡ true) where
-    pub decoded_8 : length b < pixels columns rows → Decoded columns rows s b (Refused Buffer) b
+    pub decoded_8 : length b < pixels columns rows → Decoded columns rows s b (Err Buffer) b
     unfolding frame_verdict frame_after drawn
     decoded_8 l = let q : legal_size columns rows ≡ true = sym e ∙ h in record { answer = rw (q, lt-ltb _ _ l); after = rw (q, lt-ltb _ _ l) }
 
-    module _ (l : pixels columns rows ≤ length b) (found : Checked) (ef : told found ≡ walk_verdict s (block_count columns rows)) where
+    module _ (l : pixels columns rows ≤ length b) (found : Result Unit Refusal) (ef : told found ≡ walk_verdict s (block_count columns rows)) where
       verdict_is : frame_verdict columns rows s (length b) ≡ told found
       unfolding frame_verdict
       verdict_is = let q : legal_size columns rows ≡ true = sym e ∙ h in rw (q, le-ltb _ _ l, ← ef)
 
-      pub decoded_refused : (r : Refusal) → found ≡ Refused r → Decoded columns rows s b (Refused r) b
+      pub decoded_refused : (r : Refusal) → found ≡ Err r → Decoded columns rows s b (Err r) b
       unfolding frame_after drawn
       decoded_refused r g = record { answer = sym (verdict_is ∙ ap told g); after = rw (verdict_is ∙ ap told g) }
 
-      pub decoded_taken : found ≡ Accepted → (b' : List ℕ) → b' ≡ final (frame_plan columns rows s) b → Decoded columns rows s b Accepted b'
+      pub decoded_taken : (u v : Unit) → found ≡ Ok u → (b' : List ℕ) → b' ≡ final (frame_plan columns rows s) b → Decoded columns rows s b (Ok v) b'
       unfolding frame_after drawn
-      decoded_taken g b' p = record { answer = sym (verdict_is ∙ ap told g); after = rw (verdict_is ∙ ap told g) p }
+      decoded_taken u v g b' p = record { answer = sym (verdict_is ∙ ap told g); after = rw (verdict_is ∙ ap told g) p }
 
-      pub decoded_asks : found ≡ Accepted → Canvas columns rows s (length b)
-      decoded_asks g = record { sized = (legals columns rows t e h).sized; room = l; taken = sym ef ∙ ap told g }
+      pub decoded_asks : (u : Unit) → found ≡ Ok u → Canvas columns rows s (length b)
+      decoded_asks u g = record { sized = (legals columns rows t e h).sized; room = l; taken = sym ef ∙ ap told g }

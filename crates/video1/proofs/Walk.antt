@@ -2,51 +2,18 @@
 -- Assumes nothing.
 use mathlib.Core.Path.{◌≡◌, refl, sym, ap, ◌∙◌}
 use mathlib.Core.List.{List}
-use Prim.Native.Nat.{ℕ, suc, ◌+◌, ◌-◌, ◌*◌, ◌≤◌, ◌<◌}
+use Prim.Native.Nat.{ℕ, suc, ◌+◌, ◌-◌, ◌≤◌, ◌<◌}
 use native.Mathlib.Omega.{arith}
-use borrow.Author.Tests.{lt-ltb, le-ltb, le-leb, lt-leb, eq-eqb, ne_eqb, ltb-false}
-use lib.ListN.{length, get_or}
-use Rattle.words.specs.Word.{word_at}
+use borrow.Author.Tests.{lt-ltb, le-ltb, ltb-false}
+use lib.ListN.{length}
 use Rattle.words.proofs.Tests.{not_first}
 use Rattle.refusal.specs.Number.{Verdict, accept, refuse}
 use Rattle.video1.specs.declared.Code.{Code}
 use Rattle.video1.specs.declared.Code.TheVariants.{Skip, Two, Eight, One}
-use Rattle.video1.specs.Code.{code_of, code_at, long_of, passed_by}
+use Rattle.video1.specs.Code.{code_at, long_of, passed_by}
 use Rattle.video1.specs.Frame.{end_verdict, walk_from, walk_verdict, position_from, position_of}
 
 -- ---- one code
-
-module _ (a b : ℕ) where
-  pub code_two : b < 128 → Two ≡ code_of a b
-  unfolding code_of
-  code_two h = let x : b < 132 = omega arith in rw (lt-leb 132 b x, lt-ltb b 128 h)
-
-  pub code_eight : 144 ≤ b → Eight ≡ code_of a b
-  unfolding code_of
-  code_eight h =
-      let x : 132 ≤ b = omega arith in
-      let y : 136 ≤ b = omega arith in
-      let z : 128 ≤ b = omega arith in
-      rw (le-leb 132 b x, le-ltb b 136 y, le-ltb b 128 z, le-leb 144 b h)
-
-  pub code_low : 128 ≤ b → b < 132 → One ≡ code_of a b
-  unfolding code_of
-  code_low g h = let x : b < 144 = omega arith in rw (lt-leb 132 b h, le-ltb b 128 g, lt-leb 144 b x)
-
-  pub code_skip : 132 ≤ b → b < 136 → Skip ((b - 132) * 256 + a) ≡ code_of a b
-  unfolding code_of
-  code_skip g h = rw (le-leb 132 b g, lt-ltb b 136 h)
-
-  pub code_high : 136 ≤ b → b < 144 → One ≡ code_of a b
-  unfolding code_of
-  code_high g h =
-      let x : 132 ≤ b = omega arith in
-      let y : 128 ≤ b = omega arith in
-      rw (le-leb 132 b x, le-ltb b 136 g, le-ltb b 128 y, lt-leb 144 b h)
-
-pub code_is : (s : List ℕ) (at : ℕ) (code : Code) (a b : ℕ) → code ≡ code_of a b → a ≡ get_or s at 0 → b ≡ get_or s (at + 1) 0 → code ≡ code_at s at
-unfolding code_at
-code_is s at code a b e ea eb = e ∙ rw (ea, eb)
 
 -- every code has bytes, and no more than ten
 pub long_some : (code : Code) → (2 ≤ long_of code) × (long_of code ≤ 10)
@@ -55,21 +22,6 @@ long_some (Skip n) = (omega arith, omega arith)
 long_some Two = (omega arith, omega arith)
 long_some Eight = (omega arith, omega arith)
 long_some One = (omega arith, omega arith)
-
--- ---- the end
-
-module _ (s : List ℕ) (at : ℕ) where
-  pub end_marked : (w : ℕ) → length s - at ≡ 2 → w ≡ word_at s at → w ≡ 0 → accept ≡ end_verdict s at
-  unfolding end_verdict
-  end_marked w h e z = let q : word_at s at ≡ 0 = sym e ∙ z in rw (eq-eqb _ _ h, eq-eqb _ _ q)
-
-  pub end_other : (w : ℕ) → length s - at ≡ 2 → w ≡ word_at s at → (w ≡ 0 → ⊥) → refuse 26 0 ≡ end_verdict s at
-  unfolding end_verdict
-  end_other w h e z = rw (eq-eqb _ _ h, ← e, ne_eqb _ _ z)
-
-  pub end_long : (length s - at ≡ 2 → ⊥) → refuse 26 0 ≡ end_verdict s at
-  unfolding end_verdict
-  end_long h = rw (ne_eqb _ _ h)
 
 -- ---- the walk
 

@@ -1,13 +1,14 @@
 -- What the functions ask of their callers, and what a call promises.
 -- Assumes nothing.
-use Rattle.std.specs.Prelude.{◌≡◌, List, ℕ, ◌+◌, ◌-◌, ◌*◌, ◌/◌, ◌%◌, ◌^◌, ◌≤◌, ◌<◌, length, get_or}
+use Rattle.std.specs.Prelude.{◌≡◌, Result, List, ℕ, ◌+◌, ◌-◌, ◌*◌, ◌/◌, ◌%◌, ◌^◌, ◌≤◌, ◌<◌, length, get_or}
+use Rattle.refusal.specs.declared.Refusal.{Refusal}
 use Rattle.refusal.specs.Number.{accept}
 use Rattle.packet.specs.Packet.{pixels}
 use Rattle.packet.specs.Verdict.{told}
-use Rattle.packet.specs.declared.Checked.{Checked}
+use Rattle.stores.specs.Stores.{Plan}
 use Rattle.rows.specs.Row.{Beside}
 use Rattle.video1.specs.Code.{code_at, long_of, stores_of, quad, source_of}
-use Rattle.video1.specs.Frame.{block_count, walk_verdict, block_plan, frame_verdict, frame_after}
+use Rattle.video1.specs.Frame.{block_count, walk_verdict, frame_verdict, frame_after}
 
 -- a size that is tested
 pub record Sized (columns rows : ℕ) : Type 0 where
@@ -33,11 +34,12 @@ pub record Paints (columns rows : ℕ) (s : List ℕ) (at k below long : ℕ) : 
   pub there : at + long_of (code_at s at) ≤ length s
   pub over : below ≡ below_of columns rows k
 
--- the four pixels of block k from pixel p on, the first of a row, are the next, and the code at byte at gives them
-pub record Rowed (columns rows : ℕ) (s : List ℕ) (at k p : ℕ) (b : List ℕ) (to : ℕ) : Type 0 where
+-- the four pixels of a block from pixel p on, the first of a row, are the next of its plan d, and the code at byte at gives them
+pub record Rowed (d : Plan) (s : List ℕ) (at p : ℕ) (b : List ℕ) (to : ℕ) : Type 0 where
   pub there : at + long_of (code_at s at) ≤ length s
   pub first : p % 4 ≡ 0
-  pub beside : Beside (block_plan columns rows s at k) p 4 b to (λ i. get_or s (at + source_of (code_at s at) s at (p + i)) 0)
+  pub size : d.size 0 ≡ stores_of (code_at s at)
+  pub beside : Beside d p 4 b to (λ i. get_or s (at + source_of (code_at s at) s at (p + i)) 0)
 
 -- the byte, counted from a, that gives pixel i of pairs of colours: those of the quads stand step bytes apart, and f is a or b, where its flag stands
 unfoldable pub pair_source : ℕ → ℕ → ℕ → ℕ
@@ -51,6 +53,6 @@ pub record Paired (s : List ℕ) (at step : ℕ) : Type 0 where
   pub each : (i : ℕ) → i < 16 → pair_source step (get_or s (at + i / 8) 0) i ≡ source_of (code_at s at) s at i
 
 -- the answer and the picture
-pub record Decoded (columns rows : ℕ) (s b : List ℕ) (r : Checked) (b' : List ℕ) : Type 0 where
+pub record Decoded (columns rows : ℕ) (s b : List ℕ) (r : Result Unit Refusal) (b' : List ℕ) : Type 0 where
   pub answer : told r ≡ frame_verdict columns rows s (length b)
   pub after : b' ≡ frame_after columns rows s b

@@ -1,18 +1,19 @@
 // Microsoft Video 1, 8-bit frames (source document 001): the data is walked and judged whole, then walked again and its pixels are stored.
-// Parameters that no code reads name the list of a block's stores, for the contracts. The compiler leaves them out.
 #![tactic(auto)]
 
-ghost use Rattle.std.specs.Prelude.{◌≡◌, ◌+◌, ◌*◌, ◌/◌, ◌≤◌, ◌<◌, length, get_or, set};
+ghost use Rattle.std.specs.Prelude.{◌≡◌, ◌+◌, ◌*◌, ◌/◌, ◌≤◌, ◌<◌, length, get_or};
 ghost use Rattle.packet.specs.Verdict.{told};
 ghost use Rattle.stores.specs.Stores.{first_pixels, further, final};
-ghost use Rattle.stores.specs.Loop.{Next};
 ghost use Rattle.rows.specs.Row.{Beside};
 ghost use Rattle.video1.specs.Code.{code_of, code_at, long_of, passed_by, stores_of};
 ghost use Rattle.video1.specs.Frame.{end_verdict, walk_verdict, block_plan, frame_plan};
 ghost use Rattle.video1.specs.Asked.{Sized, Canvas, below_of, Paints, Rowed, pair_source, Paired, Decoded};
 
-use packet::{Checked, is_legal_size};
+use packet::is_legal_size;
+use paint::{Drawing, put};
 use refusal::Refusal;
+use rows::put_four;
+use std::marker::Brand;
 use words::{byte_at, wide, word_at};
 
 // What the two bytes of a code say: blocks to skip, or one block of two, eight or one colours.
@@ -24,26 +25,62 @@ pub enum Code {
     One,
 }
 
+impl Code {
+    // Its bytes, with its colours.
+    #[tactic(auto, unfolding(crate::specs::Code::long_of))]
+    fn long(self) -> usize
+        ensures { result ≡ long_of self }
+    {
+        match self {
+            Code::Skip(_) | Code::One => 2,
+            Code::Two => 4,
+            Code::Eight => 10,
+        }
+    }
+
+    // The blocks that it passes.
+    #[tactic(auto, unfolding(crate::specs::Code::passed_by))]
+    fn passed(self) -> usize
+        ensures { result ≡ passed_by self }
+    {
+        match self {
+            Code::Skip(n) => n,
+            _ => 1,
+        }
+    }
+
+    // The pixels that it stores in each of them.
+    #[tactic(auto, unfolding(crate::specs::Code::stores_of))]
+    fn stores(self) -> usize
+        ensures { result ≡ stores_of self }
+    {
+        match self {
+            Code::Skip(_) => 0,
+            _ => 16,
+        }
+    }
+}
+
+#[tactic(auto, using(std::proofs::lemmas::Bool::Decides::nat_tests), unfolding(crate::specs::Code::code_of))]
 fn code_of(a: usize, b: usize) -> Code
     requires { (a < 256) × (b < 256) }
     ensures { result ≡ code_of a b }
 {
     if b < 128 {
-        return Code::Two;
+        Code::Two
+    } else if 144 <= b {
+        Code::Eight
+    } else if b < 132 {
+        Code::One // 80 to 83
+    } else if b < 136 {
+        Code::Skip((b - 132) * 256 + a)
+    } else {
+        Code::One // 88 to 8F
     }
-    if 144 <= b {
-        return Code::Eight;
-    }
-    if b < 132 {
-        return Code::One; // 80 to 83
-    }
-    if b < 136 {
-        return Code::Skip((b - 132) * 256 + a);
-    }
-    Code::One // 88 to 8F
 }
 
 // The code at byte at.
+#[tactic(auto, unfolding(crate::specs::Code::code_at))]
 fn code_at(s: &[u8], at: usize) -> Code
     requires { at ≤ length s.now }
     ensures { result ≡ code_at s.now at }
@@ -51,71 +88,34 @@ fn code_at(s: &[u8], at: usize) -> Code
     code_of(wide(byte_at(s, at)), wide(byte_at(s, at + 1)))
 }
 
-// Its bytes, with its colours.
-fn long_of(code: Code) -> usize
-    ensures { result ≡ long_of code }
-{
-    match code {
-        Code::Skip(_) => 2,
-        Code::Two => 4,
-        Code::Eight => 10,
-        Code::One => 2,
-    }
-}
-
-// The blocks that it passes.
-fn passed_by(code: Code) -> usize
-    ensures { result ≡ passed_by code }
-{
-    match code {
-        Code::Skip(n) => n,
-        Code::Two => 1,
-        Code::Eight => 1,
-        Code::One => 1,
-    }
-}
-
-// The pixels that it stores in each of them.
-fn stores_of(code: Code) -> usize
-    ensures { result ≡ stores_of code }
-{
-    match code {
-        Code::Skip(_) => 0,
-        Code::Two => 16,
-        Code::Eight => 16,
-        Code::One => 16,
-    }
-}
-
 // After all blocks the end mark 00 00, and nothing behind it.
-fn judge_end(s: &[u8], at: usize) -> Checked
+#[tactic(auto, using(std::proofs::lemmas::Bool::Decides::nat_tests), unfolding(crate::specs::Frame::end_verdict))]
+fn judge_end(s: &[u8], at: usize) -> Result<(), Refusal>
     requires { at ≤ length s.now }
     ensures { told result ≡ end_verdict s.now at }
 {
-    if s.len() - at == 2 {
-        if word_at(s, at) == 0 {
-            return Checked::Accepted;
-        }
-        return Checked::Refused(Refusal::EndMark);
+    if s.len() - at == 2 && word_at(s, at) == 0 {
+        Ok(())
+    } else {
+        Err(Refusal::EndMark)
     }
-    Checked::Refused(Refusal::EndMark)
 }
 
-// The codes of a frame of so many blocks, in order: 24, 25, then 26.
-fn judge(s: &[u8], total: usize) -> Checked
+// The codes of a frame of so many blocks, in order: 24, 25, then 26. A while, since a turn goes on by the blocks that a code passes.
+fn judge(s: &[u8], total: usize) -> Result<(), Refusal>
     ensures { told result ≡ walk_verdict s.now total }
 {
     let mut at = 0;
     let mut k = 0;
     while k < total {
         let code = code_at(s, at);
-        let long = long_of(code);
+        let long = code.long();
         if s.len() - at < long {
-            return Checked::Refused(Refusal::FrameShort);
+            return Err(Refusal::FrameShort);
         }
-        let n = passed_by(code);
+        let n = code.passed();
         if total - k < n {
-            return Checked::Refused(Refusal::SkipOutside);
+            return Err(Refusal::SkipOutside);
         }
         at += long;
         k += n;
@@ -123,47 +123,8 @@ fn judge(s: &[u8], total: usize) -> Checked
     judge_end(s, at)
 }
 
-// The one store of a pixel: pixel i of block k, which the code at byte at gives, and those before it stand.
-fn put(
-    pic: &mut [u8],
-    columns: usize,
-    rows: usize,
-    s: &[u8],
-    at: usize,
-    k: usize,
-    i: usize,
-    to: usize,
-    v: u8,
-)
-    requires { Next (block_plan columns rows s.now at k) 0 i pic.old to v }
-    ensures { pic.new ≡ set pic.old to v }
-{
-    pic[to] = v;
-}
-
-// One colour: four pixels side by side, from pixel p on.
-fn one_row(
-    pic: &mut [u8],
-    columns: usize,
-    rows: usize,
-    s: &[u8],
-    at: usize,
-    k: usize,
-    p: usize,
-    to: usize,
-    v: u8,
-)
-    requires { (p < 16) × Beside (block_plan columns rows s.now at k) p 4 pic.old to (λ i. v) }
-    ensures { pic.new ≡ further (block_plan columns rows s.now at k) 0 pic.old p 4 }
-{
-    let mut j = 0;
-    while j < 4 {
-        put(pic, columns, rows, s, at, k, p + j, to + j, v);
-        j += 1;
-    }
-}
-
 // The byte, counted from a, that gives pixel i of pairs of colours.
+#[tactic(auto, unfolding(crate::specs::Asked::pair_source, crate::specs::Code::quad))]
 fn pair_source(step: usize, f: usize, i: usize) -> usize
     requires { (step ≤ 2) × (i < 16) }
     ensures { result ≡ pair_source step f i }
@@ -172,58 +133,36 @@ fn pair_source(step: usize, f: usize, i: usize) -> usize
 }
 
 // Two or eight colours: four pixels side by side, from pixel p on.
-fn pairs_row(
-    pic: &mut [u8],
-    columns: usize,
-    rows: usize,
-    s: &[u8],
-    at: usize,
-    k: usize,
-    p: usize,
-    step: usize,
-    to: usize,
-)
-    requires { (p < 16) × Paired s.now at step × (at + 4 + 3 * step ≤ length s.now) × Beside (block_plan columns rows s.now at k) p 4 pic.old to (λ i. get_or s.now (at + pair_source step (get_or s.now (at + p / 8) 0) (p + i)) 0) }
-    ensures { pic.new ≡ further (block_plan columns rows s.now at k) 0 pic.old p 4 }
+fn pairs_row<P: Drawing>(pic: &mut [u8], s: &[u8], at: usize, p: usize, step: usize, to: usize)
+    requires { (p + 4 ≤ 16) × Paired s.now at step × (at + 4 + 3 * step ≤ length s.now) × Beside P.plan p 4 pic.old to (λ i. get_or s.now (at + pair_source step (get_or s.now (at + p / 8) 0) (p + i)) 0) }
+    ensures { pic.new ≡ further P.plan 0 pic.old p 4 }
 {
     let f = wide(s[at + p / 8]);
-    let mut j = 0;
-    while j < 4 {
+    for j in 0..4 {
         let v = s[at + pair_source(step, f, p + j)];
-        put(pic, columns, rows, s, at, k, p + j, to + j, v);
-        j += 1;
+        put::<P, u8>(pic, p + j, to + j, v);
     }
 }
 
 // Four pixels side by side of a block, from pixel p on, as its code gives them.
-fn paint_row(
-    pic: &mut [u8],
-    columns: usize,
-    rows: usize,
-    s: &[u8],
-    at: usize,
-    k: usize,
-    p: usize,
-    code: Code,
-    to: usize,
-)
-    requires { (code ≡ code_at s.now at) × Rowed columns rows s.now at k p pic.old to }
-    ensures { pic.new ≡ further (block_plan columns rows s.now at k) 0 pic.old p 4 }
+fn paint_row<P: Drawing>(pic: &mut [u8], s: &[u8], at: usize, p: usize, code: Code, to: usize)
+    requires { (code ≡ code_at s.now at) × Rowed P.plan s.now at p pic.old to }
+    ensures { pic.new ≡ further P.plan 0 pic.old p 4 }
 {
     match code {
         Code::Skip(_) => {}
-        Code::Two => pairs_row(pic, columns, rows, s, at, k, p, 0, to),
-        Code::Eight => pairs_row(pic, columns, rows, s, at, k, p, 2, to),
+        Code::Two => pairs_row::<P>(pic, s, at, p, 0, to),
+        Code::Eight => pairs_row::<P>(pic, s, at, p, 2, to),
         Code::One => {
             let v = s[at];
-            one_row(pic, columns, rows, s, at, k, p, to, v)
+            put_four::<P, u8>(pic, p, to, v, v, v, v)
         }
     }
 }
 
 // The pixels of block k, which the code at byte at gives, row by row from the bottom up; a skip stores none. A row's index is that of the row below less the width: a
-// difference, not a product.
-fn paint_code(
+// difference, not a product. No code reads rows and k: the plan is made of them.
+fn paint_code<P: Drawing>(
     pic: &mut [u8],
     columns: usize,
     rows: usize,
@@ -233,20 +172,19 @@ fn paint_code(
     code: Code,
     below: usize,
 )
-    requires { Paints columns rows s.now at k below (length pic.old) × (code ≡ code_at s.now at) }
-    ensures { pic.new ≡ first_pixels (block_plan columns rows s.now at k) 0 pic.old (stores_of code) }
+    requires plan { P.plan ≡ block_plan columns rows s.now at k }
+    requires stands { Paints columns rows s.now at k below (length pic.old) × (code ≡ code_at s.now at) }
+    ensures { pic.new ≡ first_pixels P.plan 0 pic.old (stores_of code) }
 {
-    let n = stores_of(code);
     let mut to = below;
-    let mut p = 0;
-    while p < n {
+    for row in 0..code.stores() / 4 {
         to -= 8 * columns;
-        paint_row(pic, columns, rows, s, at, k, p, code, to);
-        p += 4;
+        paint_row::<P>(pic, s, at, 4 * row, code, to);
     }
 }
 
 // The index below block k.
+#[tactic(auto, using(crate::proofs::Frames::below_sums), unfolding(crate::specs::Asked::below_of))]
 fn below_of(columns: usize, rows: usize, k: usize) -> usize
     requires { Sized columns rows × (k ≤ 2 * columns * (2 * rows)) }
     ensures { result ≡ below_of columns rows k }
@@ -254,7 +192,7 @@ fn below_of(columns: usize, rows: usize, k: usize) -> usize
     (8 * rows - 4 * (k / (2 * columns))) * (8 * columns) + 4 * (k % (2 * columns))
 }
 
-// The pixels of a frame that is taken. right: the blocks of the row from block k on.
+// The pixels of a frame that is taken. right: the blocks of the row from block k on. A while, as in `judge`.
 fn paint_frame(pic: &mut [u8], columns: usize, rows: usize, s: &[u8])
     requires { Canvas columns rows s.now (length pic.old) }
     ensures { pic.new ≡ final (frame_plan columns rows s.now) pic.old }
@@ -266,9 +204,9 @@ fn paint_frame(pic: &mut [u8], columns: usize, rows: usize, s: &[u8])
     let mut right = 2 * columns;
     while k < total {
         let code = code_at(s, at);
-        paint_code(pic, columns, rows, s, at, k, code, below);
-        let n = passed_by(code);
-        at += long_of(code);
+        paint_code::<Brand>(pic, columns, rows, s, at, k, code, below);
+        let n = code.passed();
+        at += code.long();
         k += n;
         if n == 1 {
             below += 4;
@@ -285,19 +223,16 @@ fn paint_frame(pic: &mut [u8], columns: usize, rows: usize, s: &[u8])
 }
 
 // A frame for a picture of columns by rows blocks of 8x8: judged whole, then stored.
-pub fn decode(columns: usize, rows: usize, s: &[u8], pic: &mut [u8]) -> Checked
+pub fn decode(columns: usize, rows: usize, s: &[u8], pic: &mut [u8]) -> Result<(), Refusal>
     ensures { Decoded columns rows s.now pic.old result pic.new }
 {
-    if is_legal_size(columns, rows) {
-        if pic.len() < 8 * rows * (8 * columns) {
-            return Checked::Refused(Refusal::Buffer);
-        }
-        let found = judge(s, 2 * columns * (2 * rows));
-        if let Checked::Refused(r) = found {
-            return Checked::Refused(r);
-        }
-        paint_frame(pic, columns, rows, s);
-        return Checked::Accepted;
+    if !is_legal_size(columns, rows) {
+        return Err(Refusal::Size);
     }
-    Checked::Refused(Refusal::Size)
+    if pic.len() < 8 * rows * (8 * columns) {
+        return Err(Refusal::Buffer);
+    }
+    judge(s, 2 * columns * (2 * rows))?;
+    paint_frame(pic, columns, rows, s);
+    Ok(())
 }

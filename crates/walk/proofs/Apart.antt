@@ -8,8 +8,9 @@ use native.Mathlib.Omega.{arith}
 use lib.Dec.{eqb}
 use lib.ListN.{length, drop}
 use lib.Seq.{drop_at}
+use Rattle.std.specs.Prelude.{Option}
 use Rattle.room.specs.Room.{written}
-use Rattle.packet.specs.declared.Touched.{Touched}
+use Rattle.packet.specs.declared.Rows.{Rows}
 use Rattle.stores.specs.Calls.{step}
 use Rattle.stores.specs.Calls as drawing
 use Rattle.draw.specs.declared.Allowed.{Allowed}
@@ -43,7 +44,7 @@ silent l e f = record { room = e; bytes = f }
 
 -- ---- drawing
 
-drawn_silent : (st : State) (p : ℕ) (x : drawing.Answer Reason) (n : ℕ) (t : Touched) → (drawn_as st p x n t).bytes ≡ 0
+drawn_silent : (st : State) (p : ℕ) (x : drawing.Answer Reason) (n : ℕ) (t : Option Rows) → (drawn_as st p x n t).bytes ≡ 0
 unfolding drawn_as
 drawn_silent st p drawing.whole n t = refl
 drawn_silent st p drawing.unfinished n t = refl

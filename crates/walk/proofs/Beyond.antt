@@ -7,7 +7,6 @@ use mathlib.Core.List.{List}
 use Prim.Native.Nat.{ℕ, ◌+◌}
 use lib.Dec.{eqb}
 use lib.ListN.{length, take, drop}
-use Rattle.packet.specs.declared.Touched.TheVariants.{None}
 use Rattle.packet.specs.Packet.{pixels as pixelsOf}
 use Rattle.packet.specs.Verdict.{legal_size}
 use Rattle.stores.specs.Stores.{Memory}
@@ -23,8 +22,8 @@ use Rattle.palette.specs.Update.{Update, change_on, palette_after}
 use Rattle.palette.specs.Gradient.{create_gradient}
 use Rattle.palette.specs.Entries.{set_palette}
 use Rattle.palette.specs.Mask.{set_palette_compressed}
-use Rattle.state.specs.declared.Map.{Map}
-use Rattle.state.specs.declared.Map.TheVariants.{Missing, Part}
+use Rattle.state.specs.declared.Part.{Part}
+use Rattle.std.specs.Prelude.{Option, Some, None}
 use Rattle.state.specs.declared.State.{State}
 use Rattle.state.specs.State.{area, lent_verdict}
 use Rattle.sound.specs.Format.{chosen}
@@ -146,14 +145,14 @@ module _ (film : List ℕ) (st : State) (allowed : Allowed) where
             };
       }
 
-  same_map : (map : Map) (body : List ℕ) (p : ℕ) (l m : Lent) → SameTo (pixels st) l m
+  same_map : (map : Option Part) (body : List ℕ) (p : ℕ) (l m : Lent) → SameTo (pixels st) l m
       → SameSteps (pixels st) (draw_mapped map film st body p allowed l) (draw_mapped map film st body p allowed m)
   unfolding draw_mapped
-  same_map Missing body p l m s = record { step = refl; lent = s }
-  same_map (Part a long) body p l m s =
-      same_by (pixels st) (eqb st.columns 0) _ _ _ _ (record { step = refl; lent = s }) (same_on p (part film a (a + long)) (part body 14 (length body)) l m s)
+  same_map None body p l m s = record { step = refl; lent = s }
+  same_map (Some map) body p l m s =
+      same_by (pixels st) (eqb st.columns 0) _ _ _ _ (record { step = refl; lent = s }) (same_on p (part film map.start (map.start + map.long)) (part body 14 (length body)) l m s)
 
-  same_body : (map : Map) (body : List ℕ) (p : ℕ) (l m : Lent) → SameTo (pixels st) l m
+  same_body : (map : Option Part) (body : List ℕ) (p : ℕ) (l m : Lent) → SameTo (pixels st) l m
       → SameSteps (pixels st) (draw_by map film st body p allowed l) (draw_by map film st body p allowed m)
   unfolding draw_by
   same_body map body p l m s = same_by (pixels st) (is_body_short st.deep (length body)) _ _ _ _ (record { step = refl; lent = s }) (same_map map body p l m s)

@@ -10,7 +10,7 @@ use lib.Dec.{eqb}
 use lib.ListN.{length, drop, length-take, length-drop}
 use Rattle.words.specs.Word.{word_at}
 use Rattle.refusal.specs.Number.{Verdict, accept, refuse}
-use Rattle.packet.specs.declared.Touched.{Touched}
+use Rattle.packet.specs.declared.Rows.{Rows}
 use Rattle.packet.specs.Verdict.{legal_size}
 use Rattle.packet.specs.Accepted.{PartsFit}
 use Rattle.packet.proofs.Sizes.{is_size}
@@ -21,8 +21,9 @@ use Rattle.draw.specs.Call.{Request, draw_verdict, comes, calling, report}
 use Rattle.draw.specs.Taken.{DrawAcceptsIn}
 use Rattle.draw.proofs.Exactly.{drawn_exactly}
 use Rattle.palette.specs.Update.{Update}
-use Rattle.state.specs.declared.Map.{Map}
-use Rattle.state.specs.declared.Map.TheVariants.{Part}
+use Rattle.state.specs.declared.Part.{Part}
+use Rattle.std.specs.Prelude.{Option, Some, None}
+use Rattle.state.specs.State.{some_part}
 use Rattle.state.specs.declared.State.{State}
 use Rattle.state.specs.State.{area}
 use Rattle.state.proofs.Tests.{lent_fits}
@@ -44,7 +45,7 @@ use Rattle.walk.proofs.View.{view_of}
 
 -- ---- a drawing call that is not refused
 
-drew_answered : (st : State) (p n : ℕ) (t : Touched) (b : Bool) → Drew (drawn_as st p (answered b) n t).answer
+drew_answered : (st : State) (p n : ℕ) (t : Option Rows) (b : Bool) → Drew (drawn_as st p (answered b) n t).answer
 unfolding Drew drawn_as answered
 drew_answered st p n t true = tt
 drew_answered st p n t false = tt
@@ -137,7 +138,7 @@ module _ (film : List ℕ) (st : State) (allowed : Allowed) where
   body_long false body f = refl
   body_long true body f = let h : 16 ≤ length body = omega (arith, f.word, length-take (length body - 14) (drop 14 body), length-drop 14 body) in le-ltb _ _ h
 
-  drew_by : (map : Map) (start long : ℕ) → map ≡ Part start long → eqb st.columns 0 ≡ false → (body : List ℕ) (p : ℕ) (l : Lent)
+  drew_by : (map : Option Part) (start long : ℕ) → map ≡ some_part start long → eqb st.columns 0 ≡ false → (body : List ℕ) (p : ℕ) (l : Lent)
       → Accepted (part film start (start + long)) (part body 14 (length body)) l → Drew (draw_by map film st body p allowed l).step.answer
   unfolding draw_by draw_mapped
   drew_by map start long e n body p l a =

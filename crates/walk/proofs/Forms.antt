@@ -12,7 +12,6 @@ use lib.Dec.{eqb}
 use lib.ListN.{length}
 use Rattle.refusal.specs.Number.{Verdict}
 use Rattle.packet.specs.Packet.{Packet, packet_in, blocks, start}
-use Rattle.packet.specs.declared.Touched.TheVariants.{None}
 use Rattle.packet.specs.Rows.{touched}
 use Rattle.packet.specs.Verdict.{default, strict}
 use Rattle.packet.specs.Accepted.{Used}
@@ -27,8 +26,9 @@ use Rattle.draw.proofs.Forms.{verdicts_differ}
 use Rattle.palette.specs.Gradient.{create_gradient}
 use Rattle.palette.specs.Entries.{set_palette}
 use Rattle.palette.specs.Mask.{set_palette_compressed}
-use Rattle.state.specs.declared.Map.{Map}
-use Rattle.state.specs.declared.Map.TheVariants.{Missing, Part}
+use Rattle.state.specs.declared.Part.{Part}
+use Rattle.std.specs.Prelude.{Option, Some, None}
+use Rattle.state.specs.State.{some_part}
 use Rattle.state.specs.declared.State.{State}
 use Rattle.state.specs.Moves.{mapped}
 use Rattle.sound.specs.Format.{chosen}
@@ -94,13 +94,13 @@ module _ (film : List ℕ) (st : State) (n : ℕ) where
       by (inl e) = inl (ap outcome_by e)
       by (inr d) = inr (drew_accepted st p q m d.1, ap outcome_by d.2 ∙ ap (λ (k : Lent). after (quiet (refused 15 0)) k) (drawn_back st l))
 
-  map_differ : (map : Map) (body : List ℕ) (p : ℕ) (l : Lent) → Differ l (draw_mapped map film st body p (within n default) l) (draw_mapped map film st body p (within n strict) l)
+  map_differ : (map : Option Part) (body : List ℕ) (p : ℕ) (l : Lent) → Differ l (draw_mapped map film st body p (within n default) l) (draw_mapped map film st body p (within n strict) l)
   unfolding draw_mapped
-  map_differ Missing body p l = inl refl
-  map_differ (Part s long) body p l =
-      differ_by l (eqb st.columns 0) _ _ _ _ (inl refl) (on_differ p (part film s (s + long)) (part body 14 (length body)) l)
+  map_differ None body p l = inl refl
+  map_differ (Some map) body p l =
+      differ_by l (eqb st.columns 0) _ _ _ _ (inl refl) (on_differ p (part film map.start (map.start + map.long)) (part body 14 (length body)) l)
 
-  body_differ : (map : Map) (body : List ℕ) (p : ℕ) (l : Lent) → Differ l (draw_by map film st body p (within n default) l) (draw_by map film st body p (within n strict) l)
+  body_differ : (map : Option Part) (body : List ℕ) (p : ℕ) (l : Lent) → Differ l (draw_by map film st body p (within n default) l) (draw_by map film st body p (within n strict) l)
   unfolding draw_by
   body_differ map body p l = differ_by l (is_body_short st.deep (length body)) _ _ _ _ (inl refl) (map_differ map body p l)
 
@@ -116,8 +116,8 @@ module _ (film : List ℕ) (st : State) (n : ℕ) where
           (cond (eqb kind 13) (update st p (set_palette_compressed body) n l) (after (quiet (quiet_answer (length film) st kind version body p)) l)))
 
       by : (b c : Bool) → eqb kind 17 ≡ c
-          → DifferIf (kind ≡ 17) l (cond b (map_to st (mapped st p (Part s (p - s))) n l) (cond c (draw_by st.map film st body p (within n default) l) other))
-          (cond b (map_to st (mapped st p (Part s (p - s))) n l) (cond c (draw_by st.map film st body p (within n strict) l) other))
+          → DifferIf (kind ≡ 17) l (cond b (map_to st (mapped st p (some_part s (p - s))) n l) (cond c (draw_by st.map film st body p (within n default) l) other))
+          (cond b (map_to st (mapped st p (some_part s (p - s))) n l) (cond c (draw_by st.map film st body p (within n strict) l) other))
       by true c e = inl refl
       by false true e = differ_if (kind ≡ 17) l _ _ (eqb-true _ _ e) (body_differ st.map body p l)
       by false false e = inl refl
@@ -169,8 +169,10 @@ module _ (film : List ℕ) (st : State) (n : ℕ) where
     opcode_is : (o o' : Opcode) → found.opcode o ≡ found.opcode o' → o ≡ o'
     opcode_is o o' e = cc
 
-    part_is : (s long s' long' : ℕ) → Part s long ≡ Part s' long' → (s ≡ s') × (long ≡ long')
-    part_is s long s' long' e = (cc, cc)
+    part_is : (s long s' long' : ℕ) → some_part s long ≡ some_part s' long' → (s ≡ s') × (long ≡ long')
+    part_is s long s' long' e =
+        let q : record { start = s; long = long } ≡ record { start = s'; long = long' } = cc in
+        (ap (λ (p : Part). p.start) q, ap (λ (p : Part). p.long) q)
 
     -- what the strict form draws leaves no byte over
     none_over : Draws strict film st l → Odd film st l → ⊥

@@ -7,8 +7,8 @@ use native.Mathlib.Omega.{arith}
 use borrow.Author.Tests.{eq-eqb, ne_eqb, le-ltb}
 use lib.ListN.{length}
 use lib.Seq.{take_all}
+use Rattle.std.specs.Prelude.{None}
 use Rattle.refusal.specs.Number.{Verdict, accept, refuse}
-use Rattle.packet.specs.declared.Touched.TheVariants.{None}
 use Rattle.packet.specs.Rows.{touched}
 use Rattle.stores.specs.Stores.{Plan, Memory, pixels, stores, following, due, run}
 use Rattle.stores.specs.Stores as drawing

@@ -11,7 +11,7 @@ use lib.ListN.{length, drop}
 use Rattle.words.specs.Word.{word_at}
 use Rattle.words.proofs.Tests.{first, not_first}
 use Rattle.refusal.specs.Number.{accept, refuse}
-use Rattle.packet.specs.declared.Touched.{Touched}
+use Rattle.packet.specs.declared.Rows.{Rows}
 use Rattle.packet.specs.Verdict.{legal, legal_size}
 use Rattle.stores.specs.Calls.{Answer, whole, unfinished, refusal}
 use Rattle.draw.specs.declared.Allowed.{Allowed}
@@ -19,14 +19,14 @@ use Rattle.draw.specs.Call.{Reason, report}
 use Rattle.palette.specs.Update.{Change}
 use Rattle.palette.specs.Update as palette
 use Rattle.sound.specs.declared.Format.{Format}
-use Rattle.sound.specs.declared.Format.TheVariants.{Unknown, Known}
 use Rattle.sound.specs.declared.Sound.{Sound}
 use Rattle.sound.specs.Format.{format_of, possible_format, possible_sound, afresh, going_on, masked}
 use Rattle.sound.specs.Step as sound
 use Rattle.sound.specs.Sound.{answer, initialize_audio, of_format, of_mask, audio_data, audio_silence}
 use Rattle.state.specs.declared.Cursor.{Cursor}
-use Rattle.state.specs.declared.Map.{Map}
-use Rattle.state.specs.declared.Map.TheVariants.{Part}
+use Rattle.state.specs.declared.Part.{Part}
+use Rattle.std.specs.Prelude.{Option, Some, None}
+use Rattle.state.specs.State.{some_part}
 use Rattle.state.specs.declared.State.{State}
 use Rattle.state.specs.Moves.{cursor_behind, cursor_at_end, at, behind, at_end, sized, shown_next, sent, mapped, heard, finished}
 use Rattle.state.specs.State.{most_front, possible_size, map_inside, possible, bounds_verdict, state_verdict}
@@ -160,9 +160,9 @@ module _ (s : Sound) where
     unfolding of_mask of_format Tuned
     tuned_mask mask step t = by (masked s.stream mask) s.format
       where
-        by : (b : Bool) (f : Format) → Tuned (cond b (of_format f step) (sound.taken s []))
-        by true Unknown = tt
-        by true (Known a b c) = t a b c
+        by : (b : Bool) (f : Option Format) → Tuned (cond b (of_format f step) (sound.taken s []))
+        by true None = tt
+        by true (Some f) = t f.stereo f.wide f.compressed
         by false f = (h, refl)
 
     tuned_heard : (kind version : ℕ) (body : List ℕ) (room : ℕ) → Tuned (heard_by s kind version body room)
@@ -212,7 +212,7 @@ module _ (film : List ℕ) (st : State) (v : state_verdict st (length film) ≡ 
           stream = refl;
         }
 
-    to_mapped : (m : Map) → map_inside m (length film) ≡ true → To (mapped st p m)
+    to_mapped : (m : Option Part) → map_inside m (length film) ≡ true → To (mapped st p m)
     unfolding mapped possible cursor_behind
     to_mapped m h =
         record { possible = accepts (mapped st p m) (length film) within inside (record { map = h; front = k.front; rest = k.rest }); stream = refl }
@@ -272,7 +272,7 @@ module _ (film : List ℕ) (st : State) (v : state_verdict st (length film) ≡ 
     palette_given (palette.unfinished n) = record { possible = v; stream = refl }
     palette_given (palette.refused n i) = tt
 
-    map_given : (m : Map) → map_inside m (length film) ≡ true → (n : ℕ) (l : Lent) → OfState To (map_to st (mapped st p m) n l).step.answer
+    map_given : (m : Option Part) → map_inside m (length film) ≡ true → (n : ℕ) (l : Lent) → OfState To (map_to st (mapped st p m) n l).step.answer
     unfolding map_to OfState
     map_given m h n l = by (eqb n 0)
       where
@@ -286,7 +286,7 @@ module _ (film : List ℕ) (st : State) (v : state_verdict st (length film) ≡ 
     heard_given (sound.taken s bytes) t = to_heard s t.0 t.1
     heard_given (sound.refused n i) t = tt
 
-    drawn_given : (x : Answer Reason) (n : ℕ) (t : Touched) → OfState To (drawn_as st p x n t).answer
+    drawn_given : (x : Answer Reason) (n : ℕ) (t : Option Rows) → OfState To (drawn_as st p x n t).answer
     unfolding drawn_as OfState
     drawn_given whole n t = to_finished
     drawn_given unfinished n t = record { possible = v; stream = refl }
@@ -313,7 +313,7 @@ module _ (film : List ℕ) (st : State) (allowed : Allowed) (l : Lent) where
       (tuned_heard st.sound (both film st a.accepted).1 o.kind o.version (body_of film o) (length l.room))
   given (maps o a u e) =
       let h : o.start + (end_of o - o.start) ≤ length film = omega (arith, a.ready.inside) in
-      map_given film st a.accepted (end_of o) a.ready.within (Part o.start (end_of o - o.start)) (le-leb _ _ h) allowed.stores l
+      map_given film st a.accepted (end_of o) a.ready.within (some_part o.start (end_of o - o.start)) (le-leb _ _ h) allowed.stores l
   given (colours o x a u c) = palette_given film st a.accepted (end_of o) a.ready.within _
   given (too_short o a u e d n) = tt
   given (undrawn o a u e m) = tt

@@ -5,9 +5,9 @@ use mathlib.Core.Bool.{Bool, true, false, cond}
 use mathlib.Core.List.{List}
 use Prim.Native.Nat.{ℕ, ◌+◌}
 use lib.Dec.{eqb}
+use Rattle.std.specs.Prelude.{Option, None}
 use Rattle.refusal.specs.Number.{Verdict, accept, refuse}
-use Rattle.packet.specs.declared.Touched.{Touched}
-use Rattle.packet.specs.declared.Touched.TheVariants.{None}
+use Rattle.packet.specs.declared.Rows.{Rows}
 use Rattle.packet.specs.Rows.{touched, Outside}
 use Rattle.stores.specs.Stores.{Memory}
 use Rattle.stores.specs.Calls.{answered, returns, call_of, outcome, happens, step}
@@ -38,7 +38,7 @@ still : (t : ℕ) (l : Lent) (p : List ℕ) (n : ℕ) (r : List ℕ) → Picture
 still t l p n r = beside (PixelKept t) l l (all_kept (PixelKept t) (λ x. refl) l) p _ n _ r _
 
 -- a drawn step tells the rows of its drawing call, unless that is refused
-drawn_rows : (columns t : ℕ) (st : State) (p : ℕ) (b : Bool) (n : ℕ) (u : Touched) → Outside columns (drawn_as st p (answered b) n u).rows t → Outside columns u t
+drawn_rows : (columns t : ℕ) (st : State) (p : ℕ) (b : Bool) (n : ℕ) (u : Option Rows) → Outside columns (drawn_as st p (answered b) n u).rows t → Outside columns u t
 unfolding drawn_as answered
 drawn_rows columns t st p true n u o = o
 drawn_rows columns t st p false n u o = o

@@ -13,11 +13,11 @@ use Rattle.draw.specs.declared.Allowed.{Allowed}
 use Rattle.palette.specs.Gradient.{create_gradient}
 use Rattle.palette.specs.Entries.{set_palette}
 use Rattle.palette.specs.Mask.{set_palette_compressed}
-use Rattle.state.specs.declared.Map.{Map}
-use Rattle.state.specs.declared.Map.TheVariants.{Missing, Part}
+use Rattle.state.specs.declared.Part.{Part}
+use Rattle.std.specs.Prelude.{Option, Some, None}
 use Rattle.state.specs.declared.State.{State}
 use Rattle.state.specs.Moves.{mapped}
-use Rattle.state.specs.State.{state_verdict}
+use Rattle.state.specs.State.{state_verdict, some_part}
 use Rattle.heads.specs.declared.Opcode.{Opcode}
 use Rattle.next.specs.Next.{Standing, on, next_of}
 use Rattle.next.specs.Next as found
@@ -39,14 +39,14 @@ module _ (film : List ℕ) (st : State) (allowed : Allowed) (l : Lent) where
   accepted x e f = on_accept _ _ x e f
 
   module _ (o : Opcode) (a : AtOpcode film st l o) (u : as_sound st o ≡ false) where
-    by_map : o.kind ≡ 17 → (m : Map) → st.map ≡ m → View film st allowed l (draw_mapped m film st (body_of film o) (end_of o) allowed l)
+    by_map : o.kind ≡ 17 → (m : Option Part) → st.map ≡ m → View film st allowed l (draw_mapped m film st (body_of film o) (end_of o) allowed l)
     unfolding draw_mapped
-    by_map k Missing e = undrawn o a u k (no_map e)
-    by_map k (Part start long) e = by (eqb st.columns 0) refl
+    by_map k None e = undrawn o a u k (no_map e)
+    by_map k (Some map) e = by (eqb st.columns 0) refl
       where
-        by : (b : Bool) → eqb st.columns 0 ≡ b → View film st allowed l (cond b (after (quiet (refused 9 0)) l) (draw_on st (end_of o) (part film start (start + long)) (packet_of film o) allowed l))
+        by : (b : Bool) → eqb st.columns 0 ≡ b → View film st allowed l (cond b (after (quiet (refused 9 0)) l) (draw_on st (end_of o) (part film map.start (map.start + map.long)) (packet_of film o) allowed l))
         by true q = undrawn o a u k (no_size (eqb-true _ _ q))
-        by false q = draws o start long a u k e (eqb-false _ _ q)
+        by false q = draws o map.start map.long a u k e (eqb-false _ _ q)
 
     by_body : o.kind ≡ 17 → View film st allowed l (draw_by st.map film st (body_of film o) (end_of o) allowed l)
     unfolding draw_by is_body_short
@@ -64,7 +64,7 @@ module _ (film : List ℕ) (st : State) (allowed : Allowed) (l : Lent) where
       where
         by : (b15 b17 b11 b12 b13 : Bool) → eqb o.kind 15 ≡ b15 → eqb o.kind 17 ≡ b17 → eqb o.kind 11 ≡ b11 → eqb o.kind 12 ≡ b12 → eqb o.kind 13 ≡ b13
             → View film st allowed l
-            (cond b15 (map_to st (mapped st (end_of o) (Part o.start (end_of o - o.start))) allowed.stores l)
+            (cond b15 (map_to st (mapped st (end_of o) (some_part o.start (end_of o - o.start))) allowed.stores l)
             (cond b17 (draw_by st.map film st (body_of film o) (end_of o) allowed l)
             (cond b11 (update st (end_of o) (create_gradient (body_of film o)) allowed.stores l)
             (cond b12 (update st (end_of o) (set_palette (body_of film o)) allowed.stores l)

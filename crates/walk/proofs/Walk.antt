@@ -9,8 +9,7 @@ use lib.Dec.{eqb, ltb}
 use lib.ListN.{length, take}
 use Rattle.words.specs.Word.{word_at}
 use Rattle.refusal.specs.Number.{Verdict, accept, refuse}
-use Rattle.packet.specs.declared.Touched.{Touched}
-use Rattle.packet.specs.declared.Touched.TheVariants.{None}
+use Rattle.packet.specs.declared.Rows.{Rows}
 use Rattle.packet.specs.Rows.{touched}
 use Rattle.packet.specs.Verdict.{legal_size}
 use Rattle.stores.specs.Stores.{Plan, count, after as afterStores}
@@ -20,7 +19,8 @@ use Rattle.draw.specs.Call.{packet_of, call_plan, draw_verdict, Reason, comes}
 use Rattle.listed.specs.Store.{applied}
 use Rattle.palette.specs.Update.{Update, verdict_on, change_of, change_by, on_accept, palette_after}
 use Rattle.palette.specs.Update as palette
-use Rattle.state.specs.declared.Map.{Map}
+use Rattle.state.specs.declared.Part.{Part}
+use Rattle.std.specs.Prelude.{Option, None}
 use Rattle.state.specs.declared.State.{State}
 use Rattle.state.specs.Moves.{cursor_behind, cursor_at_end, at, behind, at_end, sized, sent, mapped, heard, finished}
 use Rattle.sound.specs.declared.Sound.{Sound}
@@ -60,7 +60,7 @@ module _ (film : List ℕ) (st : State) (p : ℕ) (rises : st.cursor.position + 
   unfolding sent cursor_behind
   on_sent = record { rises = rises; ordered = within; inside = inside }
 
-  on_mapped : (m : Map) → Forward (length film) st (mapped st p m)
+  on_mapped : (m : Option Part) → Forward (length film) st (mapped st p m)
   unfolding mapped cursor_behind
   on_mapped m = record { rises = rises; ordered = within; inside = inside }
 
@@ -112,7 +112,7 @@ module _ (film : List ℕ) (st : State) (p : ℕ) (rises : st.cursor.position + 
       by accept = change_good n (length u.stores) l _ (ltb n (length u.stores))
       by (refuse m k) = quiet_good l (refused m k) tt
 
-  map_good : (m : Map) (n : ℕ) (l : Lent) → Good (length film) st l (map_to st (mapped st p m) n l)
+  map_good : (m : Option Part) (n : ℕ) (l : Lent) → Good (length film) st l (map_to st (mapped st p m) n l)
   unfolding map_to Moves Still
   map_good m n l = by (eqb n 0)
     where
@@ -122,7 +122,7 @@ module _ (film : List ℕ) (st : State) (p : ℕ) (rises : st.cursor.position + 
       by false = record { moves = on_mapped m; keeps = λ s. absurd s }
 
   -- 11
-  plan_good : (d : Plan) (t : Touched) (l : Lent) (v : Call Reason)
+  plan_good : (d : Plan) (t : Option Rows) (l : Lent) (v : Call Reason)
       → Good (length film) st l (after (drawn_step st p (outcome d t None (drawn_at st l) v)) (with_drawn st l (leave d (drawn_at st l) v)))
   unfolding drawn_as Moves Still outcome answered leave
   plan_good d t l (denied r) = record { moves = tt; keeps = λ s. drawn_back st l }

@@ -4,8 +4,8 @@
 use Rattle.std.specs.Prelude.{◌≡◌, List, ℕ, ◌+◌, ◌≤◌, length}
 use Rattle.packet.specs.Packet.{packet_in, blocks}
 use Rattle.packet.specs.Accepted.{AcceptsIn}
-use Rattle.state.specs.declared.Map.TheVariants.{Part}
 use Rattle.state.specs.declared.State.{State}
+use Rattle.state.specs.State.{some_part}
 use Rattle.heads.specs.declared.Opcode.{Opcode}
 use Rattle.next.specs.Next.{opcode}
 use Rattle.opcodes.specs.Opcodes.{Answer, taken, whole, unfinished, ended, refused}
@@ -27,7 +27,7 @@ pub record Draws (spare : ℕ) (film : List ℕ) (st : State) (l : Lent) : Type 
   pub is_11 : found.kind ≡ 17
   pub start : ℕ
   pub long : ℕ
-  pub mapped : st.map ≡ Part start long
+  pub mapped : st.map ≡ some_part start long
   pub accepted : AcceptsIn st.deep spare st.columns st.rows (part film start (start + long)) (packet_of film found)
   pub within : l.place ≤ blocks (packet_in st.deep st.columns st.rows (part film start (start + long)) (packet_of film found))
 

@@ -6,8 +6,8 @@ use Rattle.packet.specs.Packet.{packet_in}
 use Rattle.packet.specs.Verdict.{default, strict}
 use Rattle.packet.specs.Forms.{NothingOver, OneOver}
 use Rattle.draw.specs.Call.{within}
-use Rattle.state.specs.declared.Map.TheVariants.{Part}
 use Rattle.state.specs.declared.State.{State}
+use Rattle.state.specs.State.{some_part}
 use Rattle.heads.specs.declared.Opcode.{Opcode}
 use Rattle.next.specs.Next.{opcode}
 use Rattle.opcodes.specs.Opcodes.{refused, quiet}
@@ -18,7 +18,7 @@ use Rattle.walk.specs.Draws.{packet_of, Draws, Drew}
 abbrev pub NothingLeft : List ℕ → State → Lent → Type 0
 NothingLeft film st l =
     (o : Opcode) (start long : ℕ) → stands_at film st l ≡ opcode o → o.kind ≡ 17
-    → st.map ≡ Part start long → NothingOver (packet_in st.deep st.columns st.rows (part film start (start + long)) (packet_of film o))
+    → st.map ≡ some_part start long → NothingOver (packet_in st.deep st.columns st.rows (part film start (start + long)) (packet_of film o))
 
 pub record Odd (film : List ℕ) (st : State) (l : Lent) : Type 0 where
   pub draws : Draws default film st l

@@ -1,7 +1,7 @@
 -- A step by what it does: every step is one of these ten (`proofs/View.view_of`), each with what stands where the state is, and with what comes of it. A proof
 -- about every step has one clause for each.
 -- Assumes nothing.
-use Rattle.std.specs.Prelude.{◌≡◌, Bool, true, false, List, ℕ, ◌+◌, ◌-◌, ◌<◌, length}
+use Rattle.std.specs.Prelude.{◌≡◌, Bool, true, false, List, ℕ, ◌+◌, ◌-◌, ◌<◌, length, None}
 use Rattle.refusal.specs.Number.{accept}
 use Rattle.draw.specs.declared.Allowed.{Allowed}
 use Rattle.palette.specs.Update.{Update}
@@ -10,10 +10,9 @@ use Rattle.palette.specs.Entries.{set_palette}
 use Rattle.palette.specs.Mask.{set_palette_compressed}
 use Rattle.sound.specs.Format.{chosen}
 use Rattle.state.specs.declared.Cursor.{Cursor}
-use Rattle.state.specs.declared.Map.TheVariants.{Missing, Part}
 use Rattle.state.specs.declared.State.{State}
 use Rattle.state.specs.Moves.{into, mapped}
-use Rattle.state.specs.State.{state_verdict}
+use Rattle.state.specs.State.{state_verdict, some_part}
 use Rattle.heads.specs.declared.Opcode.{Opcode}
 use Rattle.heads.specs.Heads.{hears}
 use Rattle.next.specs.Next.{Ready}
@@ -44,7 +43,7 @@ pub data Colours (kind : ℕ) (body : List ℕ) : Update → Type 0 where
 
 -- 9: no pending map, or no size
 pub data Unmapped (st : State) : Type 0 where
-  no_map : st.map ≡ Missing → Unmapped st
+  no_map : st.map ≡ None → Unmapped st
   no_size : st.columns ≡ 0 → Unmapped st
 
 -- a type that is none of 0B, 0C, 0D, 0F and 11
@@ -64,7 +63,7 @@ pub data View (film : List ℕ) (st : State) (allowed : Allowed) (l : Lent) : Ou
   sounds : (o : Opcode) → AtOpcode film st l o → as_sound st o ≡ true → View film st allowed l (hear st o.kind o.version (body_of film o) (end_of o) l)
   -- 0F
   maps : (o : Opcode) → AtOpcode film st l o → as_sound st o ≡ false → o.kind ≡ 15
-      → View film st allowed l (map_to st (mapped st (end_of o) (Part o.start (end_of o - o.start))) allowed.stores l)
+      → View film st allowed l (map_to st (mapped st (end_of o) (some_part o.start (end_of o - o.start))) allowed.stores l)
   -- 0B, 0C, 0D
   colours : (o : Opcode) (u : Update) → AtOpcode film st l o → as_sound st o ≡ false → Colours o.kind (body_of film o) u
       → View film st allowed l (update st (end_of o) u allowed.stores l)
@@ -72,7 +71,7 @@ pub data View (film : List ℕ) (st : State) (allowed : Allowed) (l : Lent) : Ou
   too_short : (o : Opcode) → AtOpcode film st l o → as_sound st o ≡ false → o.kind ≡ 17 → st.deep ≡ true → length (body_of film o) < 16
       → View film st allowed l (after (quiet (refused 5 0)) l)
   undrawn : (o : Opcode) → AtOpcode film st l o → as_sound st o ≡ false → o.kind ≡ 17 → Unmapped st → View film st allowed l (after (quiet (refused 9 0)) l)
-  draws : (o : Opcode) (start long : ℕ) → AtOpcode film st l o → as_sound st o ≡ false → o.kind ≡ 17 → st.map ≡ Part start long → (st.columns ≡ 0 → ⊥)
+  draws : (o : Opcode) (start long : ℕ) → AtOpcode film st l o → as_sound st o ≡ false → o.kind ≡ 17 → st.map ≡ some_part start long → (st.columns ≡ 0 → ⊥)
       → View film st allowed l (draw_on st (end_of o) (part film start (start + long)) (packet_of film o) allowed l)
   -- every other opcode
   others : (o : Opcode) → AtOpcode film st l o → as_sound st o ≡ false → Other o.kind

@@ -2,14 +2,14 @@
 -- Assumes nothing.
 use mathlib.Core.Path.{◌≡◌, refl, sym, ap, ◌∙◌, subst}
 use mathlib.Core.Logic.{◌⊎◌, inl, inr, ⊎_elim}
-use mathlib.Core.Bool.{Bool, false}
+use mathlib.Core.Bool.{Bool, false, cond}
 use mathlib.Core.List.{List, []}
 use Prim.Native.Nat.{ℕ, zero, suc, ◌+◌, ◌-◌, ◌*◌, ◌≤◌, ◌<◌}
 use native.Mathlib.Omega.{arith}
 use native.Mathlib.Nat.{mul-le-mul_right}
-use lib.ListN.{length}
+use lib.ListN.{length, get_or}
 use Rattle.pattern.specs.declared.Form.{Form}
-use Rattle.pattern.specs.Form.{Shape, shape}
+use Rattle.pattern.specs.Form.{shape}
 use Rattle.pattern.specs.Pattern.{pattern_source}
 use Rattle.motion.specs.declared.Vector.{Vector}
 use Rattle.motion.specs.Motion.{ahead_vector, negated, raster_index, copied_index, Short, Onward}
@@ -18,14 +18,16 @@ use Rattle.block.specs.declared.Picture.{Picture}
 use Rattle.block.specs.declared.Picture.TheVariants.{Last, New, Oldest}
 use Rattle.block.specs.declared.Source.{Source}
 use Rattle.block.specs.declared.Source.TheVariants.{Data, Copied}
-use Rattle.block.specs.Block.{Side, pixels, Kind, same, copied, patterned, celled, dithered, kind_of, byte_kind, colour_bytes, data_length, cell_source, dither_source, source}
+use Rattle.block.specs.Block.{Side, one, pixels, Kind, same, copied, patterned, celled, dithered, kind_of, byte_kind, colour_bytes, data_length, cell_source, dither_source, source, colour_at, stored, pictured, fetched}
 use Rattle.block.specs.Asked.{last_copied, first_offset, vector_at}
 use Rattle.block.proofs.Codes.{kind_0, kind_1, kind_2, kind_3, kind_4, kind_5, copy_judged}
 use Rattle.pixel.proofs.Sources.{same_source, copied_source, form_source_is, cell_source_is}
-use Rattle.paint.specs.Value.{pixel_count}
+use Rattle.stores.specs.Stores.{Plan}
+use Rattle.paint.specs.Value.{pixel_count, Older, flat, pixel_value, block_plan, plan_of}
 use Rattle.paint.specs.Asked.{Square, Canvas, Drawable, ByteDrawable}
-use Rattle.rows.specs.Row.{Sources, ByteSources, BackSources, Disjoint}
-use Rattle.whole.specs.Asked.{Pointed, Clear}
+use Rattle.rows.specs.Row.{colour, Block, Disjoint}
+use Rattle.rows.proofs.Colours.{raw_source}
+use Rattle.whole.specs.Asked.{Pointed, Reached, Clear}
 
 -- ---- the picture
 
@@ -77,22 +79,6 @@ module _ (w h x y front back : ℕ) (c : Canvas w h x y front back) where
 pub pointed_front : (w h x y front back : ℕ) → Canvas w h x y front back → (v : Vector) → Pointed v w h x y → Square w (x + v.right - v.left) (y + v.down - v.up) front
 pointed_front w h x y front back c v p = front_square _ _ _ _ _ _ (pointed_canvas w h x y front back c v p)
 
--- ---- the same sources in other words
-
-module _ {deep : Bool} {κ : Kind} {s : List ℕ} {w x y : ℕ} where
-  pub copied_pointed : (p : Picture) (v : Vector) → Sources deep κ s w x y (λ i. Copied p (copied_index v w x y i))
-      → Sources deep κ s w x y (λ i. Copied p (raster_index w (x + v.right - v.left) (y + v.down - v.up) i))
-  unfolding copied_index
-  copied_pointed p v q = q
-
-  pub form_shaped : (f g : Form) (q : Shape) → f ≡ g → shape deep g ≡ q
-      → Sources deep κ s w x y (λ i. Data (pattern_source (shape deep f) s i)) → Sources deep κ s w x y (λ i. Data (pattern_source q s i))
-  form_shaped f g q e k = subst (λ (z : Shape). Sources deep κ s w x y (λ i. Data (pattern_source z s i))) (ap (shape deep) e ∙ k)
-
-pub back_pointed : (code : ℕ) (s : List ℕ) (w x y : ℕ) (v : Vector) → BackSources code s w x y (λ i. copied_index v w x y i)
-    → BackSources code s w x y (λ i. raster_index w (x + v.right - v.left) (y + v.down - v.up) i)
-back_pointed code s w x y v q = record { picture = q.picture; drawn_on = q.drawn_on; sources = copied_pointed q.picture v q.sources }
-
 -- ---- what each kind asks
 
 -- codes 2 and 3, 4 and 5
@@ -141,38 +127,79 @@ same_kind {code} {s} {n = n} d l g = ⊎_elim (λ z. kind_0 false s [] code z) (
     below_2 (suc zero) h = inr refl
     below_2 (suc (suc c)) h = absurd (let z : ⊥ = omega arith in z)
 
--- ---- the sources of each kind
+-- ---- what each family's function asks
 
-module _ {deep : Bool} {code : ℕ} {s o : List ℕ} {w h x y : ℕ} (d : Drawable deep code s o w h x y 64) where
-  of_kind : (from : ℕ → Source) → ((i : ℕ) → from i ≡ source deep (kind_of deep code s o) s w x y i) → Sources deep (kind_of deep code s o) s w x y from
-  of_kind from e = record { all = d.count; each = λ i l. e i }
+-- the 8x8 that a vector points at
+pub reached : {w h x y from to : ℕ} → Canvas w h x y from to → {v : Vector} → Pointed v w h x y → Reached v w x y from to
+reached {w} {h} {x} {y} {from} {to} c {v} p =
+    record {
+      short = p.short;
+      right = (starts w h x y from to c v p).0;
+      down = (starts w h x y from to c v p).1;
+      source = pointed_front w h x y from to c v p;
+      room = back_square w h x y from to c;
+    }
 
-  pub same_sources : (p : Picture) → kind_of deep code s o ≡ same p → Sources deep (kind_of deep code s o) s w x y (λ i. Copied p (raster_index w x y i))
-  same_sources p k = of_kind _ (λ i. same_source deep (kind_of deep code s o) s w x y i p _ k refl)
+-- none of its rows overlaps the block's
+pub copied_apart : {w h x y front back : ℕ} → Canvas w h x y front back → {v : Vector} → Pointed v w h x y → Clear v → Disjoint (copied_index v w x y 0) (raster_index w x y 0)
+unfolding copied_index
+copied_apart {w} {h} {x} {y} {front} {back} c {v} p clear = pointed_apart w h x y front back c v p clear
 
-  pub copied_sources : (p : Picture) (v : Vector) (n m : ℕ) → kind_of deep code s o ≡ copied p (vector_at deep code s o) n m → v ≡ vector_at deep code s o
-      → Sources deep (kind_of deep code s o) s w x y (λ i. Copied p (copied_index v w x y i))
-  copied_sources p v n m k e = of_kind _ (λ i. copied_source deep (kind_of deep code s o) s w x y i p _ n m _ v k e refl)
+module _ {deep : Bool} {code : ℕ} {s o : List ℕ} {w h x y : ℕ} (d : Drawable deep code s o w h x y 64) (older : Older) {p : Plan} (e : p ≡ block_plan deep (kind_of deep code s o) s w x y older) where
+  -- what each pixel becomes: what stands at its source
+  block_of : (from : ℕ → Source) → ((i : ℕ) → from i ≡ source deep (kind_of deep code s o) s w x y i) → (value : ℕ → List ℕ → ℕ)
+      → ((i : ℕ) (b : List ℕ) → value i b ≡ fetched deep (from i) s older.last b (cond deep older.oldest b)) → Block p w x y value
+  unfolding pixel_value
+  block_of from f value v =
+      rw e
+      (record {
+        all = d.count;
+        targets = λ i l. refl;
+        values = λ i l b. v i b ∙ ap (λ (u : Source). fetched deep u s older.last b (cond deep older.oldest b)) (f i);
+      })
 
-  pub form_sources : (f : Form) → kind_of deep code s o ≡ patterned f → Sources deep (kind_of deep code s o) s w x y (λ i. Data (pattern_source (shape deep f) s i))
-  form_sources f k = of_kind _ (λ i. form_source_is deep (kind_of deep code s o) s w x y i _ f k refl)
+  pub same_block : (q : Picture) → kind_of deep code s o ≡ same q → Block p w x y (λ i b. stored deep (get_or (pictured q older.last b (cond deep older.oldest b)) (raster_index w x y i) 0))
+  unfolding fetched
+  same_block q k = block_of (λ i. Copied q (raster_index w x y i)) (λ i. same_source deep (kind_of deep code s o) s w x y i q _ k refl) _ (λ i b. refl)
 
-  pub cell_sources : (c : Side) → kind_of deep code s o ≡ celled c → Sources deep (kind_of deep code s o) s w x y (λ i. Data (colour_bytes deep (cell_source (pixels c) i)))
-  cell_sources c k = of_kind _ (λ i. cell_source_is deep (kind_of deep code s o) s w x y i _ _ c k refl refl)
+  pub copied_block : (q : Picture) (v : Vector) (n m : ℕ) → kind_of deep code s o ≡ copied q (vector_at deep code s o) n m → v ≡ vector_at deep code s o
+      → Block p w x y (λ i b. stored deep (get_or (pictured q older.last b (cond deep older.oldest b)) (copied_index v w x y i) 0))
+  unfolding fetched
+  copied_block q v n m k f =
+      block_of (λ i. Copied q (copied_index v w x y i)) (λ i. copied_source deep (kind_of deep code s o) s w x y i q _ n m _ v k f refl) _ (λ i b. refl)
+
+  pub form_block : (f : Form) → kind_of deep code s o ≡ patterned f → Block p w x y (λ i b. stored deep (colour_at deep s (pattern_source (shape deep f) s i)))
+  unfolding fetched
+  form_block f k =
+      block_of (λ i. Data (pattern_source (shape deep f) s i)) (λ i. form_source_is deep (kind_of deep code s o) s w x y i _ f k refl) _ (λ i b. refl)
+
+  pub cell_block : (c : Side) → kind_of deep code s o ≡ celled c → Block p w x y (λ i b. colour deep s (cell_source (pixels c) i))
+  unfolding fetched
+  cell_block c k =
+      block_of (λ i. Data (colour_bytes deep (cell_source (pixels c) i))) (λ i. cell_source_is deep (kind_of deep code s o) s w x y i _ _ c k refl refl) _ (λ i b. refl)
+
+  -- code B: a colour a pixel
+  pub raw_block : kind_of deep code s o ≡ celled one → Block p w x y (λ i b. colour deep s i)
+  unfolding fetched
+  raw_block k =
+      block_of (λ i. Data (colour_bytes deep (cell_source 1 i))) (λ i. cell_source_is deep (kind_of deep code s o) s w x y i _ _ one k refl refl) _
+      (λ i b. ap (colour deep s) (raw_source i))
 
 -- of an 8-bit film
-module _ {code : ℕ} {s : List ℕ} {w h x y : ℕ} (d : ByteDrawable code s w h x y 64) where
+module _ {code : ℕ} {s : List ℕ} {w h x y : ℕ} (d : ByteDrawable code s w h x y 64) (front : List ℕ) {p : Plan} (e : p ≡ plan_of code s front w x y) where
   -- codes 2 and 3 copy the picture that is drawn on, 4 and 5 the last, by the vector of their kind
-  pub back_sources : (v : Vector) → 1 < code → code < 4 → v ≡ vector_at false code s [] → BackSources code s w x y (λ i. copied_index v w x y i)
-  back_sources v g l e =
-      ⊎_elim (λ k. record { picture = Oldest; drawn_on = λ a b. refl; sources = copied_sources d Oldest v 1 0 (kind_2 false s [] code k) e })
-      (λ k. record { picture = New; drawn_on = λ a b. refl; sources = copied_sources d New v 1 0 (kind_3 false s [] code k) e })
+  pub back_block : (v : Vector) → 1 < code → code < 4 → v ≡ vector_at false code s [] → Block p w x y (λ i b. get_or b (copied_index v w x y i) 0)
+  back_block v g l f =
+      ⊎_elim (λ k. copied_block d (flat front) e Oldest v 1 0 (kind_2 false s [] code k) f)
+      (λ k. copied_block d (flat front) e New v 1 0 (kind_3 false s [] code k) f)
       (two_three code g l)
 
-  pub front_sources : (v : Vector) → 3 < code → code < 6 → v ≡ vector_at false code s [] → ByteSources code s w x y (λ i. Copied Last (copied_index v w x y i))
-  front_sources v g l e =
-      ⊎_elim (λ k. copied_sources d Last v 1 0 (kind_4 false s [] code k) e) (λ k. copied_sources d Last v 2 0 (kind_5 false s [] code k) e) (four_five code g l)
+  pub front_block : (v : Vector) → 3 < code → code < 6 → v ≡ vector_at false code s [] → Block p w x y (λ i b. get_or front (copied_index v w x y i) 0)
+  front_block v g l f =
+      ⊎_elim (λ k. copied_block d (flat front) e Last v 1 0 (kind_4 false s [] code k) f)
+      (λ k. copied_block d (flat front) e Last v 2 0 (kind_5 false s [] code k) f)
+      (four_five code g l)
 
-  pub dither_sources : byte_kind code s ≡ dithered → ByteSources code s w x y (λ i. Data (dither_source i))
-  unfolding source
-  dither_sources k = of_kind d _ (λ i. ap (λ (κ : Kind). source false κ s w x y i) (sym k))
+  pub dither_block : byte_kind code s ≡ dithered → Block p w x y (λ i b. get_or s (dither_source i) 0)
+  unfolding fetched source
+  dither_block k = block_of d (flat front) e (λ i. Data (dither_source i)) (λ i. ap (λ (κ : Kind). source false κ s w x y i) (sym k)) _ (λ i b. refl)

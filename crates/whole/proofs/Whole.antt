@@ -19,3 +19,7 @@ module _ (code : ℕ) (s : List ℕ) where
 
   pub all_painted : code < 16 → (code ≡ 1 → ⊥) → (d : Plan) (b b' : List ℕ) → b' ≡ first_pixels d 0 b 64 → b' ≡ first_pixels d 0 b (pixel_count (byte_kind code s))
   all_painted l n d b b' e = e ∙ ap (first_pixels d 0 b) (count_64 s code l n)
+
+-- as many pixels as the plan says
+pub as_many : {d e : Plan} (b b' : List ℕ) → d ≡ e → b' ≡ first_pixels d 0 b (e.size 0) → b' ≡ first_pixels d 0 b (d.size 0)
+as_many {d} b b' p k = k ∙ ap (first_pixels d 0 b) (sym (ap (λ (q : Plan). q.size 0) p))

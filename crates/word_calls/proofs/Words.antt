@@ -1,27 +1,24 @@
 -- Every block of a packet with true colour is stored and touched, and every word that is stored has its high bit cleared: `every_block`.
 -- Assumes nothing.
-use mathlib.Core.Path.{◌≡◌, sym, ap, ap₂, ◌∙◌}
+use mathlib.Core.Path.{◌≡◌, sym, ap}
 use mathlib.Core.Bool.{true}
 use mathlib.Core.List.{List}
-use Prim.Native.Nat.{ℕ, zero, suc, ◌+◌, ◌-◌, ◌*◌, ◌/◌, ◌≤◌, ◌<◌}
-use native.Mathlib.Nat.{mul_comm, suc-mul, mul-le-mul, div-le_self}
+use Prim.Native.Nat.{ℕ, zero, suc, ◌+◌, ◌-◌, ◌*◌, ◌≤◌, ◌<◌}
+use native.Mathlib.Nat.{suc-mul}
 use native.Mathlib.Omega.{arith}
-use lib.Arith.{digits_div}
 use lib.ListN.{length}
 use Rattle.block.specs.declared.Source.{Source}
 use Rattle.block.specs.declared.Source.TheVariants.{Data, Copied}
 use Rattle.block.specs.Block.{fetched}
 use Rattle.paint.specs.Value.{pixel_value}
 use Rattle.packet.specs.Packet.{first_part, second_part, packet_in, code, data_of, offsets_of}
-use Rattle.packet.specs.declared.Touched.TheVariants.{Rows}
-use Rattle.packet.specs.Rows.{touched}
 use Rattle.packet.proofs.Walk.{code_below}
 use Rattle.stores.specs.Stores.{Plan, due}
 use Rattle.stores.proofs.Steps.{due_end, due_length}
 use Rattle.draw.specs.declared.Allowed.{Allowed}
 use Rattle.draw.specs.Drawing.{size_at, value_at}
 use Rattle.draw.specs.Call.{word_request, call_plan}
-use Rattle.word_paint.proofs.Words.{count_deep}
+use Rattle.paint.proofs.Counts.{count_deep}
 use Rattle.word_packet.proofs.Walk.{touched_all}
 use Rattle.word_calls.specs.Words.{EveryBlock}
 
@@ -40,22 +37,6 @@ unfolding fetched
 low_word (Data j) s last new oldest = omega arith
 low_word (Copied p j) s last new oldest = omega arith
 
--- ---- rows
-
-last_row : (columns rows : ℕ) → 1 ≤ columns → (columns * suc rows - 1) / columns ≡ rows
-last_row columns rows h =
-    let l : columns - 1 < columns = omega arith in
-    let e : columns * suc rows - 1 ≡ rows * columns + (columns - 1) = omega (arith, mul_comm columns (suc rows), suc-mul rows columns) in
-    ap (λ (n : ℕ). n / columns) e ∙ digits_div rows l
-
-rows_are : (columns rows : ℕ) (map bytes : List ℕ) → 1 ≤ columns → 1 ≤ rows → touched (packet_in true columns rows map bytes) ≡ Rows 0 (rows - 1)
-rows_are columns zero map bytes h l = absurd (let z : ⊥ = omega arith in z)
-rows_are columns (suc rows) map bytes h l =
-    let some : 1 ≤ columns * suc rows = mul-le-mul h l in
-    let first : 0 / columns ≡ 0 = omega (arith, div-le_self 0 columns) in
-    let last : (columns * suc rows - 1) / columns ≡ suc rows - 1 = omega (arith, last_row columns rows h) in
-    sym (touched_all columns (suc rows) map (first_part bytes) (second_part bytes) some) ∙ ap₂ Rows first last
-
 module _ (columns rows : ℕ) (map bytes last oldest : List ℕ) (n : Allowed) where
   size_64 : (k : ℕ) → size_at (packet_in true columns rows map bytes) k ≡ 64
   unfolding size_at
@@ -69,6 +50,6 @@ module _ (columns rows : ℕ) (map bytes last oldest : List ℕ) (n : Allowed) w
   every_block h l =
       record {
         stores = λ k q. due_exact (call_plan (word_request columns rows map bytes last oldest n)) 64 (λ j _. size_64 j) (columns * rows - k) k (omega arith);
-        rows = rows_are columns rows map bytes h l;
+        rows = sym (touched_all columns rows map (first_part bytes) (second_part bytes) h l);
         low = stored_low;
       }

@@ -3,17 +3,16 @@
 
 ghost use Rattle.std.specs.Prelude.{◌≡◌, true, length};
 ghost use Rattle.packet.specs.Packet.{packet_in};
-ghost use Rattle.packet.specs.Verdict.{default, strict};
 ghost use Rattle.packet.specs.Rows.{touched, finding, found};
 ghost use Rattle.stores.specs.Stores.{memory};
 ghost use Rattle.stores.specs.Loop.{Called};
-ghost use Rattle.word_paint.specs.Value.{older};
+ghost use Rattle.paint.specs.Value.{older};
 ghost use Rattle.draw.specs.Drawing.{plan_over};
-ghost use Rattle.draw.specs.Call.{within, word_request, call_verdict_in, word_pictures, leaves, report, said};
+ghost use Rattle.draw.specs.Call.{word_request, call_verdict_in, word_pictures, leaves, report, said};
 ghost use Rattle.word_calls.specs.Asked.{Judged};
 
 use draw::{Allowed, Drawn, answer_of};
-use packet::{Inspected, is_legal_size};
+use packet::{Rows, is_legal_size};
 use refusal::Refusal;
 use word_draw::draw_word_blocks;
 use word_packet::{check_parts, first_part, second_part};
@@ -29,29 +28,29 @@ pub fn judge_words(
     oldest: usize,
     new: usize,
     place: usize,
-) -> Inspected
+) -> Result<Option<Rows>, Refusal>
     ensures { found result ≡ finding (call_verdict_in true spare columns rows map.now «data».now last oldest new place) (touched (packet_in true columns rows map.now «data».now)) }
 {
-    if is_legal_size(columns, rows) {
-        let pixels = 8 * rows * (8 * columns);
-        if last < pixels {
-            return Inspected::Refused(Refusal::Buffer);
-        }
-        if oldest < pixels {
-            return Inspected::Refused(Refusal::Buffer);
-        }
-        if new < pixels {
-            return Inspected::Refused(Refusal::Buffer);
-        }
-        if map.len() == (columns * rows + 1) / 2 {
-            if columns * rows < place {
-                return Inspected::Refused(Refusal::Place);
-            }
-            return check_parts(spare, columns, rows, map, data);
-        }
-        return Inspected::Refused(Refusal::MapLength);
+    if !is_legal_size(columns, rows) {
+        return Err(Refusal::Size);
     }
-    Inspected::Refused(Refusal::Size)
+    let pixels = 8 * rows * (8 * columns);
+    if last < pixels {
+        return Err(Refusal::Buffer);
+    }
+    if oldest < pixels {
+        return Err(Refusal::Buffer);
+    }
+    if new < pixels {
+        return Err(Refusal::Buffer);
+    }
+    if map.len() != (columns * rows + 1) / 2 {
+        return Err(Refusal::MapLength);
+    }
+    if columns * rows < place {
+        return Err(Refusal::Place);
+    }
+    check_parts(spare, columns, rows, map, data)
 }
 
 // The first stores due from the place on, at most as many as are allowed; their number is returned. Whoever calls it has judged, and the frame of the tests is
@@ -84,53 +83,7 @@ pub fn draw_word_packet<'a>(
     )
 }
 
-// The tests, then the first stores due from the place on, at most as many as are allowed; a refused call changes nothing.
-fn draw_words_within<'a>(
-    columns: usize,
-    rows: usize,
-    map: &[u8],
-    data: &[u8],
-    last: &'a [u16],
-    oldest: &'a [u16],
-    new: &mut [u16],
-    place: &mut usize,
-    allowed: Allowed,
-) -> Drawn
-    ensures place_after { word_pictures last.now oldest.now (memory new.new place.new) ≡ leaves (word_request columns rows map.now «data».now last.now oldest.now allowed) (memory new.old place.old) }
-    ensures result_value { said result ≡ report (memory new.old place.old) (word_request columns rows map.now «data».now last.now oldest.now allowed) }
-{
-    let at = *place;
-    match judge_words(
-        allowed.spare,
-        columns,
-        rows,
-        map,
-        data,
-        last.len(),
-        oldest.len(),
-        new.len(),
-        at,
-    ) {
-        Inspected::Refused(r) => Drawn::Refused(r),
-        Inspected::Accepted(t) => {
-            let n = draw_word_packet(
-                columns,
-                rows,
-                map,
-                data,
-                last,
-                oldest,
-                new,
-                place,
-                allowed.stores,
-            );
-            let next = *place;
-            answer_of(columns * rows, next, n, t)
-        }
-    }
-}
-
-// The drawing call: one byte of the second part may be left over.
+// The drawing call: the tests, then the first stores due from the place on, at most as many as are allowed; a refused call changes nothing.
 pub fn draw_words<'a>(
     columns: usize,
     rows: usize,
@@ -140,12 +93,23 @@ pub fn draw_words<'a>(
     oldest: &'a [u16],
     new: &mut [u16],
     place: &mut usize,
-    allowed: usize,
-) -> Drawn
-    ensures place_after { word_pictures last.now oldest.now (memory new.new place.new) ≡ leaves (word_request columns rows map.now «data».now last.now oldest.now (within allowed default)) (memory new.old place.old) }
-    ensures result_value { said result ≡ report (memory new.old place.old) (word_request columns rows map.now «data».now last.now oldest.now (within allowed default)) }
+    allowed: Allowed,
+) -> Result<Drawn, Refusal>
+    ensures place_after { word_pictures last.now oldest.now (memory new.new place.new) ≡ leaves (word_request columns rows map.now «data».now last.now oldest.now allowed) (memory new.old place.old) }
+    ensures result_value { said result ≡ report (memory new.old place.old) (word_request columns rows map.now «data».now last.now oldest.now allowed) }
 {
-    draw_words_within(
+    let t = judge_words(
+        allowed.spare,
+        columns,
+        rows,
+        map,
+        data,
+        last.len(),
+        oldest.len(),
+        new.len(),
+        *place,
+    )?;
+    let n = draw_word_packet(
         columns,
         rows,
         map,
@@ -154,40 +118,7 @@ pub fn draw_words<'a>(
         oldest,
         new,
         place,
-        Allowed {
-            stores: allowed,
-            spare: 1,
-        },
-    )
-}
-
-// The strict drawing call: no byte may be left over.
-pub fn draw_words_strict<'a>(
-    columns: usize,
-    rows: usize,
-    map: &[u8],
-    data: &[u8],
-    last: &'a [u16],
-    oldest: &'a [u16],
-    new: &mut [u16],
-    place: &mut usize,
-    allowed: usize,
-) -> Drawn
-    ensures place_after { word_pictures last.now oldest.now (memory new.new place.new) ≡ leaves (word_request columns rows map.now «data».now last.now oldest.now (within allowed strict)) (memory new.old place.old) }
-    ensures result_value { said result ≡ report (memory new.old place.old) (word_request columns rows map.now «data».now last.now oldest.now (within allowed strict)) }
-{
-    draw_words_within(
-        columns,
-        rows,
-        map,
-        data,
-        last,
-        oldest,
-        new,
-        place,
-        Allowed {
-            stores: allowed,
-            spare: 0,
-        },
-    )
+        allowed.stores,
+    );
+    Ok(answer_of(columns * rows, *place, n, t))
 }

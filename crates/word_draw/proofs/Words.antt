@@ -11,13 +11,12 @@ use Rattle.block.specs.Block.{code_at, kind_of, data_length, offset_length}
 use Rattle.packet.specs.Packet.{Packet, parted, left, top}
 use Rattle.packet.proofs.Walk.{code_below}
 use Rattle.stores.specs.Stores.{memory, first_pixels}
-use Rattle.stores.specs.Loop.{Begun, Called}
-use Rattle.paint.specs.Value.{pixel_count}
+use Rattle.stores.specs.Loop.{Called}
+use Rattle.paint.specs.Value.{pixel_count, older, word_plan}
+use Rattle.paint.specs.Asked.{WordCanvas, WordDrawable}
+use Rattle.paint.proofs.Counts.{count_deep}
 use Rattle.draw.specs.Drawing.{plan_over}
-use Rattle.draw.proofs.Going.{Going, at_inside, aside_inside, canvas, drawable, right, below, at_small, aside_small, going_stop, going_block}
-use Rattle.word_paint.specs.Value.{older, word_plan}
-use Rattle.word_paint.specs.Asked.{WordCanvas, WordDrawable}
-use Rattle.word_paint.proofs.Words.{count_deep}
+use Rattle.draw.proofs.Going.{Going, canvas, drawable, right, below, going_stop, going_block}
 use Rattle.word_draw.specs.Asked.{WordAccepted}
 
 abbrev pub WordGoing : ℕ → ℕ → List ℕ → List ℕ → List ℕ → List ℕ → List ℕ → List ℕ → ℕ → ℕ → List ℕ → ℕ → ℕ → ℕ → ℕ → ℕ → ℕ → ℕ → Type 0
@@ -33,12 +32,6 @@ module _ (columns rows : ℕ) (map bytes offsets last oldest b₀ : List ℕ) (k
     (a : WordAccepted (parted true columns rows map bytes offsets) (length last) (length b₀) (length oldest) k₀) (h : k < columns * rows) where
   abbrev p : Packet
   p = parted true columns rows map bytes offsets
-
-  pub word_at : at ≤ length bytes
-  word_at = at_inside _ _ _ _ _ _ _ _ _ _ _ _ _ g a.accepted h
-
-  pub word_aside : aside ≤ length offsets
-  word_aside = aside_inside _ _ _ _ _ _ _ _ _ _ _ _ _ g a.accepted h
 
   pub word_canvas : WordCanvas (8 * columns) (8 * rows) x y (length last) (length b) (length oldest)
   word_canvas =
@@ -68,18 +61,6 @@ module _ (columns rows : ℕ) (map bytes offsets last oldest b₀ : List ℕ) (k
     pub word_drawable : (m : ℕ) → m ≤ 64 → WordDrawable c (from bytes at) (from offsets aside) (8 * columns) (8 * rows) x y m
     word_drawable m q =
         drawable _ _ _ _ _ _ _ _ _ _ _ _ _ g a.accepted h c _ _ ec (part_to_end bytes at) (part_to_end offsets aside) m (omega (arith, count))
-
-    -- all its pixels stand
-    pub word_begun : (b' : List ℕ) → b' ≡ first_pixels (word_plan c (from bytes at) (from offsets aside) last oldest (8 * columns) x y) 0 b 64
-        → Begun (word_plan c (from bytes at) (from offsets aside) last oldest (8 * columns) x y) 0 (pixel_count (kind_of true c (from bytes at) (from offsets aside))) b'
-    word_begun b' e = record { found = b; made = e ∙ ap (first_pixels (word_plan c (from bytes at) (from offsets aside) last oldest (8 * columns) x y) 0 b) count }
-
-    -- its bytes are there
-    pub at_few : (z : ℕ) → z ≡ data_length true (kind_of true c (from bytes at) (from offsets aside)) → at + z ≤ length bytes
-    at_few = at_small _ _ _ _ _ _ _ _ _ _ _ _ _ g a.accepted h c _ _ ec (part_to_end bytes at) (part_to_end offsets aside)
-
-    pub aside_few : (z : ℕ) → z ≡ offset_length (kind_of true c (from bytes at) (from offsets aside)) → aside + z ≤ length offsets
-    aside_few = aside_small _ _ _ _ _ _ _ _ _ _ _ _ _ g a.accepted h c _ _ ec (part_to_end bytes at) (part_to_end offsets aside)
 
     pub word_stop : (b' : List ℕ) → l ≤ 64 → b' ≡ first_pixels (word_plan c (from bytes at) (from offsets aside) last oldest (8 * columns) x y) 0 b l
         → Called (plan_over p (older last oldest)) (memory b₀ k₀) n b' place n

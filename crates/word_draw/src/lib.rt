@@ -5,13 +5,13 @@ ghost use Rattle.std.specs.Prelude.{true, length};
 ghost use Rattle.packet.specs.Packet.{parted};
 ghost use Rattle.stores.specs.Stores.{memory};
 ghost use Rattle.stores.specs.Loop.{Called};
+ghost use Rattle.paint.specs.Value.{older};
 ghost use Rattle.draw.specs.Drawing.{plan_over};
-ghost use Rattle.word_paint.specs.Value.{older};
 ghost use Rattle.word_draw.specs.Asked.{WordAccepted};
 
-use block::{code_at, offset_length, word_data_length};
+use block::{code_at, data_length, offset_length};
+use paint::paint_word_part;
 use word_packet::data_positions;
-use word_paint::{paint_word_part, set_next_word};
 use word_whole::paint_word_whole;
 
 // The first stores due from the place on, at most as many as are allowed; their number is returned. Whoever calls it has judged. Every block stores 64 pixels, and then
@@ -31,17 +31,16 @@ pub fn draw_word_blocks<'a>(
     requires { WordAccepted (parted true columns rows map.now «data».now offsets.now) (length last.now) (length new.old) (length oldest.now) place.old }
     ensures { Called (plan_over (parted true columns rows map.now «data».now offsets.now) (older last.now oldest.now)) (memory new.old place.old) allowed new.new place.new result }
 {
-    let n = columns * rows;
     let w = 8 * columns;
     let h = 8 * rows;
-    let mut k = *place;
-    let start = data_positions(map, data, offsets, k);
+    let first = *place;
+    let start = data_positions(map, data, offsets, first);
     let mut at = start.bytes;
     let mut aside = start.offsets;
     let mut left = allowed;
-    let mut x = 8 * (k % columns);
-    let mut y = 8 * (k / columns);
-    while k < n {
+    let mut x = 8 * (first % columns);
+    let mut y = 8 * (first / columns);
+    for k in first..columns * rows {
         let code = code_at(map, k);
         let s = &data[at..];
         let o = &offsets[aside..];
@@ -49,12 +48,10 @@ pub fn draw_word_blocks<'a>(
             paint_word_part(code, s, o, last, oldest, new, w, h, x, y, left);
             return allowed;
         }
-        paint_word_whole(code, s, o, last, oldest, new, w, h, x, y);
-        set_next_word(code, s, o, last, oldest, new, w, x, y, place, k + 1);
+        paint_word_whole(code, s, o, last, oldest, new, w, x, y, place, k + 1);
         left -= 65;
-        at += word_data_length(code, s);
+        at += data_length::<true>(code, s);
         aside += offset_length(true, code);
-        k += 1;
         x += 8;
         if x == w {
             x = 0;

@@ -13,7 +13,8 @@ use lib.Dec.{ltb}
 use lib.ListN.{get_or}
 use Rattle.pattern.specs.declared.Form.{Form}
 use Rattle.pattern.specs.declared.Form.TheVariants.{Two1x1, Two2x2, TwoQuarters, TwoLeftRight, TwoTopBottom, Four1x1, Four2x2, Four2x1, Four1x2, FourQuarters, FourLeftRight, FourTopBottom}
-use Rattle.pattern.specs.Form.{Shape, shape}
+use Rattle.pattern.specs.declared.Shape.{Shape}
+use Rattle.pattern.specs.Form.{shape}
 use Rattle.pattern.specs.Pattern.{colours, cells, part_length, pattern_length, part_start, field_number, field_at, pattern_source}
 use Rattle.block.specs.Block.{colour_at, stored}
 use Rattle.word_fields.specs.declared.Layout.{Layout}

@@ -1,42 +1,15 @@
--- Laws of the code's own: a colour chosen by the low bits of a number, the word that begins at a byte, and bytes read as one number.
+-- Laws of the code's own: the word that begins at a byte, and bytes read as one number.
 -- Assumes nothing.
-use mathlib.Core.Path.{◌≡◌, refl, ap, ◌∙◌}
+use mathlib.Core.Path.{◌≡◌}
 use mathlib.Core.Logic.{◌⊎◌, inl, inr, ⊎_elim}
-use mathlib.Core.Bool.{true, cond}
-use mathlib.Core.List.{List, [], ◌∷◌}
-use Prim.Native.Nat.{ℕ, zero, suc, ◌+◌, ◌-◌, ◌*◌, ◌/◌, ◌%◌, ◌≤◌, ◌<◌}
+use mathlib.Core.Bool.{true}
+use mathlib.Core.List.{List}
+use Prim.Native.Nat.{ℕ, zero, suc, ◌+◌, ◌-◌, ◌*◌, ◌≤◌, ◌<◌}
 use native.Mathlib.Omega.{arith}
-use lib.Dec.{eqb}
 use lib.ListN.{get_or}
 use Rattle.words.specs.Word.{word_at}
-use Rattle.block.specs.Block.{colour_at, stored}
-use Rattle.rows.specs.Row.{colours}
+use Rattle.block.specs.Block.{colour_at}
 use Rattle.word_fields.specs.Layout.{little_endian, AreBytes, FieldBytes}
-
--- ---- a colour chosen by low bits
-
-pick_two : (a b m : ℕ) → m < 2 → cond (eqb m 0) a b ≡ get_or (a ∷ b ∷ []) m 0
-pick_two a b zero h = refl
-pick_two a b (suc zero) h = refl
-pick_two a b (suc (suc m)) h = absurd (let z : ⊥ = omega arith in z)
-
-pub of_two : (k a b r : ℕ) → r ≡ cond (eqb (k % 2) 0) a b → r % 32768 ≡ stored true (get_or (a ∷ b ∷ []) (k % 2) 0)
-of_two k a b r e = ap (stored true) (e ∙ pick_two a b (k % 2) (omega arith))
-
-pick_four : (a b c d m : ℕ) → m < 4 → cond (eqb (m / 2) 0) (cond (eqb (m % 2) 0) a b) (cond (eqb (m % 2) 0) c d) ≡ get_or (colours a b c d) m 0
-pick_four a b c d zero h = refl
-pick_four a b c d (suc zero) h = refl
-pick_four a b c d (suc (suc zero)) h = refl
-pick_four a b c d (suc (suc (suc zero))) h = refl
-pick_four a b c d (suc (suc (suc (suc m)))) h = absurd (let z : ⊥ = omega arith in z)
-
--- u, v: what the low bit chooses of each pair
-pub of_four : (k a b c d u v r : ℕ) → u ≡ cond (eqb (k % 2) 0) a b → v ≡ cond (eqb (k % 2) 0) c d → r ≡ cond (eqb (k / 2 % 2) 0) u v
-    → r % 32768 ≡ stored true (get_or (colours a b c d) (k % 4) 0)
-of_four k a b c d u v r eu ev e =
-    let f : k / 2 % 2 ≡ k % 4 / 2 = omega arith in
-    let g : k % 2 ≡ k % 4 % 2 = omega arith in
-    ap (stored true) (e ∙ rw (eu, ev, f, g) (pick_four a b c d (k % 4) (omega arith)))
 
 -- ---- bytes read as one number
 

@@ -4,7 +4,7 @@
 use Rattle.std.specs.Prelude.{◌≡◌, ◌⊎◌, true, cond, List, ℕ, zero, suc, ◌+◌, ◌*◌, ◌/◌, ◌%◌, ◌^◌, ◌<◌, ltb, get_or}
 use Rattle.pattern.specs.declared.Form.{Form}
 use Rattle.pattern.specs.declared.Form.TheVariants.{Two1x1, Two2x2, TwoQuarters, TwoLeftRight, TwoTopBottom, Four1x1, Four2x2, Four2x1, Four1x2, FourQuarters, FourLeftRight, FourTopBottom}
-use Rattle.block.specs.Block.{stored}
+use Rattle.block.specs.Block.{colour_at, stored}
 use Rattle.word_fields.specs.declared.Layout.{Layout}
 
 -- bits of a field; width and height of a cell; rows of a band; bytes from a band's part to the next band's, from the left part to the right one, from a band's fields to the
@@ -42,3 +42,7 @@ FieldBytes n = (n ≡ 2) ⊎ (n ≡ 4) ⊎ (n ≡ 8)
 -- what is stored at column j of a row: left and right are the fields of its two halves, the lowest first, l and r the colours that they choose from
 unfoldable pub row_colour : ℕ → ℕ → ℕ → ℕ → List ℕ → List ℕ → ℕ → ℕ
 row_colour bits wide left right l r j = stored true (get_or (cond (ltb j 4) l r) (cond (ltb j 4) left right / 2 ^ (j % 4 / wide * bits) % 2 ^ bits) 0)
+
+-- a part's colours are those that begin at byte j, one for each value of a field of so many bits
+abbrev pub Coloured : ℕ → List ℕ → ℕ → List ℕ → Type 0
+Coloured bits s j l = (c : ℕ) → c < 2 ^ bits → get_or l c 0 ≡ colour_at true s (j + 2 * c)

@@ -1,13 +1,15 @@
 // The fields of a patterned block of a film with true colour: how the rows of each form are laid out, fields read as one number, and the colour that a field chooses.
 #![tactic(auto)]
 
-ghost use Rattle.std.specs.Prelude.{◌≡◌, true, cond, [], ◌∷◌, ◌+◌, ◌%◌, ◌≤◌, ◌<◌, length, get_or};
+ghost use Rattle.std.specs.Prelude.{◌≡◌, ◌⊎◌, true, List, ℕ, [], ◌∷◌, ◌+◌, ◌*◌, ◌%◌, ◌^◌, ◌≤◌, ◌<◌, length, get_or};
+ghost use Rattle.std.proofs.Common.{refl, inl, inr};
 ghost use Rattle.block.specs.Block.{colour_at, stored};
 ghost use Rattle.rows.specs.Row.{colours};
-ghost use Rattle.word_fields.specs.Layout.{laid_out, layout, little_endian, AreBytes, FieldBytes};
+ghost use Rattle.word_fields.specs.Layout.{laid_out, layout, little_endian, AreBytes, FieldBytes, Coloured};
 
+use block::choose;
+use paint::widened;
 use pattern::Form;
-use word_paint::widened;
 use words::wide;
 
 // The numbers by which a form is drawn, in bands (specs/Layout).
@@ -82,39 +84,113 @@ pub fn layout_of(form: Form) -> Layout
     }
 }
 
-fn choose_word(test: bool, a: u16, b: u16) -> u16
-    ensures { result ≡ cond test a b }
-{
-    if test {
-        return a;
-    }
-    b
-}
-
-// The colour of two that the low bit of k chooses, as it is stored.
-pub fn of_two(k: u16, a: u16, b: u16) -> u16
-    ensures { result ≡ stored true (get_or (a ∷ b ∷ []) (k % 2) 0) }
-{
-    choose_word(k % 2 == 0, a, b) % 32768
-}
-
-// The colour of four that the low two bits of k choose, as it is stored.
-pub fn of_four(k: u16, a: u16, b: u16, c: u16, d: u16) -> u16
-    ensures { result ≡ stored true (get_or (colours a b c d) (k % 4) 0) }
-{
-    choose_word(
-        k / 2 % 2 == 0,
-        choose_word(k % 2 == 0, a, b),
-        choose_word(k % 2 == 0, c, d),
-    ) % 32768
-}
-
 // The colour that begins at byte j, with its high bit.
 pub fn raw_colour(s: &[u8], j: usize) -> u16
     requires { j + 2 ≤ length s.now }
     ensures { result ≡ colour_at true s.now j }
 {
     widened(s[j]) + 256 * widened(s[j + 1])
+}
+
+// The colours of a part, with their high bits.
+pub trait Colours: Copy {
+    // The bits of a field that chooses one.
+    const BITS: usize;
+    // Their bytes.
+    const BYTES: usize;
+
+    ghost BITS: { ℕ };
+
+    ghost BYTES: { ℕ };
+
+    ghost colours: { Self → List ℕ };
+
+    // Those that begin at byte j.
+    fn read(s: &[u8], j: usize) -> Self
+        requires { j + BYTES ≤ length s.now }
+        ensures { Coloured BITS s.now j (colours result) };
+
+    // The one that the low bits of k choose, as it is stored.
+    fn chosen(self, k: u16) -> u16
+        ensures { result ≡ stored true (get_or (colours self) (k % 2 ^ BITS) 0) };
+
+    ghost few: { (BITS ≡ 1) ⊎ (BITS ≡ 2) };
+
+    ghost long: { BYTES ≡ 2 * 2 ^ BITS };
+}
+
+#[derive(Clone, Copy)]
+pub struct Two {
+    pub a: u16,
+    pub b: u16,
+}
+
+impl Colours for Two {
+    const BITS: usize = 1;
+
+    const BYTES: usize = 4;
+
+    ghost BITS = { 1 };
+
+    ghost BYTES = { 4 };
+
+    ghost colours = { λ l. l.a ∷ l.b ∷ [] };
+
+    fn read(s: &[u8], j: usize) -> Two {
+        Two {
+            a: raw_colour(s, j),
+            b: raw_colour(s, j + 2),
+        }
+    }
+
+    fn chosen(self, k: u16) -> u16 {
+        choose(k % 2 == 0, self.a, self.b) % 32768
+    }
+
+    ghost few = { inl refl };
+
+    ghost long = { refl };
+}
+
+#[derive(Clone, Copy)]
+pub struct Four {
+    pub a: u16,
+    pub b: u16,
+    pub c: u16,
+    pub d: u16,
+}
+
+impl Colours for Four {
+    const BITS: usize = 2;
+
+    const BYTES: usize = 8;
+
+    ghost BITS = { 2 };
+
+    ghost BYTES = { 8 };
+
+    ghost colours = { λ l. colours l.a l.b l.c l.d };
+
+    fn read(s: &[u8], j: usize) -> Four {
+        Four {
+            a: raw_colour(s, j),
+            b: raw_colour(s, j + 2),
+            c: raw_colour(s, j + 4),
+            d: raw_colour(s, j + 6),
+        }
+    }
+
+    fn chosen(self, k: u16) -> u16 {
+        choose(
+            k / 2 % 2 == 0,
+            choose(k % 2 == 0, self.a, self.b),
+            choose(k % 2 == 0, self.c, self.d),
+        ) % 32768
+    }
+
+    ghost few = { inr refl };
+
+    ghost long = { refl };
 }
 
 fn two_bytes(s: &[u8], q: usize) -> usize

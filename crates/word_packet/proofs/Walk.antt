@@ -1,19 +1,20 @@
 -- A packet with true colour: the walk's laws (`packet/proofs/Walk`), where no code is refused and every block is touched.
 -- Assumes nothing.
-use mathlib.Core.Path.{◌≡◌, refl, sym}
+use Rattle.std.specs.Prelude.{Some}
+use mathlib.Core.Path.{◌≡◌, refl, sym, ap, ap₂, ◌∙◌}
 use mathlib.Core.Bool.{Bool, true, false, cond}
 use mathlib.Core.List.{List}
-use Prim.Native.Nat.{ℕ, zero, suc, ◌-◌, ◌*◌, ◌/◌, ◌%◌, ◌≤◌, ◌<◌, zero-le}
-use native.Mathlib.Nat.{mod-eq_of_lt, div-le_self, mul-le-mul}
+use Prim.Native.Nat.{ℕ, zero, suc, ◌+◌, ◌-◌, ◌*◌, ◌/◌, ◌%◌, ◌≤◌, ◌<◌, zero-le}
+use native.Mathlib.Nat.{mod-eq_of_lt, div-le_self, mul-le-mul, mul_comm, suc-mul}
 use native.Mathlib.Omega.{arith}
 use mathlib.Core.Logic.{◌⊎◌, inl, inr, ⊎_elim}
 use borrow.Author.Tests.{ne_eqb, eqb-true, eqb-false, leb-true, leb-false}
+use lib.Arith.{digits_div}
 use lib.Dec.{eqb, leb}
 use Rattle.block.specs.Block.{code_at, kind_of, is_refused}
 use Rattle.block.proofs.Codes.{refused_deep}
-use Rattle.packet.specs.Packet.{Packet, parted, blocks}
-use Rattle.packet.specs.declared.Touched.TheVariants.{Rows}
-use Rattle.packet.specs.Rows.{first_from, past_touched, rows_from, touched}
+use Rattle.packet.specs.Packet.{parted}
+use Rattle.packet.specs.Rows.{first_from, past_touched, spanning, rows_from, touched}
 use Rattle.packet.specs.Asked.{Sized}
 use Rattle.packet.proofs.Walk.{Walked, walked_ones, code_below}
 
@@ -51,14 +52,21 @@ unfolding past_touched
 past_all map zero = refl
 past_all map (suc n) = let l = code_below map n in rw (ne_eqb (code_at map n) 16 (λ e. omega (arith, l, e)))
 
-pub touched_all : (columns rows : ℕ) (map bytes offsets : List ℕ) → 0 < columns * rows
-    → Rows (0 / columns) ((columns * rows - 1) / columns) ≡ touched (parted true columns rows map bytes offsets)
-unfolding touched rows_from
-touched_all columns rows map bytes offsets some =
-    rw (first_all map (columns * rows), past_all map (columns * rows), ne_eqb (columns * rows) 0 (λ e. omega (arith, some, e)))
+last_row : (columns rows : ℕ) → 1 ≤ columns → 1 ≤ rows → rows - 1 ≡ (columns * rows - 1) / columns
+last_row columns zero h l = absurd (let z : ⊥ = omega (arith, l) in z)
+last_row columns (suc rows) h l =
+    let b : columns - 1 < columns = omega arith in
+    let e : columns * suc rows - 1 ≡ rows * columns + (columns - 1) = omega (arith, mul_comm columns (suc rows), suc-mul rows columns) in
+    let d : suc rows - 1 ≡ rows = omega arith in
+    d ∙ sym (ap (λ (n : ℕ). n / columns) e ∙ digits_div rows b)
 
-pub some_blocks : (p : Packet) → Sized p → 0 < blocks p
-some_blocks p z = let l = mul-le-mul z.some_columns z.some_rows in omega (arith, l)
+pub touched_all : (columns rows : ℕ) (map bytes offsets : List ℕ) → 1 ≤ columns → 1 ≤ rows → Some (spanning 0 (rows - 1)) ≡ touched (parted true columns rows map bytes offsets)
+unfolding touched rows_from
+touched_all columns rows map bytes offsets h l =
+    let some : 1 ≤ columns * rows = mul-le-mul h l in
+    let first : 0 ≡ 0 / columns = omega (arith, div-le_self 0 columns) in
+    rw (first_all map (columns * rows), past_all map (columns * rows), ne_eqb (columns * rows) 0 (λ e. omega (arith, some, e)))
+    (ap₂ (λ (a b : ℕ). Some (spanning a b)) first (last_row columns rows h l))
 
 -- ---- what is left over
 

@@ -16,32 +16,55 @@ use Rattle.rows.proofs.Beside.{Eight, eight_read}
 use Rattle.word_fields.specs.Layout.{row_colour}
 use Rattle.word_patterns.specs.Asked.{AlikeRows}
 
--- the lowest field needs no shift
-unshifted : (l : List ℕ) (n k v : ℕ) → v ≡ stored true (get_or l (k % n) 0) → v ≡ stored true (get_or l (k / 1 % n) 0)
-unshifted l n k v e = let z : k ≡ k / 1 = omega arith in e ∙ ap (λ (m : ℕ). stored true (get_or l (m % n) 0)) z
-
 -- ---- the columns of a row
 
 module _ (left right : ℕ) (l r : List ℕ) where
-  pub two_row : {u₁ u₂ u₃ u₄ u₅ u₆ u₇ u₈ : ℕ} → u₁ ≡ stored true (get_or l (left % 2) 0) → u₂ ≡ stored true (get_or l (left / 2 % 2) 0) → u₃ ≡ stored true (get_or l (left / 4 % 2) 0) → u₄ ≡ stored true (get_or l (left / 8 % 2) 0) → u₅ ≡ stored true (get_or r (right % 2) 0) → u₆ ≡ stored true (get_or r (right / 2 % 2) 0) → u₇ ≡ stored true (get_or r (right / 4 % 2) 0) → u₈ ≡ stored true (get_or r (right / 8 % 2) 0)
-      → Eight (row_colour 1 1 left right l r) u₁ u₂ u₃ u₄ u₅ u₆ u₇ u₈
-  unfolding row_colour
-  two_row {u₁} {u₂} {u₃} {u₄} {u₅} {u₆} {u₇} {u₈} e₁ e₂ e₃ e₄ e₅ e₆ e₇ e₈ = record { first = unshifted l 2 left u₁ e₁; second = e₂; third = e₃; fourth = e₄; fifth = unshifted r 2 right u₅ e₅; sixth = e₆; seventh = e₇; eighth = e₈ }
+  -- the field of column j is that of a shift by j fields
+  shifted : (bits : ℕ) (c : List ℕ) (n j m v : ℕ) → j * bits ≡ m → v ≡ stored true (get_or c (n / 2 ^ m % 2 ^ bits) 0) → v ≡ stored true (get_or c (n / 2 ^ (j * bits) % 2 ^ bits) 0)
+  shifted bits c n j m v z e = e ∙ ap (λ (o : ℕ). stored true (get_or c (n / 2 ^ o % 2 ^ bits) 0)) (sym z)
 
-  pub two_wide_row : {u₁ u₂ u₃ u₄ : ℕ} → u₁ ≡ stored true (get_or l (left % 2) 0) → u₂ ≡ stored true (get_or l (left / 2 % 2) 0) → u₃ ≡ stored true (get_or r (right % 2) 0) → u₄ ≡ stored true (get_or r (right / 2 % 2) 0)
-      → Eight (row_colour 1 2 left right l r) u₁ u₁ u₂ u₂ u₃ u₃ u₄ u₄
-  unfolding row_colour
-  two_wide_row {u₁} {u₂} {u₃} {u₄} e₁ e₂ e₃ e₄ = record { first = unshifted l 2 left u₁ e₁; second = unshifted l 2 left u₁ e₁; third = e₂; fourth = e₂; fifth = unshifted r 2 right u₃ e₃; sixth = unshifted r 2 right u₃ e₃; seventh = e₄; eighth = e₄ }
+  -- the lowest field needs no shift
+  lowest : (bits : ℕ) (c : List ℕ) (n v : ℕ) → v ≡ stored true (get_or c (n % 2 ^ bits) 0) → v ≡ stored true (get_or c (n / 2 ^ (0 * bits) % 2 ^ bits) 0)
+  lowest bits c n v e = let z : 0 * bits ≡ 0 = omega arith in let f : n ≡ n / 2 ^ 0 = omega arith in
+      e ∙ ap (λ (o : ℕ). stored true (get_or c (o % 2 ^ bits) 0)) f ∙ ap (λ (o : ℕ). stored true (get_or c (n / 2 ^ o % 2 ^ bits) 0)) (sym z)
 
-  pub four_row : {u₁ u₂ u₃ u₄ u₅ u₆ u₇ u₈ : ℕ} → u₁ ≡ stored true (get_or l (left % 4) 0) → u₂ ≡ stored true (get_or l (left / 4 % 4) 0) → u₃ ≡ stored true (get_or l (left / 16 % 4) 0) → u₄ ≡ stored true (get_or l (left / 64 % 4) 0) → u₅ ≡ stored true (get_or r (right % 4) 0) → u₆ ≡ stored true (get_or r (right / 4 % 4) 0) → u₇ ≡ stored true (get_or r (right / 16 % 4) 0) → u₈ ≡ stored true (get_or r (right / 64 % 4) 0)
-      → Eight (row_colour 2 1 left right l r) u₁ u₂ u₃ u₄ u₅ u₆ u₇ u₈
+  pub narrow_row : (bits : ℕ) {u₁ u₂ u₃ u₄ u₅ u₆ u₇ u₈ : ℕ}
+      → u₁ ≡ stored true (get_or l (left % 2 ^ bits) 0) → u₂ ≡ stored true (get_or l (left / 2 ^ bits % 2 ^ bits) 0)
+      → u₃ ≡ stored true (get_or l (left / 2 ^ (2 * bits) % 2 ^ bits) 0) → u₄ ≡ stored true (get_or l (left / 2 ^ (3 * bits) % 2 ^ bits) 0)
+      → u₅ ≡ stored true (get_or r (right % 2 ^ bits) 0) → u₆ ≡ stored true (get_or r (right / 2 ^ bits % 2 ^ bits) 0)
+      → u₇ ≡ stored true (get_or r (right / 2 ^ (2 * bits) % 2 ^ bits) 0) → u₈ ≡ stored true (get_or r (right / 2 ^ (3 * bits) % 2 ^ bits) 0)
+      → Eight (row_colour bits 1 left right l r) u₁ u₂ u₃ u₄ u₅ u₆ u₇ u₈
   unfolding row_colour
-  four_row {u₁} {u₂} {u₃} {u₄} {u₅} {u₆} {u₇} {u₈} e₁ e₂ e₃ e₄ e₅ e₆ e₇ e₈ = record { first = unshifted l 4 left u₁ e₁; second = e₂; third = e₃; fourth = e₄; fifth = unshifted r 4 right u₅ e₅; sixth = e₆; seventh = e₇; eighth = e₈ }
+  narrow_row bits {u₁} {u₂} {u₃} {u₄} {u₅} {u₆} {u₇} {u₈} e₁ e₂ e₃ e₄ e₅ e₆ e₇ e₈ =
+      let one : 1 * bits ≡ bits = omega arith in
+      record {
+        first = lowest bits l left u₁ e₁;
+        second = shifted bits l left 1 bits u₂ one e₂;
+        third = e₃;
+        fourth = e₄;
+        fifth = lowest bits r right u₅ e₅;
+        sixth = shifted bits r right 1 bits u₆ one e₆;
+        seventh = e₇;
+        eighth = e₈;
+      }
 
-  pub four_wide_row : {u₁ u₂ u₃ u₄ : ℕ} → u₁ ≡ stored true (get_or l (left % 4) 0) → u₂ ≡ stored true (get_or l (left / 4 % 4) 0) → u₃ ≡ stored true (get_or r (right % 4) 0) → u₄ ≡ stored true (get_or r (right / 4 % 4) 0)
-      → Eight (row_colour 2 2 left right l r) u₁ u₁ u₂ u₂ u₃ u₃ u₄ u₄
+  pub wide_row : (bits : ℕ) {u₁ u₂ u₃ u₄ : ℕ}
+      → u₁ ≡ stored true (get_or l (left % 2 ^ bits) 0) → u₂ ≡ stored true (get_or l (left / 2 ^ bits % 2 ^ bits) 0)
+      → u₃ ≡ stored true (get_or r (right % 2 ^ bits) 0) → u₄ ≡ stored true (get_or r (right / 2 ^ bits % 2 ^ bits) 0)
+      → Eight (row_colour bits 2 left right l r) u₁ u₁ u₂ u₂ u₃ u₃ u₄ u₄
   unfolding row_colour
-  four_wide_row {u₁} {u₂} {u₃} {u₄} e₁ e₂ e₃ e₄ = record { first = unshifted l 4 left u₁ e₁; second = unshifted l 4 left u₁ e₁; third = e₂; fourth = e₂; fifth = unshifted r 4 right u₃ e₃; sixth = unshifted r 4 right u₃ e₃; seventh = e₄; eighth = e₄ }
+  wide_row bits {u₁} {u₂} {u₃} {u₄} e₁ e₂ e₃ e₄ =
+      let one : 1 * bits ≡ bits = omega arith in
+      record {
+        first = lowest bits l left u₁ e₁;
+        second = lowest bits l left u₁ e₁;
+        third = shifted bits l left 1 bits u₂ one e₂;
+        fourth = shifted bits l left 1 bits u₂ one e₂;
+        fifth = lowest bits r right u₃ e₃;
+        sixth = lowest bits r right u₃ e₃;
+        seventh = shifted bits r right 1 bits u₄ one e₄;
+        eighth = shifted bits r right 1 bits u₄ one e₄;
+      }
 
 -- ---- rows that are alike
 

@@ -1,29 +1,33 @@
--- What each function that stores a whole block of words asks: its room in the pictures, and the sources of its pixels by its code. The laws of families are those of `whole`.
+-- What each function that stores a whole block of words asks: its room in the pictures, and what its pixels become by its code. The laws of families are those of `whole`.
 -- Assumes nothing.
-use mathlib.Core.Path.{◌≡◌, refl, sym, ◌∙◌}
-use mathlib.Core.Bool.{Bool, true, false, false≢true, true≢false}
+use mathlib.Core.Path.{◌≡◌, refl, sym, ap, ◌∙◌}
+use mathlib.Core.Bool.{true, false, false≢true, true≢false}
 use mathlib.Core.List.{List}
 use Prim.Native.Nat.{ℕ, ◌+◌, ◌-◌, ◌*◌, ◌≤◌, ◌<◌}
 use native.Mathlib.Decide.{ℕ_discrete}
 use native.Mathlib.Omega.{arith}
 use borrow.Author.Tests.{ne_eqb, eqb-false, ltb-false}
 use lib.Dec.{eqb, ltb}
-use lib.ListN.{length}
+use lib.ListN.{length, get_or}
 use Rattle.words.proofs.Tests.{not_first}
 use Rattle.motion.specs.declared.Vector.{Vector}
 use Rattle.motion.specs.Motion.{vector, points_inside, raster_index, copied_index, Short}
 use Rattle.motion.proofs.Vectors.{inside_all}
 use Rattle.block.specs.declared.Picture.{Picture}
 use Rattle.block.specs.declared.Picture.TheVariants.{Last, New, Oldest}
+use Rattle.block.specs.declared.Source.{Source}
 use Rattle.block.specs.declared.Source.TheVariants.{Copied}
-use Rattle.block.specs.Block.{kinds, kind_of, copy_inside, source, pictured}
+use Rattle.block.specs.Block.{kinds, kind_of, copy_inside, source, stored, pictured, fetched}
 use Rattle.block.specs.Asked.{first_offset, vector_at}
 use Rattle.block.proofs.Codes.{each_code, kind_3}
-use Rattle.paint.specs.Asked.{Canvas}
-use Rattle.whole.specs.Asked.{Pointed, Clear}
-use Rattle.whole.proofs.Families.{copied_pointed, copy_pointed, copy_clear, copied_sources}
-use Rattle.word_paint.specs.Asked.{WordCanvas, WordDrawable}
-use Rattle.word_rows.specs.Row.{FixedSources, NewSources}
+use Rattle.stores.specs.Stores.{Plan, first_pixels}
+use Rattle.stores.specs.Loop.{Begun}
+use Rattle.paint.specs.Value.{older, pixel_value, word_plan}
+use Rattle.paint.specs.Asked.{Canvas, WordCanvas, WordDrawable}
+use Rattle.paint.proofs.Counts.{count_deep}
+use Rattle.rows.specs.Row.{Block, Fixed, Disjoint}
+use Rattle.whole.specs.Asked.{Pointed, Reached}
+use Rattle.whole.proofs.Families.{copy_pointed, copy_clear, copied_apart, copied_block, reached}
 use Rattle.word_whole.specs.Older.{is_older, older_picture, older_vector}
 
 -- ---- the pictures
@@ -35,11 +39,7 @@ module _ {w h x y last new oldest : ℕ} (c : WordCanvas w h x y last new oldest
   new_canvas : Canvas w h x y new new
   new_canvas = record { width = c.width; height = c.height; across = c.across; down = c.down; front_room = c.new_room; back_room = c.new_room }
 
--- ---- the sources of the codes that are copied
-
-pub fixed_pointed : {code : ℕ} {s o last oldest t : List ℕ} {w x y : ℕ} (v : Vector) → FixedSources code s o last oldest t w x y (λ i. copied_index v w x y i)
-    → FixedSources code s o last oldest t w x y (λ i. raster_index w (x + v.right - v.left) (y + v.down - v.up) i)
-fixed_pointed v q = record { picture = q.picture; fixed = q.fixed; sources = copied_pointed q.picture v q.sources }
+-- ---- the codes that are copied
 
 -- a code that copies an older picture: the source of each pixel, that the 8x8 lies inside, and its room
 record Copy (s o last oldest : List ℕ) (w h x y code : ℕ) : Type 0 where
@@ -82,20 +82,41 @@ lone code l e n =
     ]
 
 -- what a block that is copied asks
-module _ {code : ℕ} {s o : List ℕ} {w h x y : ℕ} (d : WordDrawable code s o w h x y 64) (b : Bool) (v : Vector) (e : b ≡ is_older code) where
+module _ {code : ℕ} {s o : List ℕ} {w h x y : ℕ} (d : WordDrawable code s o w h x y 64) (last oldest : List ℕ) {p : Plan} (e : p ≡ word_plan code s o last oldest w x y) where
   -- from an older picture
-  pub older_asked : (last oldest t : List ℕ) {new : ℕ} → WordCanvas w h x y (length last) new (length oldest) → b ≡ true → t ≡ older_picture last oldest code → (v ≡ older_vector code s o) × Short v
-      → FixedSources code s o last oldest t w x y (λ i. copied_index v w x y i) × Pointed v w h x y × Canvas w h x y (length t) new
-  older_asked last oldest t c f p (q, short) =
-      let k = copy s o last oldest c code d.known (sym e ∙ f) in (
-        record { picture = k.picture; fixed = λ new. p ∙ k.fixed new; sources = record { all = d.count; each = λ i l. rw q (k.each i) } },
-        record { short = short; inside = rw q (k.inside d.inside) },
-        record { width = c.width; height = c.height; across = c.across; down = c.down; front_room = rw p k.room; back_room = c.new_room },
-      )
+  pub older_block : (t : List ℕ) (v : Vector) {new : ℕ} → WordCanvas w h x y (length last) new (length oldest) → is_older code ≡ true → t ≡ older_picture last oldest code → v ≡ older_vector code s o
+      → Fixed p w x y (λ i. stored true (get_or t (copied_index v w x y i) 0))
+  unfolding fetched pixel_value
+  older_block t v c f g q =
+      let k = copy s o last oldest c code d.known f in
+      rw e
+      (record {
+        all = d.count;
+        targets = λ i l. refl;
+        values = λ i l b.
+            let r : Copied k.picture (copied_index v w x y i) ≡ source true (kind_of true code s o) s w x y i = rw q (k.each i) in
+            ap (λ (u : List ℕ). stored true (get_or u (copied_index v w x y i) 0)) (g ∙ k.fixed b) ∙ ap (λ (u : Source). fetched true u s last b oldest) r;
+      })
+
+  pub older_reached : (t : List ℕ) (v : Vector) {new : ℕ} → WordCanvas w h x y (length last) new (length oldest) → is_older code ≡ true → t ≡ older_picture last oldest code
+      → (v ≡ older_vector code s o) × Short v → Reached v w x y (length t) new
+  older_reached t v {new} c f g (q, short) =
+      let k = copy s o last oldest c code d.known f in
+      let a : Canvas w h x y (length t) new = record { width = c.width; height = c.height; across = c.across; down = c.down; front_room = rw g k.room; back_room = c.new_room } in
+      let i : Pointed v w h x y = record { short = short; inside = rw q (k.inside d.inside) } in
+      reached a i
 
   -- from the new one
-  pub new_asked : {last new oldest : ℕ} → WordCanvas w h x y last new oldest → b ≡ false → (6 < code → 14 < code) → (v ≡ vector_at true code s o) × Short v
-      → NewSources code s o w x y (λ i. copied_index v w x y i) × Pointed v w h x y × Clear v × Canvas w h x y new new
-  new_asked c f n (q, short) =
-      let k : code ≡ 3 = lone code d.known (sym e ∙ f) n in
-      (copied_sources d New v 0 1 (kind_3 true s o code k) q, copy_pointed d v (omega arith) (omega arith) q short, copy_clear true code s o v (omega arith) (omega arith) q, new_canvas c)
+  pub new_asked : {v : Vector} {new : ℕ} → WordCanvas w h x y (length last) new (length oldest) → is_older code ≡ false → (6 < code → 14 < code) → (v ≡ vector_at true code s o) × Short v
+      → Block p w x y (λ i b. stored true (get_or b (copied_index v w x y i) 0)) × Reached v w x y new new × Disjoint (copied_index v w x y 0) (raster_index w x y 0)
+  new_asked {v} c f n (q, short) =
+      let k : code ≡ 3 = lone code d.known f n in
+      let i = copy_pointed d v (omega arith) (omega arith) q short in (
+        copied_block d (older last oldest) e New v 0 1 (kind_3 true s o code k) q,
+        reached (new_canvas c) i,
+        copied_apart (new_canvas c) i (copy_clear true code s o v (omega arith) (omega arith) q),
+      )
+
+  -- all pixels stand
+  pub all_begun : (b b' : List ℕ) → b' ≡ first_pixels p 0 b 64 → Begun p 0 (p.size 0) b'
+  all_begun b b' k = record { found = b; made = k ∙ ap (first_pixels p 0 b) (count_deep s o code d.known ∙ sym (ap (λ (q : Plan). q.size 0) e)) }

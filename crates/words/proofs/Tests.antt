@@ -4,7 +4,6 @@ use mathlib.Core.Path.{◌≡◌, refl, sym, ◌∙◌}
 use mathlib.Core.Bool.{Bool, true, false, cond}
 use Prim.Native.Nat.{ℕ, ◌+◌, ◌≤◌}
 use native.Mathlib.Omega.{arith}
-use lib.Dec.{ltb}
 use borrow.Author.Tests.{lt-ltb, le-ltb, le-leb, lt-leb, eq-eqb, ne_eqb}
 
 -- closes each return of a ladder of tests on numbers
@@ -16,10 +15,6 @@ on y e t h = rw (sym e ∙ t) h
 
 pub off : {A : Type 0} {a b : Bool} {r y : A} (x : A) → a ≡ b → a ≡ false → r ≡ y → r ≡ cond b x y
 off x e t h = rw (sym e ∙ t) h
-
--- the same for a comparison of two numbers that were worked out
-pub less : {a b x y : ℕ} → a ≡ x → b ≡ y → ltb a b ≡ ltb x y
-less e g = rw (e, g)
 
 -- a choice that is not its first case is its second, and the other way round
 pub not_first : {A : Type 0} (b : Bool) (k x y : A) → (k ≡ y → ⊥) → cond b k x ≡ y → (b ≡ false) × (x ≡ y)

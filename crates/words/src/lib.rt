@@ -19,21 +19,20 @@ pub fn wide(b: u8) -> usize
 }
 
 // The word at byte i of s, low byte first.
+#[tactic(auto, unfolding(crate::specs::Word::word_at))]
 pub fn word_at(s: &[u8], i: usize) -> usize
     ensures { (result ≡ word_at s.now i) × (result < 65536) }
 {
     if i < s.len() {
-        return wide(byte_at(s, i)) + 256 * wide(byte_at(s, i + 1));
+        wide(byte_at(s, i)) + 256 * wide(byte_at(s, i + 1))
+    } else {
+        0
     }
-    0
 }
 
 // The part of s from byte i on, empty past the end.
 pub fn part_from(s: &[u8], i: usize) -> &[u8]
     ensures { result.now ≡ drop i s.now }
 {
-    if i <= s.len() {
-        return &s[i..];
-    }
-    &s[..0]
+    if i <= s.len() { &s[i..] } else { &s[..0] }
 }

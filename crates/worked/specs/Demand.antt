@@ -1,10 +1,9 @@
 -- Demand 3 applied to document 01's case 16x8 (map E2, data 00 07, back all 5), which is 2 by 1 blocks: a list of four calls that meets the hypotheses of
 -- the theorem `book/proofs/Demand.demand_3`, and what it comes to.
 -- Assumes nothing.
-use Rattle.std.specs.Prelude.{◌≡◌, List, [], ◌∷◌, ◌++◌, ℕ, replicate}
-use Rattle.packet.specs.declared.Touched.{Touched}
-use Rattle.packet.specs.declared.Touched.TheVariants.{None, Rows}
-use Rattle.packet.specs.Rows.{touched}
+use Rattle.std.specs.Prelude.{◌≡◌, List, [], ◌∷◌, ◌++◌, ℕ, replicate, Option, Some, None}
+use Rattle.packet.specs.declared.Rows.{Rows}
+use Rattle.packet.specs.Rows.{spanning, touched}
 use Rattle.packet.specs.Verdict.{default}
 use Rattle.stores.specs.Stores.{Memory, memory, final}
 use Rattle.stores.specs.Calls.{whole, unfinished, refusal, Event, returns, cut, finally, outcomes, book_outcomes}
@@ -32,8 +31,8 @@ unfoldable pub calls : List (Event Request)
 calls = returns (example 75) ∷ returns stray ∷ cut (example all) 30 ∷ returns (example all) ∷ []
 
 -- the one row of blocks
-abbrev pub row : Touched
-row = Rows 0 0
+abbrev pub row : Option Rows
+row = Some (spanning 0 0)
 
 -- what the three calls that return say
 unfoldable pub answers : List Report

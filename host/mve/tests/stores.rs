@@ -4,21 +4,20 @@
 //! once each, and no other does. Their contracts ask that a store is the next of its list; that nothing
 //! else stores is read from the sources, since no contract says which function stores. The numbers of
 //! an answer, which are no part of a film's memory, are stored by some functions of `mve_states` and
-//! `mve_steps`, to `out` alone; `parts::put_number` stores a number of a list, `video1::put` a pixel of a
-//! Video 1 frame, `encode::put` a byte of a map or a packet that is made, and `word_paint::put_word` a
-//! pixel of a film with true colour.
+//! `mve_steps`, to `out` alone; `parts::put_number` stores a number of a list and `encode::put` a byte of a
+//! map or a packet that is made.
 //!
-//! Rattle stores by assignment alone; slices have no methods that do. Lent memory is assigned to by
+//! A store is an assignment or a call of a method of slices that stores. Lent memory is assigned to by
 //! an index, through a reference, or as a field: an assignment to a mere name is to the function's
-//! own. A field of its own struct is not told from a lent one, so no field may be assigned to. The
-//! kit has functions that store, so no library crate may use them.
+//! own, and so is one to a field of a struct that the function made by a literal. The kit's crates
+//! have functions that store, so no library crate may use them.
 
 use std::collections::BTreeSet;
 use std::fs;
 use std::path::{Path, PathBuf};
 
 /// The functions that store, in the order of their names.
-const STORING: [&str; 11] = [
+const STORING: [&str; 9] = [
     "dpcm::put",
     "dpcm::put_start_byte",
     "encode::put",
@@ -28,8 +27,6 @@ const STORING: [&str; 11] = [
     "parts::put_number",
     "room::put_byte",
     "room::put_value",
-    "video1::put",
-    "word_paint::put_word",
 ];
 
 /// The functions that store numbers of an answer, in the order of their names.
@@ -49,6 +46,26 @@ const ANSWERING: [&str; 10] = [
 /// Operators with an equals sign that do not assign, and those that do.
 const OTHERS: [&str; 6] = ["..=", "==", "!=", "<=", ">=", "=>"];
 const ASSIGNING: [&str; 11] = ["<<=", ">>=", "+=", "-=", "*=", "/=", "%=", "&=", "|=", "^=", "="];
+
+/// Methods that store to what they are called on.
+const METHODS: [&str; 16] = [
+    "chunks_exact_mut",
+    "chunks_mut",
+    "clone_from_slice",
+    "copy_from_slice",
+    "copy_within",
+    "fill",
+    "fill_with",
+    "iter_mut",
+    "replace",
+    "reverse",
+    "rotate_left",
+    "rotate_right",
+    "sort",
+    "split_at_mut",
+    "swap",
+    "swap_with_slice",
+];
 
 #[derive(Clone, Copy)]
 struct Token<'a> {
@@ -170,16 +187,32 @@ fn may_be_lent(target: &[Token<'_>]) -> bool {
     target.len() != 1 && !target.iter().any(names)
 }
 
+/// Whether that is a field of a struct that the function made by a literal, in these tokens before.
+fn is_own_field(before: &[Token<'_>], target: &[Token<'_>]) -> bool {
+    let [name, dot, _] = target else { return false };
+    let makes = |tokens: &[Token<'_>]| {
+        let [a, b, c, d, kind, open] = tokens else { return false };
+        let is_type = kind.text.starts_with(|first: char| first.is_ascii_uppercase());
+        [a.text, b.text, c.text, d.text, open.text] == ["let", "mut", name.text, "=", "{"]
+            && is_type
+    };
+    dot.text == "." && before.windows(6).any(makes)
+}
+
 /// The stores to what may be lent in a source of this crate.
 fn stores(name: &str, source: &str) -> Vec<Store> {
     let code = code(source);
     let (mut found, mut start) = (Vec::new(), 0);
     for (at, token) in code.iter().enumerate() {
+        let is_method = METHODS.contains(&token.text)
+            && at > 0
+            && code[at - 1].text == "."
+            && code.get(at + 1).is_some_and(|next| next.text == "(");
         if token.text == "fn" {
             start = at;
-        } else if ASSIGNING.contains(&token.text) {
-            let target = target(&code[..at]);
-            if may_be_lent(target) {
+        } else if is_method || ASSIGNING.contains(&token.text) {
+            let target = target(&code[..at - usize::from(is_method)]);
+            if is_method || may_be_lent(target) && !is_own_field(&code[start..at], target) {
                 let function = format!("{name}::{}", code[start + 1].text);
                 let target = target.iter().map(|token| token.text).collect();
                 found.push(Store { function, line: token.line, target });
@@ -253,6 +286,47 @@ fn one_function_for_each_store() {
     assert!(answering.iter().eq(&ANSWERING), "{answering:?}");
 }
 
+/// The functions whose calls pick a list of stores (`Brand`), and with that say which list is kept to.
+const PICKING: [&str; 8] = [
+    "paint::paint_part",
+    "paint::paint_word_part",
+    "palette::create_gradient",
+    "palette::set_palette",
+    "palette::set_palette_compressed",
+    "video1::paint_frame",
+    "whole::paint_whole",
+    "word_whole::paint_word_whole",
+];
+
+/// No contract says where a list is picked: a call with one of its own could store in any order. So
+/// each call that picks stands here, and what they call asks that the list is that of a block or a body.
+#[test]
+fn lists_are_picked_here_alone() {
+    let (mut picking, mut lists) = (Vec::new(), Vec::new());
+    for (name, _) in libraries() {
+        for path in sources(&format!("crates/{name}/src")) {
+            let source = fs::read_to_string(root().join(&path)).expect("a source");
+            let code = code(&source);
+            let mut function = "";
+            for at in 0..code.len() {
+                match code[at].text {
+                    "fn" => function = code[at + 1].text,
+                    "Brand" if code[at - 1].text == "<" => {
+                        picking.push(format!("{name}::{function}"))
+                    }
+                    "Brand" if code[at - 1].text == "for" => {
+                        lists.push(code[at - 2].text.to_string())
+                    }
+                    _ => (),
+                }
+            }
+        }
+    }
+    picking.sort();
+    assert_eq!(picking, PICKING);
+    assert_eq!(lists, ["Drawing", "Listing"]);
+}
+
 /// Behind a function of the kit a store would not be seen.
 #[test]
 fn libraries_use_no_other_crates() {
@@ -285,7 +359,12 @@ fn stores_are_found() {
         ("let u = b[0] = 1;", "b[0]"),
         ("s.rows = 8;", "s.rows"),
         ("let mut q = s; q.rows = 8;", "q.rows"),
+        ("let mut q = S { part: b }; q.part[0] = 8;", "q.part[0]"),
+        ("let mut q = S { rows: 1 }; s.rows = 8;", "s.rows"),
         ("g(b'{'); /* } */ b[0] = b'\\''; // }", "b[0]"),
+        ("b[1..3].fill(0);", "b[1..3]"),
+        ("b.swap(0, 1);", "b"),
+        ("b.iter_mut().g();", "b"),
     ] {
         assert_eq!(targets(body), [target], "{body}");
     }
@@ -295,6 +374,7 @@ fn stores_are_found() {
         "for i in b[0]..=9 {} match b[0] { 1 => 2, _ => 3 }",
         "// b[0] = 1;\n /* *p = 1; */ g(b\"b[0] = 1;\\\"\");",
         "if let A(x) = g(b[0]) { h(x) }",
+        "let mut q = S { rows: 1, part: b }; q.rows = 8; q.rows += 1;",
     ] {
         assert!(targets(body).is_empty(), "{body}: {:?}", targets(body));
     }

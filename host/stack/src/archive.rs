@@ -167,7 +167,9 @@ fn symbols(text: &str, kind: &str) -> BTreeSet<String> {
 fn sizes(sections: &str) -> Result<[u64; 3], String> {
     let mut sizes = [0; 3];
     for line in sections.lines() {
-        let words: Vec<&str> = line.split([' ', ',']).filter(|word| !word.is_empty()).collect();
+        // flags are parted by commas; the name of a generic function may have one inside
+        let words: Vec<&str> =
+            line.split_whitespace().map(|word| word.trim_end_matches(',')).collect();
         let [number, name, size, ..] = words[..] else { continue };
         if number.parse::<usize>().is_err() || !words.contains(&"ALLOC") {
             continue;

@@ -8,7 +8,7 @@
 //! method is looked up by its name alone, in every type that the crate can see: that may follow too
 //! much, never too little. What is not found is a fault, too.
 
-use crate::source::{group_end, type_in, Type};
+use crate::source::{arguments_in, group_end, type_in, Type};
 use crate::tokens::{Kind, Token};
 use crate::tree::{is_primitive, Named, PlacedConstant, PlacedFunction, Scope, Tree};
 use std::collections::BTreeMap;
@@ -28,7 +28,38 @@ const OFFERED: [&str; 8] = [
 ];
 
 /// What the library uses of the kit and of the language, and why it has no array.
-const KIT: [(&str, &str); 1] = [("std::num::wrapping_add_u16", "the sum of its two numbers")];
+const KIT: [(&str, &str); 2] = [
+    ("std::num::wrapping_add_u16", "the sum of its two numbers"),
+    ("usize::from", "the number that its value is"),
+];
+
+/// Methods of the language's types, of `Option`, of `Result` and of iterators that the library calls.
+/// None makes an array or takes one; what a closure does that one is given stands where it is given.
+const METHODS: [&str; 17] = [
+    "all",
+    "any",
+    "enumerate",
+    "fill",
+    "is_empty",
+    "iter",
+    "len",
+    "max",
+    "min",
+    "ok_or",
+    "rev",
+    "saturating_sub",
+    "skip",
+    "starts_with",
+    "step_by",
+    "take",
+    "zip",
+];
+
+/// Macros of the kit that bring no call: a value beside a pattern, both read like all else.
+const MACROS: [&str; 1] = ["matches"];
+
+/// The values of `Option` and of `Result`.
+const VALUES: [&str; 4] = ["Err", "None", "Ok", "Some"];
 
 const KEYWORDS: [&str; 17] = [
     "as", "break", "continue", "else", "false", "for", "if", "in", "let", "loop", "match", "mut",
@@ -179,7 +210,8 @@ impl<'t> Scan<'t> {
     }
 
     fn written_type(&mut self, kind: &Type, line: usize, place: &str) {
-        match self.tree.has_array(self.scope(), kind) {
+        let kind = kind.clone().without(&self.placed.function.generics);
+        match self.tree.has_array(self.scope(), &kind) {
             Ok(false) => (),
             Ok(true) => self.fault(line, format!("{place} with an array")),
             Err(name) => self.fault(line, format!("the type {name} is not found")),
@@ -255,7 +287,7 @@ impl<'t> Scan<'t> {
         }
         if self.is(at + 1, "(") {
             let methods = self.tree.methods(self.scope().module, text);
-            if methods.is_empty() && text != "len" {
+            if methods.is_empty() && !METHODS.contains(&&**text) {
                 self.fault(*line, format!("no method {text} is found"));
             }
             self.calls.extend(methods);
@@ -302,9 +334,13 @@ impl<'t> Scan<'t> {
         let mut path = vec![self.body[at].text.clone()];
         let mut end = at + 1;
         while self.is(end, "::") {
-            match self.body.get(end + 1).filter(|token| token.kind == Kind::Word) {
-                Some(token) => path.push(token.text.clone()),
-                None => {
+            match self.body.get(end + 1) {
+                Some(token) if token.kind == Kind::Word => path.push(token.text.clone()),
+                Some(token) if token.is("<") => {
+                    end = self.arguments(end + 1);
+                    continue;
+                }
+                _ => {
                     self.fault(line, format!("what stands behind {} is not read", path.join("::")))
                 }
             }
@@ -312,15 +348,55 @@ impl<'t> Scan<'t> {
         }
         let is_called = self.is(end, "(");
         if self.is(end, "!") && ["(", "[", "{"].iter().any(|open| self.is(end + 1, open)) {
+            if MACROS.contains(&&*path.join("::")) {
+                return end + 1;
+            }
             self.fault(line, format!("the macro {} is not read", path.join("::")));
         }
         self.named(at, end, &path, is_called);
         end
     }
 
+    /// The arguments of a path, in `<>`; the index of what comes behind them.
+    fn arguments(&mut self, at: usize) -> usize {
+        let line = self.body[at].line;
+        match arguments_in(&self.body[at..]) {
+            Ok((kinds, length)) => {
+                for kind in &kinds {
+                    self.written_type(kind, line, "an argument in <>");
+                }
+                at + length
+            }
+            Err(fault) => {
+                self.fault(line, format!("arguments in <> are not understood: line {fault}"));
+                self.body.len()
+            }
+        }
+    }
+
+    /// A function of a type parameter, whose type is not known here: that of every type that has one.
+    fn of_parameter(&mut self, line: usize, path: &[String], is_called: bool) -> bool {
+        let [of, name] = path else { return false };
+        if !self.placed.function.generics.contains(of) {
+            return false;
+        }
+        if !is_called {
+            return true; // a constant, of which no trait's type is an array
+        }
+        let methods = self.tree.methods(self.scope().module, name);
+        if methods.is_empty() {
+            self.fault(line, format!("{of}::{name} is not found"));
+        }
+        self.calls.extend(methods);
+        true
+    }
+
     fn named(&mut self, at: usize, end: usize, path: &[String], is_called: bool) {
         let line = self.body[at].line;
         let whole = path.join("::");
+        if self.of_parameter(line, path, is_called) || VALUES.contains(&&*whole) {
+            return;
+        }
         match self.tree.find(self.scope(), path) {
             // a local may have a function's name, but is not called
             Some(Named::Function(id)) if is_called || path.len() > 1 => self.calls.push(id),
@@ -367,7 +443,7 @@ impl<'t> Scan<'t> {
                     self.taken(scope, &Type::Slice(of.clone()), end + 1)
                 }
                 Type::Array(of) | Type::Slice(of) => self.taken(scope, of, end + 1),
-                Type::Reference(_) | Type::Named(_) => None,
+                Type::Reference(_) | Type::Several(_) | Type::Named(_) => None,
             };
         }
         if !self.is(at, ".") {

@@ -33,7 +33,7 @@ pub fn header_table(figures: &Figures) -> String {
 pub fn page_table(figures: &Figures) -> String {
     let head = "| call | bytes | deepest chain |\n|---|---:|---|\n";
     let rows = figures.calls.iter().map(|(name, chain)| {
-        let frames = chain.0.iter().map(|(name, bytes)| format!("`{name}` {bytes}"));
+        let frames = chain.0.iter().map(|(name, bytes)| format!("`{}` {bytes}", plain(name)));
         let frames = frames.collect::<Vec<_>>().join(", ");
         format!("| `{name}` | {} | {frames} |\n", grouped(chain.bytes()))
     });
@@ -54,7 +54,7 @@ pub fn header_stages(stages: &Stages) -> String {
 pub fn page_stages(stages: &Stages) -> String {
     let head = "| whole stage of | bytes | painted | deepest chain |\n|---|---:|---:|---|\n";
     let rows = stages.calls.iter().map(|(name, whole)| {
-        let frames = whole.chain.0.iter().map(|(name, bytes)| format!("`{name}` {bytes}"));
+        let frames = whole.chain.0.iter().map(|(name, bytes)| format!("`{}` {bytes}", plain(name)));
         let frames = frames.collect::<Vec<_>>().join(", ");
         let [bytes, painted] = [whole.chain.bytes(), whole.painted].map(grouped);
         format!("| `{name}` | {bytes} | {painted} | {frames} |\n")
@@ -114,7 +114,7 @@ pub fn verdict(figures: &Figures, stages: &Stages) -> Result<(), String> {
 /// What the gate prints of the whole stages: the chains with the limit, and what was painted over.
 pub fn gate_stages(stages: &Stages) -> String {
     let chains = stages.calls.iter().map(|(name, whole)| {
-        let frames = whole.chain.0.iter().map(|(name, bytes)| format!("{name} {bytes}"));
+        let frames = whole.chain.0.iter().map(|(name, bytes)| format!("{} {bytes}", plain(name)));
         let frames = frames.collect::<Vec<_>>().join(" + ");
         let verdict = if whole.bytes() <= LIMIT { "" } else { ": too deep" };
         let (bytes, painted) = (grouped(whole.chain.bytes()), grouped(whole.painted));
@@ -131,7 +131,7 @@ pub fn gate_stages(stages: &Stages) -> String {
 /// What the gate prints: every figure, and the chains with the limit.
 pub fn gate_text(figures: &Figures) -> String {
     let chains = figures.calls.iter().map(|(name, chain)| {
-        let frames = chain.0.iter().map(|(name, bytes)| format!("{name} {bytes}"));
+        let frames = chain.0.iter().map(|(name, bytes)| format!("{} {bytes}", plain(name)));
         let verdict = if chain.bytes() < LIMIT { "" } else { ": too deep" };
         format!("    {name}: {}{verdict}\n", frames.collect::<Vec<_>>().join(" + "))
     });
@@ -141,6 +141,11 @@ pub fn gate_text(figures: &Figures) -> String {
         grouped(LIMIT),
         chains.collect::<String>()
     )
+}
+
+/// The name of a function without what its parameters are.
+fn plain(name: &str) -> &str {
+    name.split_once("::<").map_or(name, |(plain, _)| plain)
 }
 
 fn listed<'a>(names: impl Iterator<Item = &'a String>) -> String {

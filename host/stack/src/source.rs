@@ -11,8 +11,32 @@ pub enum Type {
     Slice(Box<Type>),
     /// `&T`, `&mut T`, `&&T`
     Reference(Box<Type>),
-    /// A path; `()` is the empty one.
+    /// `(T, U)`, or a path and its arguments, `Option<T>`; of a type parameter none.
+    Several(Vec<Type>),
+    /// A path.
     Named(Vec<String>),
+}
+
+impl Type {
+    /// With another type in place of a name, of which nothing else is said.
+    fn with(self, name: &str, other: &Type) -> Type {
+        let inside = |of: Box<Type>| Box::new(of.with(name, other));
+        match self {
+            Type::Array(of) => Type::Array(inside(of)),
+            Type::Slice(of) => Type::Slice(inside(of)),
+            Type::Reference(of) => Type::Reference(inside(of)),
+            Type::Several(all) => {
+                Type::Several(all.into_iter().map(|of| of.with(name, other)).collect())
+            }
+            Type::Named(path) if path == [name] => other.clone(),
+            Type::Named(path) => Type::Named(path),
+        }
+    }
+
+    /// With nothing in place of each of these type parameters.
+    pub fn without(self, names: &[String]) -> Type {
+        names.iter().fold(self, |of, name| of.with(name, &Type::Several(Vec::new())))
+    }
 }
 
 /// A function, with or without a receiver.
@@ -24,10 +48,30 @@ pub struct Function {
     pub line: usize,
     /// Whether it is `#[unsafe(no_mangle)]` and `extern "C"`.
     pub exported: bool,
+    /// The names of its type and const parameters, with those of its `impl` or trait.
+    pub generics: Vec<String>,
     /// The types of its parameters and of its result, each with its line.
     pub signature: Vec<(Type, usize)>,
-    /// What stands between the braces.
+    /// What stands between the braces; nothing where a trait only declares it.
     pub body: Vec<Token>,
+}
+
+impl Function {
+    /// As it stands in an `impl` or a trait with these parameters.
+    fn inside(mut self, generics: &[String]) -> Function {
+        self.generics.extend_from_slice(generics);
+        let signature = self.signature.into_iter();
+        self.signature = signature.map(|(kind, line)| (kind.without(generics), line)).collect();
+        self
+    }
+
+    /// As it stands in an `impl` of a type of the language.
+    pub fn of(mut self, own: &[String]) -> Function {
+        let own = Type::Named(own.to_vec());
+        let signature = self.signature.into_iter();
+        self.signature = signature.map(|(kind, line)| (kind.with("Self", &own), line)).collect();
+        self
+    }
 }
 
 /// A struct, an enum or another name for a type.
@@ -51,8 +95,10 @@ pub enum Item {
     Function(Function),
     /// `struct`, `enum`, `type`
     Type(Declared),
-    /// `impl`: the type's path, the line, the functions.
+    /// `impl`, of a trait or not: the type's path, the line, the functions.
     Methods(Vec<String>, usize, Vec<Function>),
+    /// `trait`: its name, the functions.
+    Trait(String, Vec<Function>),
     /// `const`
     Constant(String, Type),
     /// `use`: the name that it gives, the path, the line.
@@ -71,6 +117,14 @@ pub fn items(source: &str) -> Result<Vec<Item>, String> {
 pub fn type_in(tokens: &[Token]) -> Result<(Type, usize), String> {
     let mut reader = Reader::new(tokens);
     let found = reader.read_type()?;
+    Ok((found, reader.at))
+}
+
+/// The arguments in `<>` that tokens begin with, values and lifetimes apart, and how many tokens
+/// they have.
+pub fn arguments_in(tokens: &[Token]) -> Result<(Vec<Type>, usize), String> {
+    let mut reader = Reader::new(tokens);
+    let found = reader.arguments()?;
     Ok((found, reader.at))
 }
 
@@ -93,11 +147,13 @@ pub fn group_end(tokens: &[Token], open: usize) -> Option<usize> {
 struct Reader<'t> {
     tokens: &'t [Token],
     at: usize,
+    /// Whether the first half of a `>>` that stands here is read.
+    is_half_read: bool,
 }
 
 impl<'t> Reader<'t> {
     fn new(tokens: &'t [Token]) -> Self {
-        Reader { tokens, at: 0 }
+        Reader { tokens, at: 0, is_half_read: false }
     }
 
     fn line(&self) -> usize {
@@ -160,19 +216,67 @@ impl<'t> Reader<'t> {
         Ok(inside)
     }
 
-    /// A part of the bounds of lifetimes.
-    fn eat_bound(&mut self) -> bool {
-        let is_lifetime = self.eat_kind(Kind::Lifetime).is_some();
-        is_lifetime || self.eat(",") || self.eat(":") || self.eat("+")
+    /// `<'a, T: Copy, const N: usize>`: the names of the parameters that are no lifetimes.
+    fn generics(&mut self) -> Result<Vec<String>, String> {
+        let (mut names, mut depth, mut begins) = (Vec::new(), 0, false);
+        if !self.sees("<") {
+            return Ok(names);
+        }
+        loop {
+            if std::mem::take(&mut begins) {
+                self.eat("const");
+                names.extend(self.eat_kind(Kind::Word).map(|token| token.text.clone()));
+            }
+            let Some(token) = self.tokens.get(self.at) else { return self.fault(">") };
+            match &*token.text {
+                "<" => depth += 1,
+                ">" => depth -= 1,
+                ">>" => depth -= 2,
+                "{" | "}" | ";" => return self.fault(">"),
+                _ => (),
+            }
+            begins = depth == 1 && (token.is(",") || token.is("<"));
+            self.at += 1;
+            if depth <= 0 {
+                return Ok(names);
+            }
+        }
     }
 
-    /// `<'a, 'b: 'a>`, of which nothing is kept.
-    fn lifetimes(&mut self) -> Result<(), String> {
+    /// `<'a, T, 4, true>`: the types.
+    fn arguments(&mut self) -> Result<Vec<Type>, String> {
+        let mut found = Vec::new();
         if !self.eat("<") {
-            return Ok(());
+            return Ok(found);
         }
-        while self.eat_bound() {}
-        self.expect(">")
+        while !self.eat_angle() {
+            let is_value = self.eat("true") || self.eat("false");
+            let is_number = self.eat_kind(Kind::Number).is_some();
+            if !is_value && !is_number && self.eat_kind(Kind::Lifetime).is_none() {
+                found.push(self.read_type()?);
+            }
+            if !self.eat(",") && !self.sees(">") && !self.sees(">>") {
+                return self.fault(", or >");
+            }
+        }
+        Ok(found)
+    }
+
+    /// The end of arguments; `>>` ends those of two types.
+    fn eat_angle(&mut self) -> bool {
+        if self.sees(">>") {
+            self.at += usize::from(self.is_half_read);
+            self.is_half_read = !self.is_half_read;
+            return true;
+        }
+        self.eat(">")
+    }
+
+    /// Up to a sign at which what is read here ends.
+    fn skip_to(&mut self, ends: &[&str]) {
+        while self.at < self.tokens.len() && !ends.iter().any(|end| self.sees(end)) {
+            self.at += 1;
+        }
     }
 
     /// Behind the attributes of the file or the module itself.
@@ -196,7 +300,7 @@ impl<'t> Reader<'t> {
 
     fn item(&mut self, no_mangle: bool) -> Result<Item, String> {
         if self.sees("fn") || self.sees("extern") {
-            return self.function(no_mangle).map(Item::Function);
+            return self.function(no_mangle, false).map(Item::Function);
         }
         let line = self.line();
         match &*self.word()? {
@@ -206,6 +310,7 @@ impl<'t> Reader<'t> {
             "const" => self.constant(),
             "mod" => self.module(),
             "impl" => self.methods(line),
+            "trait" => self.read_trait(),
             other => Err(format!("{line}: an item is expected, not {other}")),
         }
     }
@@ -226,7 +331,7 @@ impl<'t> Reader<'t> {
         Ok(())
     }
 
-    fn function(&mut self, no_mangle: bool) -> Result<Function, String> {
+    fn function(&mut self, no_mangle: bool, in_trait: bool) -> Result<Function, String> {
         let is_extern = self.eat("extern");
         if is_extern && self.eat_kind(Kind::Text).is_none() {
             return self.fault("\"C\"");
@@ -234,7 +339,7 @@ impl<'t> Reader<'t> {
         self.expect("fn")?;
         let line = self.line();
         let name = self.word()?;
-        self.lifetimes()?;
+        let generics = self.generics()?;
         let inside = self.group("(")?;
         let mut signature = Reader::new(inside).parameters()?;
         if self.eat("->") {
@@ -242,10 +347,13 @@ impl<'t> Reader<'t> {
             signature.push((self.read_type()?, line));
         }
         if self.eat("where") {
-            while self.eat_bound() {}
+            self.skip_to(&["{", ";"]);
         }
-        let body = self.group("{")?.to_vec();
-        Ok(Function { name, line, exported: no_mangle && is_extern, signature, body })
+        let is_declared = in_trait && self.eat(";");
+        let body = if is_declared { Vec::new() } else { self.group("{")?.to_vec() };
+        let exported = no_mangle && is_extern;
+        let function = Function { name, line, exported, generics: Vec::new(), signature, body };
+        Ok(function.inside(&generics))
     }
 
     fn parameters(&mut self) -> Result<Vec<(Type, usize)>, String> {
@@ -290,18 +398,28 @@ impl<'t> Reader<'t> {
                 Some(_) => inside.fault("; or ]"),
             };
         }
-        if self.eat("(") {
-            self.expect(")")?;
-            return Ok(Type::Named(Vec::new()));
+        if self.sees("(") {
+            let mut inside = Reader::new(self.group("(")?);
+            let mut found = Vec::new();
+            while inside.at < inside.tokens.len() {
+                found.push(inside.read_type()?);
+                if inside.at < inside.tokens.len() {
+                    inside.expect(",")?;
+                }
+            }
+            return Ok(Type::Several(found));
         }
-        let path = self.path()?;
-        self.lifetimes()?;
-        Ok(Type::Named(path))
+        let own = Type::Named(self.path()?);
+        let arguments = self.arguments()?;
+        if arguments.is_empty() {
+            return Ok(own);
+        }
+        Ok(Type::Several(std::iter::once(own).chain(arguments).collect()))
     }
 
     fn read_struct(&mut self) -> Result<Declared, String> {
         let name = self.word()?;
-        self.lifetimes()?;
+        let generics = self.generics()?;
         let holds = if self.sees("{") {
             Reader::new(self.group("{")?).fields()?
         } else if self.sees("(") {
@@ -312,12 +430,17 @@ impl<'t> Reader<'t> {
             self.expect(";")?;
             Vec::new()
         };
-        Ok(Declared { name, holds, variants: Vec::new(), is_alias: false })
+        let holds = holds.into_iter().map(|(field, kind)| (field, kind.without(&generics)));
+        Ok(Declared { name, holds: holds.collect(), variants: Vec::new(), is_alias: false })
     }
 
+    /// A field that only the prover reads is left out already, but for the comma behind it.
     fn fields(&mut self) -> Result<Vec<(String, Type)>, String> {
         let mut found = Vec::new();
         while self.at < self.tokens.len() {
+            if self.eat(",") {
+                continue;
+            }
             self.attributes()?;
             self.visibility()?;
             let name = self.word()?;
@@ -344,6 +467,7 @@ impl<'t> Reader<'t> {
 
     fn read_enum(&mut self) -> Result<Declared, String> {
         let name = self.word()?;
+        let generics = self.generics()?;
         let mut inside = Reader::new(self.group("{")?);
         let (mut holds, mut variants) = (Vec::new(), Vec::new());
         while inside.at < inside.tokens.len() {
@@ -360,7 +484,8 @@ impl<'t> Reader<'t> {
                 inside.expect(",")?;
             }
         }
-        Ok(Declared { name, holds, variants, is_alias: false })
+        let holds = holds.into_iter().map(|(field, kind)| (field, kind.without(&generics)));
+        Ok(Declared { name, holds: holds.collect(), variants, is_alias: false })
     }
 
     fn alias(&mut self) -> Result<Declared, String> {
@@ -429,17 +554,44 @@ impl<'t> Reader<'t> {
         Ok(Item::Module(name, Some(inside)))
     }
 
+    /// Behind `impl`: of a type, or of a trait for one.
     fn methods(&mut self, line: usize) -> Result<Item, String> {
-        self.lifetimes()?;
-        let path = self.path()?;
-        self.lifetimes()?;
-        let mut inside = Reader::new(self.group("{")?);
-        let mut functions = Vec::new();
-        while inside.at < inside.tokens.len() {
-            let no_mangle = inside.attributes()?;
-            inside.visibility()?;
-            functions.push(inside.function(no_mangle)?);
+        let generics = self.generics()?;
+        let mut path = self.path()?;
+        self.arguments()?;
+        if self.eat("for") {
+            path = self.path()?;
+            self.arguments()?;
         }
+        self.skip_to(&["{"]);
+        let functions = Reader::new(self.group("{")?).members(&generics)?;
         Ok(Item::Methods(path, line, functions))
+    }
+
+    fn read_trait(&mut self) -> Result<Item, String> {
+        let name = self.word()?;
+        let generics = self.generics()?;
+        self.skip_to(&["{"]);
+        let functions = Reader::new(self.group("{")?).members(&generics)?;
+        Ok(Item::Trait(name, functions))
+    }
+
+    /// The functions of an `impl` or a trait. Constants and types in it are not kept; of what only
+    /// the prover reads the last sign is left.
+    fn members(&mut self, generics: &[String]) -> Result<Vec<Function>, String> {
+        let mut functions = Vec::new();
+        while self.at < self.tokens.len() {
+            if self.eat(";") {
+                continue;
+            }
+            let no_mangle = self.attributes()?;
+            self.visibility()?;
+            if self.eat("const") || self.eat("type") {
+                self.skip_to(&[";"]);
+            } else {
+                functions.push(self.function(no_mangle, true)?.inside(generics));
+            }
+        }
+        Ok(functions)
     }
 }

@@ -9,6 +9,12 @@ use std::{fs, io};
 const PRIMITIVES: [&str; 13] =
     ["bool", "f32", "f64", "i16", "i32", "i64", "i8", "isize", "u16", "u32", "u64", "u8", "usize"];
 
+/// Types of the kit that every source knows. What they hold is said by their arguments.
+const KNOWN: [&str; 2] = ["Option", "Result"];
+
+/// Types of the kit that hold nothing.
+const EMPTY: [&str; 1] = ["std::marker::Brand"];
+
 /// Whether a name is that of a type of the language.
 pub fn is_primitive(name: &str) -> bool {
     PRIMITIVES.contains(&name)
@@ -113,6 +119,8 @@ pub struct Tree {
     roots: BTreeMap<String, usize>,
     /// What each crate depends on.
     needs: BTreeMap<String, Vec<String>>,
+    /// Methods of types of the language and of the kit, by their names.
+    foreign: BTreeMap<String, Vec<usize>>,
     pending: Vec<Methods>,
 }
 
@@ -215,8 +223,20 @@ impl Tree {
             Item::Import(name, path, line) => (name, Entry::Import(path, line)),
             Item::Function(function) => {
                 let name = function.name.clone();
-                let id = self.add_function(Scope { module, own: None }, function);
+                let id = self.add_function(Scope { module, own: None }, "", function);
                 (name, Entry::Item(Named::Function(id)))
+            }
+            Item::Trait(name, functions) => {
+                let declared = Declared {
+                    name: name.clone(),
+                    holds: Vec::new(),
+                    variants: Vec::new(),
+                    is_alias: false,
+                };
+                self.types.push(PlacedType { declared, module, methods: BTreeMap::new() });
+                let own = self.types.len() - 1;
+                self.add_methods_of(module, own, functions)?;
+                (name, Entry::Item(Named::Type(own)))
             }
             Item::Type(declared) => {
                 let name = declared.name.clone();
@@ -262,24 +282,50 @@ impl Tree {
         self.add_module(sources, module, items)
     }
 
-    fn add_function(&mut self, scope: Scope, function: Function) -> usize {
-        let own = scope.own.map(|own| format!("::{}", self.types[own].declared.name));
+    /// A function of a module, of a type in the tree, or of one of the language, whose name is given.
+    fn add_function(&mut self, scope: Scope, foreign: &str, function: Function) -> usize {
+        let own = scope.own.map_or(foreign, |own| &*self.types[own].declared.name);
+        let own = if own.is_empty() { String::new() } else { format!("::{own}") };
         let module = &self.modules[scope.module].name;
-        let name = format!("{module}{}::{}", own.unwrap_or_default(), function.name);
+        let name = format!("{module}{own}::{}", function.name);
         self.functions.push(PlacedFunction { function, scope, name });
         self.functions.len() - 1
     }
 
     fn add_methods(&mut self, block: Methods) -> Result<(), String> {
         let Methods { module, path, line, functions } = block;
-        let Some(Named::Type(own)) = self.find(Scope { module, own: None }, &path) else {
-            let file = &self.modules[module].file;
-            return Err(format!("{file}:{line}: no type {} is found", path.join("::")));
-        };
+        match self.find(Scope { module, own: None }, &path) {
+            Some(Named::Type(own)) => self.add_methods_of(module, own, functions),
+            Some(Named::Kit(name)) => {
+                for function in functions {
+                    let method = function.name.clone();
+                    let function = function.of(&path);
+                    let id = self.add_function(Scope { module, own: None }, &name, function);
+                    self.foreign.entry(method).or_default().push(id);
+                }
+                Ok(())
+            }
+            _ => {
+                let file = &self.modules[module].file;
+                Err(format!("{file}:{line}: no type {} is found", path.join("::")))
+            }
+        }
+    }
+
+    fn add_methods_of(
+        &mut self,
+        module: usize,
+        own: usize,
+        functions: Vec<Function>,
+    ) -> Result<(), String> {
         for function in functions {
             let name = function.name.clone();
-            let id = self.add_function(Scope { module, own: Some(own) }, function);
-            self.types[own].methods.insert(name, id);
+            let id = self.add_function(Scope { module, own: Some(own) }, "", function);
+            if self.types[own].methods.insert(name.clone(), id).is_some() {
+                let own = &self.types[own].declared.name;
+                let file = &self.modules[module].file;
+                return Err(format!("{file}: {own}::{name} stands twice"));
+            }
         }
         Ok(())
     }
@@ -386,9 +432,12 @@ impl Tree {
     /// The methods of this name of all types that a module's crate can see.
     pub fn methods(&self, module: usize, name: &str) -> Vec<usize> {
         let seen = self.seen_from(&self.modules[module].library);
-        let types =
-            self.types.iter().filter(|found| seen.contains(&*self.modules[found.module].library));
-        types.filter_map(|found| found.methods.get(name).copied()).collect()
+        let is_seen = |module: usize| seen.contains(&*self.modules[module].library);
+        let types = self.types.iter().filter(|found| is_seen(found.module));
+        let own = types.filter_map(|found| found.methods.get(name).copied());
+        let foreign = self.foreign.get(name).into_iter().flatten().copied();
+        let foreign = foreign.filter(|id| is_seen(self.functions[*id].scope.module));
+        own.chain(foreign).collect()
     }
 
     /// A crate and all that it depends on.
@@ -417,11 +466,19 @@ impl Tree {
         let path = match kind {
             Type::Array(_) => return Ok(true),
             Type::Slice(of) | Type::Reference(of) => return self.holds_array(scope, of, seen),
+            Type::Several(all) => {
+                for of in all {
+                    if self.holds_array(scope, of, seen)? {
+                        return Ok(true);
+                    }
+                }
+                return Ok(false);
+            }
             Type::Named(path) => path,
         };
         match self.find(scope, path) {
-            _ if path.is_empty() => Ok(false),
-            Some(Named::Kit(name)) if is_primitive(&name) => Ok(false),
+            None if path.len() == 1 && KNOWN.contains(&&*path[0]) => Ok(false),
+            Some(Named::Kit(name)) if is_primitive(&name) || EMPTY.contains(&&*name) => Ok(false),
             Some(Named::Type(id)) => self.type_holds_array(id, seen),
             _ => Err(path.join("::")),
         }

@@ -204,6 +204,52 @@ fn calls() {
     }
 }
 
+/// Functions and types with parameters, traits, and what `Option` and `Result` hold.
+#[test]
+fn parameters() {
+    let traits = "pub trait Pixel: Copy {
+            ghost stored: { ℕ → ℕ };
+            const BYTES: usize;
+            fn stored(self) -> Self
+                ensures { number result ≡ stored [0; 3] };
+            fn own(s: &[u8]) -> Self;
+        }
+        impl Pixel for u8 {
+            ghost stored = { λ v. v };
+            const BYTES: usize = 1;
+            fn stored(self) -> Self { let x = [0; 3]; self }
+            fn own(s: &[u8]) -> u8 { g(); s[0] }
+        }
+        fn g() { let x = [0; 3]; }";
+    for (offered, found) in [
+        ("pub fn offered<T: Pixel>(t: &[T]) -> T { t[0].stored() }", "11: u8::stored: an array"),
+        ("pub fn offered<'a, T: Pixel>(s: &'a [u8]) -> T { T::own(s) }", "14: g: an array"),
+        (
+            "pub fn offered() { h::<u8, 3>() } fn h<T: Pixel, const N: usize>() { g() }",
+            "14: g: an array",
+        ),
+        (
+            "pub fn offered() -> Result<(), u8> { if let Some(x) = f()? { g() } Ok(()) }
+          fn f() -> Result<Option<u8>, u8> { Ok(None) }",
+            "14: g: an array",
+        ),
+    ] {
+        assert_eq!(told(&format!("{traits} {offered}")), [found], "{offered}");
+    }
+    let clean = "pub struct P<T> { t: T, ghost is: { t ≡ t }, }
+        pub fn offered<T: Copy, const N: usize>(x: P<T>, n: Option<T>) -> Result<Option<(T, u8)>, u8>
+        where
+            T: Copy,
+        { let m: Option<T> = n; s.iter().rev().all(|x| *x < T::BYTES.min(N)); Ok(m) }";
+    assert_eq!(told(clean), [""; 0]);
+    for kind in
+        ["Option<[u8; 4]>", "Result<(), [u8; 4]>", "(u8, [u8; 4])", "Option<Option<[u8; 4]>>"]
+    {
+        let source = format!("pub fn offered(x: {kind}) {{}}");
+        assert_eq!(told(&source), ["1: offered: a parameter or result with an array"], "{kind}");
+    }
+}
+
 #[test]
 fn three_calls_deep() {
     let source = "pub fn offered() { one() }\nfn one() { two() }\nfn two() { three() }\n
@@ -330,7 +376,9 @@ fn not_found() {
         ("let t = std::num::TABLE; n", "std::num::TABLE is not among what is known of the kit"),
         ("u32::missing(n)", "u32::missing is not among what is known of the kit"),
         ("assert!(n)", "the macro assert is not read"),
-        ("f::<usize>(n)", "what stands behind f is not read"),
+        ("f::<usize>::(n)", "what stands behind f is not read"),
+        ("f::<Missing>(n)", "the type Missing is not found"),
+        ("f::<[u8; 4]>(n)", "an argument in <> with an array"),
         ("let x: Missing = n; n", "the type Missing is not found"),
         ("fn inner() {} n", "fn inside a function is not read"),
     ] {
@@ -349,7 +397,9 @@ fn not_found() {
         "fn f() requires { {",
         "fn f(); fn f();",
         "fn f() {} fn f() {}",
-        "trait T {}",
+        "trait T { fn f() }",
+        "impl S for Missing {}",
+        "fn f<T(x: T) {}",
         "fn f() { \"no end }",
         "fn f() { ∞ }",
     ] {

@@ -16,22 +16,19 @@ pub store-requires : goal.store-requires
 store-requires c = (passes_early _ _ _ _ _ _ _ _ c.loop-st.invariant c.if-st-eq0.true, (passes_kept _ _ _ _ _ _ _ _ _ c.foresee.ensures.palette_unchanged c.loop-st.invariant).long)
 
 pub loop-st-smaller-then-storing : goal.loop-st-smaller-then-storing
-loop-st-smaller-then-storing c = turn_less _ _ _ _ _ _ _ _ c.loop-st.invariant c.if-st-eq0.true c.foresee.result c.foresee.ensures.result_value _ (ap turn_as c.in-On.is) _
+loop-st-smaller-then-storing c = turn_less _ _ _ _ _ _ _ _ c.loop-st.invariant c.if-st-eq0.true c.foresee.result c.foresee.ensures.result_value _ (ap turn_as c.in-Ok.is) _
 
 pub loop-st-preserved-then-storing : goal.loop-st-preserved-then-storing
-loop-st-preserved-then-storing c = passes_stored _ _ _ _ _ _ _ _ (passes_kept _ _ _ _ _ _ _ _ _ c.foresee.ensures.palette_unchanged c.loop-st.invariant) c.if-st-eq0.true c.foresee.result c.foresee.ensures.result_value _ (ap turn_as c.in-On.is) c.if-storing.true _ _ c.store.ensures.by_index c.store.ensures.by_index_2 c.store.auto.palette
+loop-st-preserved-then-storing c = passes_stored _ _ _ _ _ _ _ _ (passes_kept _ _ _ _ _ _ _ _ _ c.foresee.ensures.palette_unchanged c.loop-st.invariant) c.if-st-eq0.true c.foresee.result c.foresee.ensures.result_value _ (ap turn_as c.in-Ok.is) c.if-storing.true _ _ c.store.ensures.by_index c.store.ensures.by_index_2 c.store.auto.palette
 
 pub loop-st-smaller-else-storing : goal.loop-st-smaller-else-storing
-loop-st-smaller-else-storing c = turn_less _ _ _ _ _ _ _ _ c.loop-st.invariant c.if-st-eq0.true c.foresee.result c.foresee.ensures.result_value _ (ap turn_as c.in-On.is) _
+loop-st-smaller-else-storing c = turn_less _ _ _ _ _ _ _ _ c.loop-st.invariant c.if-st-eq0.true c.foresee.result c.foresee.ensures.result_value _ (ap turn_as c.in-Ok.is) _
 
 pub loop-st-preserved-else-storing : goal.loop-st-preserved-else-storing
-loop-st-preserved-else-storing c = passes_judged _ _ _ _ _ _ _ _ (passes_kept _ _ _ _ _ _ _ _ _ c.foresee.ensures.palette_unchanged c.loop-st.invariant) c.if-st-eq0.true c.foresee.result c.foresee.ensures.result_value _ (ap turn_as c.in-On.is) c.if-storing.false
+loop-st-preserved-else-storing c = passes_judged _ _ _ _ _ _ _ _ (passes_kept _ _ _ _ _ _ _ _ _ c.foresee.ensures.palette_unchanged c.loop-st.invariant) c.if-st-eq0.true c.foresee.result c.foresee.ensures.result_value _ (ap turn_as c.in-Ok.is) c.if-storing.false
 
-pub shape_of-palette-in-Off : goal.shape_of-palette-in-Off
-shape_of-palette-in-Off c = (passes_kept _ _ _ _ _ _ _ _ _ c.foresee.ensures.palette_unchanged c.loop-st.invariant).same
-
-pub returns-in-Off : goal.returns-in-Off
-returns-in-Off c = passes_stops _ _ _ _ _ _ _ _ (passes_kept _ _ _ _ _ _ _ _ _ c.foresee.ensures.palette_unchanged c.loop-st.invariant) c.if-st-eq0.true c.foresee.result c.foresee.ensures.result_value _ _ (ap turn_as c.in-Off.is)
+pub returns-in-Err : goal.returns-in-Err
+returns-in-Err c = passes_stops _ _ _ _ _ _ _ _ (passes_kept _ _ _ _ _ _ _ _ _ c.foresee.ensures.palette_unchanged c.loop-st.invariant) c.if-st-eq0.true c.foresee.result c.foresee.ensures.result_value _ _ (ap turn_as c.in-Err.is)
 
 pub shape_of-palette-then-storing-2 : goal.shape_of-palette-then-storing-2
 shape_of-palette-then-storing-2 c = c.loop-st.invariant.same

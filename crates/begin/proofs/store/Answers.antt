@@ -1,3 +1,5 @@
+use mathlib.Core.Path.{ap, ◌∙◌}
+use Rattle.std.specs.Prelude.{Ok}
 use Rattle.film.specs.Film.{lent}
 use Rattle.next.proofs.Standing.{possible}
 use Rattle.begin.specs.Begin.{allowance}
@@ -7,20 +9,20 @@ use Rattle.begin.proofs.store.Goals as goal
 pub standing_at-requires : goal.standing_at-requires
 standing_at-requires c = let q = possible c.args.st _ c.requires.0.possible in (q.ordered, q.inside)
 
-pub returns-then-is_heard : goal.returns-then-is_heard
-returns-then-is_heard c = record { by_index = λ a b room w. (keeps_sound _ _ c.requires.0 _ c.is_chosen-hears.ensures _ c.standing_at.ensures (lent c.args.palette.now a b c.args.place.now room w) allowance c.requires.1 _ c.in-Opcode.is _ c.is_heard.ensures c.if-is_heard.true).0; by_index_2 = λ a b room w. (keeps_sound _ _ c.requires.0 _ c.is_chosen-hears.ensures _ c.standing_at.ensures (lent c.args.palette.now a b c.args.place.now room w) allowance c.requires.1 _ c.in-Opcode.is _ c.is_heard.ensures c.if-is_heard.true).1 }
+pub store_opcode-requires-clause-ready : goal.store_opcode-requires-clause-ready
+store_opcode-requires-clause-ready c = early_ready _ c.args.st _ c.standing_at.result _ c.requires.0 c.is_chosen-hears.ensures c.standing_at.ensures (cc)
 
-pub store_opcode-requires : goal.store_opcode-requires
-store_opcode-requires c = record { ready = early_ready _ c.args.st _ _ _ c.requires.0 c.is_chosen-hears.ensures c.standing_at.ensures c.in-Opcode.is; columns_value = c.requires.0.unsized }
+pub returns-then-not-is_heard : goal.returns-then-not-is_heard
+returns-then-not-is_heard c = record { by_index = λ a b room w. (leaves_opcode _ _ c.requires.0 _ c.is_chosen-hears.ensures c.standing_at.result c.standing_at.ensures (lent c.args.palette.now a b c.args.place.now room w) allowance c.requires.1 c.in-Ok-Opcode.o (cc) _ c.is_heard.ensures c.if-not-is_heard.true _ _ (c.store_opcode.ensures.by_index a b room w) (c.store_opcode.ensures.by_index_2 a b room w)).0; by_index_2 = λ a b room w. (leaves_opcode _ _ c.requires.0 _ c.is_chosen-hears.ensures c.standing_at.result c.standing_at.ensures (lent c.args.palette.now a b c.args.place.now room w) allowance c.requires.1 c.in-Ok-Opcode.o (cc) _ c.is_heard.ensures c.if-not-is_heard.true _ _ (c.store_opcode.ensures.by_index a b room w) (c.store_opcode.ensures.by_index_2 a b room w)).1 }
 
-pub returns-in-Refused : goal.returns-in-Refused
-returns-in-Refused c = record { by_index = λ a b room w. (keeps_refused _ _ c.requires.0 _ c.is_chosen-hears.ensures _ c.standing_at.ensures (lent c.args.palette.now a b c.args.place.now room w) allowance c.requires.1 _ c.in-Refused.is).0; by_index_2 = λ a b room w. (keeps_refused _ _ c.requires.0 _ c.is_chosen-hears.ensures _ c.standing_at.ensures (lent c.args.palette.now a b c.args.place.now room w) allowance c.requires.1 _ c.in-Refused.is).1 }
+pub returns-else-not-is_heard : goal.returns-else-not-is_heard
+returns-else-not-is_heard c = record { by_index = λ a b room w. (keeps_sound _ _ c.requires.0 _ c.is_chosen-hears.ensures c.standing_at.result c.standing_at.ensures (lent c.args.palette.now a b c.args.place.now room w) allowance c.requires.1 c.in-Ok-Opcode.o (cc) _ c.is_heard.ensures c.if-not-is_heard.false).0; by_index_2 = λ a b room w. (keeps_sound _ _ c.requires.0 _ c.is_chosen-hears.ensures c.standing_at.result c.standing_at.ensures (lent c.args.palette.now a b c.args.place.now room w) allowance c.requires.1 c.in-Ok-Opcode.o (cc) _ c.is_heard.ensures c.if-not-is_heard.false).1 }
 
-pub returns-in-Ended : goal.returns-in-Ended
-returns-in-Ended c = record { by_index = λ a b room w. (keeps_ended _ _ c.requires.0 _ c.is_chosen-hears.ensures _ c.standing_at.ensures (lent c.args.palette.now a b c.args.place.now room w) allowance c.requires.1 c.in-Ended.is).0; by_index_2 = λ a b room w. (keeps_ended _ _ c.requires.0 _ c.is_chosen-hears.ensures _ c.standing_at.ensures (lent c.args.palette.now a b c.args.place.now room w) allowance c.requires.1 c.in-Ended.is).1 }
+pub returns-in-Err : goal.returns-in-Err
+returns-in-Err c = record { by_index = λ a b room w. (keeps_refused _ _ c.requires.0 _ c.is_chosen-hears.ensures c.standing_at.result c.standing_at.ensures (lent c.args.palette.now a b c.args.place.now room w) allowance c.requires.1 _ c.in-Err.is).0; by_index_2 = λ a b room w. (keeps_refused _ _ c.requires.0 _ c.is_chosen-hears.ensures c.standing_at.result c.standing_at.ensures (lent c.args.palette.now a b c.args.place.now room w) allowance c.requires.1 _ c.in-Err.is).1 }
 
-pub returns-in-Chunk : goal.returns-in-Chunk
-returns-in-Chunk c = record { by_index = λ a b room w. (keeps_chunk _ _ c.requires.0 _ c.is_chosen-hears.ensures _ c.standing_at.ensures (lent c.args.palette.now a b c.args.place.now room w) allowance c.requires.1 _ c.in-Chunk.is).0; by_index_2 = λ a b room w. (keeps_chunk _ _ c.requires.0 _ c.is_chosen-hears.ensures _ c.standing_at.ensures (lent c.args.palette.now a b c.args.place.now room w) allowance c.requires.1 _ c.in-Chunk.is).1 }
+pub returns-in-Ok-Ended : goal.returns-in-Ok-Ended
+returns-in-Ok-Ended c = record { by_index = λ a b room w. (keeps_ended _ _ c.requires.0 _ c.is_chosen-hears.ensures c.standing_at.result c.standing_at.ensures (lent c.args.palette.now a b c.args.place.now room w) allowance c.requires.1 (cc)).0; by_index_2 = λ a b room w. (keeps_ended _ _ c.requires.0 _ c.is_chosen-hears.ensures c.standing_at.result c.standing_at.ensures (lent c.args.palette.now a b c.args.place.now room w) allowance c.requires.1 (cc)).1 }
 
-pub returns-else-is_heard : goal.returns-else-is_heard
-returns-else-is_heard c = record { by_index = λ a b room w. (leaves_opcode _ _ c.requires.0 _ c.is_chosen-hears.ensures _ c.standing_at.ensures (lent c.args.palette.now a b c.args.place.now room w) allowance c.requires.1 _ c.in-Opcode.is _ c.is_heard.ensures c.if-is_heard.false _ _ (c.store_opcode.ensures.by_index a b room w) (c.store_opcode.ensures.by_index_2 a b room w)).0; by_index_2 = λ a b room w. (leaves_opcode _ _ c.requires.0 _ c.is_chosen-hears.ensures _ c.standing_at.ensures (lent c.args.palette.now a b c.args.place.now room w) allowance c.requires.1 _ c.in-Opcode.is _ c.is_heard.ensures c.if-is_heard.false _ _ (c.store_opcode.ensures.by_index a b room w) (c.store_opcode.ensures.by_index_2 a b room w)).1 }
+pub returns-in-Ok-Chunk : goal.returns-in-Ok-Chunk
+returns-in-Ok-Chunk c = record { by_index = λ a b room w. (keeps_chunk _ _ c.requires.0 _ c.is_chosen-hears.ensures c.standing_at.result c.standing_at.ensures (lent c.args.palette.now a b c.args.place.now room w) allowance c.requires.1 _ (c.in-Ok-Chunk.is ∙ ap Ok c.in-Ok-Chunk.field-0-is)).0; by_index_2 = λ a b room w. (keeps_chunk _ _ c.requires.0 _ c.is_chosen-hears.ensures c.standing_at.result c.standing_at.ensures (lent c.args.palette.now a b c.args.place.now room w) allowance c.requires.1 _ (c.in-Ok-Chunk.is ∙ ap Ok c.in-Ok-Chunk.field-0-is)).1 }

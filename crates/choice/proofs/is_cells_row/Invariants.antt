@@ -1,11 +1,7 @@
-use Prim.Native.Nat.{◌+◌, ◌-◌, ◌*◌, ◌/◌, ◌^◌}
-use lib.ListN.{get_or}
-use Rattle.choice.specs.Asked.{beside}
+use Prim.Native.Nat.{◌*◌, ◌/◌, ◌^◌}
+use Rattle.choice.specs.Asked.{byte_at}
 use Rattle.choice.proofs.First.{Alike}
 use Rattle.choice.proofs.is_cells_row.Given as goal
 
 abbrev pub invariant-loop-j : goal.invariant-loop-j
-invariant-loop-j l = Alike (beside l.a l.from) (λ i. get_or l.a (l.top + i / 2 ^ l.e * l.side) 0) l.j
-
-abbrev pub decreases-loop-j : goal.decreases-loop-j
-decreases-loop-j l = 8 - l.j
+invariant-loop-j l = Alike (byte_at l.row) (λ i. byte_at l.top (i / 2 ^ l.e * l.side)) l.j

@@ -1,17 +1,9 @@
-use mathlib.Core.Path.{refl, sym, ap, ◌∙◌}
-use native.Mathlib.Omega.{arith}
-use Rattle.choice.specs.Choice.{pixel_at, length_by}
-use Rattle.encode.proofs.Parts.{cells_0, is_coarse, is_fine, is_plain, coarse_put, fine_put}
+use Rattle.choice.specs.Asked.{pixels_of}
+use Rattle.encode.proofs.Parts.{coarse_put, fine_put}
 use Rattle.encode.proofs.put_part.Goals as goal
 
-pub put_pair-requires-else-length_of-eq4 : goal.put_pair-requires-else-length_of-eq4
-put_pair-requires-else-length_of-eq4 c = (c.requires.0, cells_0, refl, omega (arith, c.requires.1, ap length_by (is_fine c.args.way (sym c.code_of.ensures ∙ c.if-code_of-eq7.true) (λ e. c.if-length_of-eq4.false (c.length_of.ensures ∙ e)))))
+pub returns-in-Coarse : goal.returns-in-Coarse
+returns-in-Coarse c = coarse_put (pixels_of c.args.s.now) _ _ c.pair_of-low.ensures.0 c.pair_of-low.ensures.1 c.args.way _ _ c.in-Coarse.is c.put_pair.ensures
 
-pub put_plain-requires : goal.put_plain-requires
-put_plain-requires c = (is_plain c.args.way (λ e. c.if-code_of-eq7.false (c.code_of.ensures ∙ e)), c.requires.0, c.requires.1)
-
-pub returns-then-length_of-eq4 : goal.returns-then-length_of-eq4
-returns-then-length_of-eq4 c = coarse_put (pixel_at c.args.a.now c.args.w c.args.x c.args.y) _ _ _ _ c.pixel-z.ensures c.other_colour-o.ensures c.lower_of-low.ensures c.higher_of-high.ensures c.args.way _ _ (is_coarse c.args.way (sym c.code_of.ensures ∙ c.if-code_of-eq7.true) (sym c.length_of.ensures ∙ c.if-length_of-eq4.true)) c.put_pair.ensures
-
-pub returns-else-length_of-eq4 : goal.returns-else-length_of-eq4
-returns-else-length_of-eq4 c = fine_put (pixel_at c.args.a.now c.args.w c.args.x c.args.y) _ _ _ _ c.pixel-z.ensures c.other_colour-o.ensures c.lower_of-low.ensures c.higher_of-high.ensures c.args.way _ _ (is_fine c.args.way (sym c.code_of.ensures ∙ c.if-code_of-eq7.true) (λ e. c.if-length_of-eq4.false (c.length_of.ensures ∙ e))) c.put_pair-else-length_of-eq4.ensures
+pub returns-in-Fine : goal.returns-in-Fine
+returns-in-Fine c = fine_put (pixels_of c.args.s.now) _ _ c.pair_of-low-in-Fine.ensures.0 c.pair_of-low-in-Fine.ensures.1 c.args.way _ _ c.in-Fine.is c.put_pair-in-Fine.ensures

@@ -3,11 +3,11 @@ use Rattle.mve_states.proofs.States.{readable}
 use Rattle.mve.proofs.Films.{words_told, unread_words}
 use Rattle.mve.proofs.mve_shown_words.Goals as goal
 
-pub state_of-st-requires : goal.state_of-st-requires
-state_of-st-requires c = record { from_len = (readable _ _ c.is_state.ensures c.if-is_state.true).0; from_bound = (readable _ _ c.is_state.ensures c.if-is_state.true).1 }
+pub state_of-requires : goal.state_of-requires
+state_of-requires c = record { from_len = (readable _ _ c.is_state.ensures c.if-is_state.true).0; from_bound = (readable _ _ c.is_state.ensures c.if-is_state.true).1 }
 
 pub returns-then-is_state : goal.returns-then-is_state
-returns-then-is_state c = words_told _ _ _ _ _ c.shown_words-s.result.now (sym c.is_state.ensures ∙ c.if-is_state.true) c.state_of-st.ensures c.shown_words-s.ensures
+returns-then-is_state c = words_told _ _ _ _ _ c.shown_words.result.now (sym c.is_state.ensures ∙ c.if-is_state.true) c.state_of.ensures c.shown_words.ensures
 
-pub returns : goal.returns
-returns c = unread_words _ _ _ _ (sym c.is_state.ensures ∙ c.if-is_state.false)
+pub returns-else-is_state : goal.returns-else-is_state
+returns-else-is_state c = unread_words _ _ _ _ (sym c.is_state.ensures ∙ c.if-is_state.false)

@@ -14,7 +14,7 @@ pub put_step-requires : goal.put_step-requires
 put_step-requires c = record { in_bounds = c.if-out-lt-ANSWER.false; from_len = (readable _ _ c.is_state.ensures c.if-is_state.true).0 }
 
 pub returns-then-is_state : goal.returns-then-is_state
-returns-then-is_state c = step_told _ _ _ c.if-out-lt-ANSWER.false _ _ _ _ _ _ _ (stepped_as c.step_within-x.result) _ (sym c.is_state.ensures ∙ c.if-is_state.true) c.state_of-st.ensures c.spare_of-spare.ensures c.step_within-x.ensures (c.put_step.ensures.value, c.put_step.ensures.out_after)
+returns-then-is_state c = step_told _ _ _ c.if-out-lt-ANSWER.false _ _ _ _ _ _ _ (stepped_as c.step-x.result) _ (sym c.is_state.ensures ∙ c.if-is_state.true) c.state_of-st.ensures c.spare_of.ensures c.step-x.ensures (c.put_step.ensures.value, c.put_step.ensures.out_after)
 
-pub returns : goal.returns
-returns c = unread_told _ _ _ c.if-out-lt-ANSWER.false _ _ _ _ _ (sym c.is_state.ensures ∙ c.if-is_state.false) (c.put_unread.ensures.value, c.put_unread.ensures.out_after)
+pub returns-else-is_state : goal.returns-else-is_state
+returns-else-is_state c = unread_told _ _ _ c.if-out-lt-ANSWER.false _ _ _ _ _ (sym c.is_state.ensures ∙ c.if-is_state.false) (c.put_unread.ensures.value, c.put_unread.ensures.out_after)

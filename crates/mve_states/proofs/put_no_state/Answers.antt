@@ -1,31 +1,10 @@
-use mathlib.Core.Path.{refl}
-use native.Mathlib.Omega.{arith}
-use Rattle.mve_states.proofs.States.{copying_start, copying_length, copying_more, copying_end, zeros_count, zero_of}
+use Rattle.std.proofs.Common.{◌≡◌, ℕ, length, take, drop, replicate, ap, ◌∙◌, arith, length-take, length-drop}
+use Rattle.mve_states.specs.State.{no_state}
+use Rattle.mve_states.proofs.States.{over, zeros_count}
 use Rattle.mve_states.proofs.put_no_state.Goals as goal
 
-pub loop-i-init : goal.loop-i-init
-loop-i-init c = copying_start _ _
-
-pub overflow_add-out : goal.overflow_add-out
-overflow_add-out c = omega arith
-
-pub offset_bounds-out-i : goal.offset_bounds-out-i
-offset_bounds-out-i c = omega arith
-
-pub bounds-out-i : goal.bounds-out-i
-bounds-out-i c = omega (arith, copying_length _ _ c.requires zeros_count _ _ c.loop-i.invariant)
-
-pub overflow_add-i : goal.overflow_add-i
-overflow_add-i c = omega arith
-
-pub loop-i-smaller : goal.loop-i-smaller
-loop-i-smaller c = omega arith
-
-pub loop-i-preserved : goal.loop-i-preserved
-loop-i-preserved c = copying_more _ _ c.requires zeros_count _ _ c.loop-i.invariant c.loop-i-test.true _ _ (zero_of _ c.loop-i-test.true) refl
-
-pub shape_of-out : goal.shape_of-out
-shape_of-out c = copying_length _ _ c.requires zeros_count _ _ c.loop-i.invariant
-
 pub returns : goal.returns
-returns c = copying_end _ _ c.requires zeros_count _ _ c.loop-i.invariant c.loop-i-test.false
+returns c =
+    let part = take 18 (drop 8 c.args.out.now) in
+    let n : length part ≡ 18 = omega (arith, length-take 18 (drop 8 c.args.out.now), length-drop 8 c.args.out.now) in
+    over 8 18 c.args.out.now _ no_state c.requires (c.fill.ensures.after (λ y e. e) ∙ ap (λ (m : ℕ). replicate m 0) n) zeros_count

@@ -1,9 +1,6 @@
-use Prim.Native.Nat.{◌-◌}
-use Rattle.mve_states.proofs.States.{Copying}
+use Rattle.std.proofs.Common.{◌≡◌}
+use lib.Seq.{paste}
 use Rattle.mve_states.proofs.put_numbers.Given as goal
 
 abbrev pub invariant-loop-i : goal.invariant-loop-i
-invariant-loop-i l = Copying l.initial.out l.from l.out l.i
-
-abbrev pub decreases-loop-i : goal.decreases-loop-i
-decreases-loop-i l = 18 - l.i
+invariant-loop-i l = l.out ≡ paste l.initial.out 8 l.from l.i

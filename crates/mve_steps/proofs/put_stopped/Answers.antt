@@ -1,6 +1,6 @@
 use Rattle.mve_answers.specs.Answer.{of_rows}
 use Rattle.refusal.specs.Number.{number, block}
-use Rattle.packet.specs.declared.Touched.TheVariants.{None}
+use Rattle.std.specs.Prelude.{None}
 use Rattle.mve_states.specs.State.{of_state}
 use Rattle.mve_steps.proofs.Steps.{state_put}
 use mathlib.Core.Path.{refl}

@@ -1,12 +1,11 @@
-use mathlib.Core.Path.{sym, ◌∙◌}
-use Rattle.opening.proofs.Header.{opens_short, opens, opens_not}
+use Rattle.opening.specs.Opening.{header}
+use Rattle.opening.proofs.Header.{opens_with, opens_without}
 use Rattle.opening.proofs.open.Goals as goal
 
-pub returns-then-film-lt26 : goal.returns-then-film-lt26
-returns-then-film-lt26 c = opens_short c.args.film.now _ c.if-film-lt26.true
-
-pub returns-then-has_header : goal.returns-then-has_header
-returns-then-has_header c = opens c.args.film.now _ _ c.if-film-lt26.false (sym c.has_header.ensures ∙ c.if-has_header.true) c.new-sound.ensures
+pub returns-then-not-starts_with : goal.returns-then-not-starts_with
+unfolding header
+returns-then-not-starts_with c = opens_without c.args.film.now _ _ c.starts_with.ensures.value c.if-not-starts_with.true
 
 pub returns : goal.returns
-returns c = opens_not c.args.film.now _ c.if-film-lt26.false (sym c.has_header.ensures ∙ c.if-has_header.false)
+unfolding header
+returns c = opens_with c.args.film.now _ _ c.starts_with.ensures.value _ c.if-not-starts_with.false c.new.ensures

@@ -6,23 +6,23 @@ use Rattle.draw.proofs.Judged.{judged_6, judged_8, judged_8_back}
 use Rattle.origin.proofs.Answers.{as_checked}
 use Rattle.origin.proofs.inspect.Goals as goal
 
+pub returns-then-not-is_legal_size : goal.returns-then-not-is_legal_size
+returns-then-not-is_legal_size c = finds_refused _ _ _ _ (judged_6 _ _ _ _ _ _ _ _ _ _ (sym c.is_legal_size.ensures ∙ c.if-not-is_legal_size.true))
+
 pub overflow_mul-pixels : goal.overflow_mul-pixels
-overflow_mul-pixels c = omega (arith, size_is _ _ (sym c.is_legal_size.ensures ∙ c.if-is_legal_size.true))
+overflow_mul-pixels c = omega (arith, size_is _ _ (sym c.is_legal_size.ensures ∙ c.if-not-is_legal_size.false))
 
-pub overflow_mul-pixels-then-is_legal_size : goal.overflow_mul-pixels-then-is_legal_size
-overflow_mul-pixels-then-is_legal_size c = omega (arith, size_is _ _ (sym c.is_legal_size.ensures ∙ c.if-is_legal_size.true))
+pub overflow_mul-pixels-2 : goal.overflow_mul-pixels-2
+overflow_mul-pixels-2 c = omega (arith, size_is _ _ (sym c.is_legal_size.ensures ∙ c.if-not-is_legal_size.false))
 
-pub overflow_mul-pixels-then-is_legal_size-2 : goal.overflow_mul-pixels-then-is_legal_size-2
-overflow_mul-pixels-then-is_legal_size-2 c = omega (arith, pixels_few _ _ (sym c.is_legal_size.ensures ∙ c.if-is_legal_size.true))
+pub overflow_mul-pixels-3 : goal.overflow_mul-pixels-3
+overflow_mul-pixels-3 c = omega (arith, pixels_few _ _ (sym c.is_legal_size.ensures ∙ c.if-not-is_legal_size.false))
 
 pub returns-then-front-pixels : goal.returns-then-front-pixels
-returns-then-front-pixels c = finds_refused _ _ _ _ (judged_8 _ _ _ _ _ _ _ _ _ _ (sym c.is_legal_size.ensures ∙ c.if-is_legal_size.true) c.if-front-pixels.true)
+returns-then-front-pixels c = finds_refused _ _ _ _ (judged_8 _ _ _ _ _ _ _ _ _ _ (sym c.is_legal_size.ensures ∙ c.if-not-is_legal_size.false) c.if-front-pixels.true)
 
 pub returns-then-back-pixels : goal.returns-then-back-pixels
-returns-then-back-pixels c = finds_refused _ _ _ _ (judged_8_back _ _ _ _ _ _ _ _ _ _ (sym c.is_legal_size.ensures ∙ c.if-is_legal_size.true) c.if-front-pixels.false refl c.if-back-pixels.true)
-
-pub returns-then-is_legal_size : goal.returns-then-is_legal_size
-returns-then-is_legal_size c = finds_by _ _ _ _ (as_checked _ _ _ _ _ _ (sym c.is_legal_size.ensures ∙ c.if-is_legal_size.true) c.if-front-pixels.false c.if-back-pixels.false) c.check.ensures
+returns-then-back-pixels c = finds_refused _ _ _ _ (judged_8_back _ _ _ _ _ _ _ _ _ _ (sym c.is_legal_size.ensures ∙ c.if-not-is_legal_size.false) c.if-front-pixels.false refl c.if-back-pixels.true)
 
 pub returns : goal.returns
-returns c = finds_refused _ _ _ _ (judged_6 _ _ _ _ _ _ _ _ _ _ (sym c.is_legal_size.ensures ∙ c.if-is_legal_size.false))
+returns c = finds_by _ _ _ _ (as_checked _ _ _ _ _ _ (sym c.is_legal_size.ensures ∙ c.if-not-is_legal_size.false) c.if-front-pixels.false c.if-back-pixels.false) c.check.ensures

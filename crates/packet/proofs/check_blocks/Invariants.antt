@@ -6,6 +6,3 @@ use Rattle.packet.proofs.check_blocks.Given as goal
 
 abbrev pub invariant-loop-k : goal.invariant-loop-k
 invariant-loop-k l = Ends (packet l.columns l.rows l.map l.data) l.first l.past × (l.right ≤ 8 * l.columns) × Walked l.spare (packet l.columns l.rows l.map l.data) l.k l.at 0 (8 * l.columns - l.right) l.y
-
-abbrev pub decreases-loop-k : goal.decreases-loop-k
-decreases-loop-k l = l.past - l.k

@@ -1,4 +1,4 @@
-use Prim.Native.Nat.{◌≤◌, ◌*◌, ◌-◌}
+use Prim.Native.Nat.{◌≤◌, ◌*◌}
 use mathlib.Core.Path.{◌≡◌}
 use mathlib.Core.Bool.{false}
 use mathlib.Core.List.{[]}
@@ -6,7 +6,4 @@ use Rattle.packet.specs.Packet.{start_of}
 use Rattle.packet.proofs.data_position.Given as goal
 
 abbrev pub invariant-loop-i : goal.invariant-loop-i
-invariant-loop-i l = (l.i ≤ l.k) × (l.at ≡ (start_of false l.map l.data [] l.i).bytes) × (l.at ≤ 128 * l.i)
-
-abbrev pub decreases-loop-i : goal.decreases-loop-i
-decreases-loop-i l = l.k - l.i
+invariant-loop-i l = (l.at ≡ (start_of false l.map l.data [] l.i).bytes) × (l.at ≤ 128 * l.i)

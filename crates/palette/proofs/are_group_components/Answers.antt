@@ -22,17 +22,13 @@ overflow_sub-end c = omega (arith, end_is c.args.body.now c.loop-k.at, c.group_e
 pub are_components-requires : goal.are_components-requires
 are_components-requires c = omega (arith, end_is c.args.body.now c.loop-k.at, c.group_end-end.ensures, walked_there _ _ _ c.loop-k.invariant.0 c.requires c.loop-k-test.true)
 
-pub overflow_add-k : goal.overflow_add-k
-overflow_add-k c = omega (arith, c.loop-k-test.true)
-
-pub loop-k-smaller : goal.loop-k-smaller
-loop-k-smaller c = omega (arith, c.loop-k-test.true)
-
 pub loop-k-preserved : goal.loop-k-preserved
-loop-k-preserved c = (walked_more _ _ _ c.loop-k.invariant.0 c.loop-k-test.true _ c.group_end-end.ensures, judging_more _ _ _ c.loop-k.invariant.1 c.loop-k-test.true (sym (c.are_components.ensures ∙ group_legal _ _ _ _ c.loop-k.invariant.0 c.group_end-end.ensures) ∙ c.if-are_components.true))
+loop-k-preserved c =
+    (walked_more _ _ _ c.loop-k.invariant.0 c.loop-k-test.true _ c.group_end-end.ensures, judging_more _ _ _ c.loop-k.invariant.1 c.loop-k-test.true (sym (c.are_components.ensures ∙ group_legal _ _ _ _ c.loop-k.invariant.0 c.group_end-end.ensures) ∙ c.if-not-are_components.false))
 
-pub returns-else-are_components : goal.returns-else-are_components
-returns-else-are_components c = judging_not _ _ _ c.loop-k.invariant.1 c.loop-k-test.true (sym (c.are_components.ensures ∙ group_legal _ _ _ _ c.loop-k.invariant.0 c.group_end-end.ensures) ∙ c.if-are_components.false)
+pub returns-then-not-are_components : goal.returns-then-not-are_components
+returns-then-not-are_components c =
+    judging_not _ _ _ c.loop-k.invariant.1 c.loop-k-test.true (sym (c.are_components.ensures ∙ group_legal _ _ _ _ c.loop-k.invariant.0 c.group_end-end.ensures) ∙ c.if-not-are_components.true)
 
 pub returns : goal.returns
 returns c = judging_end _ _ _ c.loop-k.invariant.1 c.loop-k-test.false

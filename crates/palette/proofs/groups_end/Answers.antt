@@ -1,5 +1,5 @@
-use native.Mathlib.Omega.{arith}
 use Rattle.palette.proofs.Groups.{walked_start, walked_small, walked_more, walked_end}
+use native.Mathlib.Omega.{arith}
 use Rattle.palette.proofs.groups_end.Goals as goal
 
 pub loop-k-init : goal.loop-k-init
@@ -7,12 +7,6 @@ loop-k-init c = walked_start _
 
 pub group_end-at-requires : goal.group_end-at-requires
 group_end-at-requires c = omega (arith, walked_small _ _ _ c.loop-k.invariant)
-
-pub overflow_add-k : goal.overflow_add-k
-overflow_add-k c = omega arith
-
-pub loop-k-smaller : goal.loop-k-smaller
-loop-k-smaller c = omega arith
 
 pub loop-k-preserved : goal.loop-k-preserved
 loop-k-preserved c = walked_more _ _ _ c.loop-k.invariant c.loop-k-test.true _ c.group_end-at.ensures

@@ -12,10 +12,12 @@ pub returns-then-body-count : goal.returns-then-body-count
 returns-then-body-count c = wrong_length _ _ c.if-n-ne768.false _ _ c.word_at-start.ensures.0 c.word_at-count.ensures.0 (λ e. omega (arith, c.if-body-count.true))
 
 pub returns-then-start-count-gt256 : goal.returns-then-start-count-gt256
-returns-then-start-count-gt256 c = past_the_last _ _ c.if-n-ne768.false _ _ c.word_at-start.ensures.0 c.word_at-count.ensures.0 (omega (arith, c.if-body-count.false)) (omega (arith, c.if-start-count-gt256.true))
+returns-then-start-count-gt256 c = past_the_last _ _ c.if-n-ne768.false _ _ c.word_at-start.ensures.0 c.word_at-count.ensures.0 c.if-body-count.false c.if-start-count-gt256.true
 
-pub returns-then-are_components : goal.returns-then-are_components
-returns-then-are_components c = takes_entries _ _ c.if-n-ne768.false _ _ c.word_at-start.ensures.0 c.word_at-count.ensures.0 (omega (arith, c.if-body-count.false)) (omega (arith, c.if-start-count-gt256.false)) (sym c.are_components.ensures ∙ c.if-are_components.true)
+pub returns-then-not-are_components : goal.returns-then-not-are_components
+returns-then-not-are_components c =
+    too_large _ _ c.if-n-ne768.false _ _ c.word_at-start.ensures.0 c.word_at-count.ensures.0 c.if-body-count.false c.if-start-count-gt256.false (sym c.are_components.ensures ∙ c.if-not-are_components.true)
 
 pub returns : goal.returns
-returns c = too_large _ _ c.if-n-ne768.false _ _ c.word_at-start.ensures.0 c.word_at-count.ensures.0 (omega (arith, c.if-body-count.false)) (omega (arith, c.if-start-count-gt256.false)) (sym c.are_components.ensures ∙ c.if-are_components.false)
+returns c =
+    takes_entries _ _ c.if-n-ne768.false _ _ c.word_at-start.ensures.0 c.word_at-count.ensures.0 c.if-body-count.false c.if-start-count-gt256.false (sym c.are_components.ensures ∙ c.if-not-are_components.false)

@@ -10,8 +10,10 @@ returns-then-n-ne768 c = refuses_8 _ _ c.if-n-ne768.true
 pub returns-then-groups_end-body : goal.returns-then-groups_end-body
 returns-then-groups_end-body c = refuses_5 _ _ c.if-n-ne768.false (ne_eqb _ _ (λ e. c.if-groups_end-body.true (c.groups_end.ensures ∙ e)))
 
-pub returns-then-are_group_components : goal.returns-then-are_group_components
-returns-then-are_group_components c = accepts _ _ c.if-n-ne768.false (eq-eqb _ _ (sym c.groups_end.ensures ∙ c.if-groups_end-body.false)) refl (sym c.are_group_components.ensures ∙ c.if-are_group_components.true)
+pub returns-then-not-are_group_components : goal.returns-then-not-are_group_components
+returns-then-not-are_group_components c =
+    refuses_component _ _ c.if-n-ne768.false (eq-eqb _ _ (sym c.groups_end.ensures ∙ c.if-groups_end-body.false)) refl (sym c.are_group_components.ensures ∙ c.if-not-are_group_components.true)
 
 pub returns : goal.returns
-returns c = refuses_component _ _ c.if-n-ne768.false (eq-eqb _ _ (sym c.groups_end.ensures ∙ c.if-groups_end-body.false)) refl (sym c.are_group_components.ensures ∙ c.if-are_group_components.false)
+returns c =
+    accepts _ _ c.if-n-ne768.false (eq-eqb _ _ (sym c.groups_end.ensures ∙ c.if-groups_end-body.false)) refl (sym c.are_group_components.ensures ∙ c.if-not-are_group_components.false)

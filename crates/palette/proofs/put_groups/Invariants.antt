@@ -9,7 +9,4 @@ use Rattle.palette.specs.Mask.{group_stores}
 use Rattle.palette.proofs.put_groups.Given as goal
 
 abbrev pub invariant-loop-k : goal.invariant-loop-k
-invariant-loop-k l = Walked l.body l.k l.at × Allowing (group_stores l.body) l.initial.palette (l.allowed - 0) 32 l.palette l.k × (l.before ≡ 0 + length (each (group_stores l.body) l.k))
-
-abbrev pub decreases-loop-k : goal.decreases-loop-k
-decreases-loop-k l = 32 - l.k
+invariant-loop-k g l = Walked l.body l.k l.at × Allowing (group_stores l.body) l.initial.palette (l.allowed - 0) 32 l.palette l.k × (l.before ≡ 0 + length (each (group_stores l.body) l.k))

@@ -1,13 +1,15 @@
 -- Judged whole before the first store: what is taken fits. Each way out is a law of `Outcome`.
-use borrow.Author.Tests.{eqb-true}
-use Rattle.palette.proofs.Outcome.{keeps, stores_some, taken_on}
+use Rattle.std.proofs.lemmas.Result.{err_from_is_err_and}
+use Rattle.palette.proofs.Outcome.{keeps, stores_some}
 use Rattle.palette.proofs.set_palette_compressed.Goals as goal
 
-pub put_groups-due-requires : goal.put_groups-due-requires
-put_groups-due-requires c = let q = taken_on _ _ _ c.judge_groups.ensures c.in-Taken.is in (eqb-true _ _ q.1.exact, q.0)
+pub returns-in_err-judge_groups : goal.returns-in_err-judge_groups
+returns-in_err-judge_groups c =
+    let o = keeps _ c.args.allowed _ _ c.in_err-judge_groups.ensures in
+    let p = err_from_is_err_and c.from_residual.result c.from_residual.ensures.1 in
+    record { result_value = rw (p.1, p.2) o.0; palette_after = o.1 }
 
-pub returns-in-Taken : goal.returns-in-Taken
-returns-in-Taken c = record { result_value = (stores_some _ _ _ _ c.judge_groups.ensures c.in-Taken.is _ c.put_groups-due.ensures.palette_after _ c.put_groups-due.ensures.value _ c.changed_of.ensures).0; palette_after = (stores_some _ _ _ _ c.judge_groups.ensures c.in-Taken.is _ c.put_groups-due.ensures.palette_after _ c.put_groups-due.ensures.value _ c.changed_of.ensures).1 }
-
-pub returns-in-Refused : goal.returns-in-Refused
-returns-in-Refused c = record { result_value = (keeps _ _ _ _ c.judge_groups.ensures _ c.in-Refused.is).0; palette_after = (keeps _ _ _ _ c.judge_groups.ensures _ c.in-Refused.is).1 }
+pub returns : goal.returns
+returns c =
+    let o = stores_some _ _ _ c.in_ok-judge_groups.ensures _ c.put_groups-due.ensures.palette_after _ c.put_groups-due.ensures.value _ c.changed_of.ensures in
+    record { result_value = o.0; palette_after = o.1 }

@@ -1,18 +1,10 @@
 use mathlib.Core.Path.{refl}
-use Prim.Native.Nat.{zero-le}
 use native.Mathlib.Omega.{arith}
 use Rattle.block.specs.declared.Picture.TheVariants.{Last, New, Oldest}
 use Rattle.block.specs.Block.{one, two, four, eight}
-use Rattle.words.proofs.Tests.{beyond}
-use Rattle.block.proofs.Codes.{kind_0, kind_2, kind_3, kind_4, kind_5, kind_7, kind_8, kind_9, kind_A, kind_B, kind_C, kind_D, kind_E}
-use Rattle.pixel.proofs.Sources.{copied_asked, copied_code, form_asked, as_code, as_source, cell_few, same_source, oldest_source, copied_source, form_source_is, cell_source_is}
+use Rattle.block.proofs.Codes.{kind_0, kind_2, kind_3, kind_7, kind_8, kind_9, kind_A, kind_B, kind_C, kind_D, kind_E}
+use Rattle.pixel.proofs.Sources.{copied_asked, copied_code, form_asked, cell_few, same_source, oldest_source, copied_source, last_source, form_source_is, cell_source_is}
 use Rattle.pixel.proofs.source_of.Goals as goal
-
-pub raster_index-requires : goal.raster_index-requires
-raster_index-requires c = c.requires.at
-
-pub raster_index-requires-in-1 : goal.raster_index-requires-in-1
-raster_index-requires-in-1 c = c.requires.at
 
 pub copied_index-requires : goal.copied_index-requires
 copied_index-requires c = copied_asked _ _ _ _ _ _ _ _ _ _ c.requires (omega (arith, c.in-2.is)) (copied_code c.args.deep _ (omega (arith, c.in-2.is))) c.copied_vector-v.ensures.0 c.copied_vector-v.ensures.1
@@ -21,13 +13,7 @@ pub copied_index-requires-in-3 : goal.copied_index-requires-in-3
 copied_index-requires-in-3 c = copied_asked _ _ _ _ _ _ _ _ _ _ c.requires (omega (arith, c.in-3.is)) (copied_code c.args.deep _ (omega (arith, c.in-3.is))) c.copied_vector-v-in-3.ensures.0 c.copied_vector-v-in-3.ensures.1
 
 pub copied_index-requires-in-4 : goal.copied_index-requires-in-4
-copied_index-requires-in-4 c = copied_asked _ _ _ _ _ _ _ _ _ _ c.requires (omega (arith, c.in-4.is)) (copied_code c.args.deep _ (omega (arith, c.in-4.is))) c.copied_vector-v-in-4.ensures.0 c.copied_vector-v-in-4.ensures.1
-
-pub copied_index-requires-in-5 : goal.copied_index-requires-in-5
-copied_index-requires-in-5 c = copied_asked _ _ _ _ _ _ _ _ _ _ c.requires (omega (arith, c.in-5.is)) (copied_code c.args.deep _ (omega (arith, c.in-5.is))) c.copied_vector-v-in-5.ensures.0 c.copied_vector-v-in-5.ensures.1
-
-pub source_of_6-requires : goal.source_of_6-requires
-source_of_6-requires c = as_code _ _ _ _ _ _ _ _ _ 6 c.in-6.is c.requires
+copied_index-requires-in-4 c = copied_asked _ _ _ _ _ _ _ _ _ _ c.requires (omega arith) (copied_code c.args.deep _ (omega arith)) c.copied_vector-v-in-4.ensures.0 c.copied_vector-v-in-4.ensures.1
 
 pub form_source-requires : goal.form_source-requires
 form_source-requires c = form_asked _ _ _ _ _ _ _ _ _ _ c.requires (kind_7 _ _ _ _ _ c.in-7.is c.form_of_7.ensures)
@@ -41,32 +27,17 @@ form_source-requires-in-9 c = form_asked _ _ _ _ _ _ _ _ _ _ c.requires (kind_9 
 pub form_source-requires-in-10 : goal.form_source-requires-in-10
 form_source-requires-in-10 c = form_asked _ _ _ _ _ _ _ _ _ _ c.requires (kind_A _ _ _ _ _ c.in-10.is c.form_of_a.ensures)
 
-pub cell_source-requires : goal.cell_source-requires
-cell_source-requires c = ((one, refl), omega (arith, c.requires.at.pixel))
-
 pub colour_start-requires : goal.colour_start-requires
 colour_start-requires c = cell_few _ _ _ (one, refl) (omega (arith, c.requires.at.pixel)) c.cell_source.ensures
-
-pub cell_source-requires-in-12 : goal.cell_source-requires-in-12
-cell_source-requires-in-12 c = ((two, refl), omega (arith, c.requires.at.pixel))
 
 pub colour_start-requires-in-12 : goal.colour_start-requires-in-12
 colour_start-requires-in-12 c = cell_few _ _ _ (two, refl) (omega (arith, c.requires.at.pixel)) c.cell_source-in-12.ensures
 
-pub cell_source-requires-in-13 : goal.cell_source-requires-in-13
-cell_source-requires-in-13 c = ((four, refl), omega (arith, c.requires.at.pixel))
-
 pub colour_start-requires-in-13 : goal.colour_start-requires-in-13
 colour_start-requires-in-13 c = cell_few _ _ _ (four, refl) (omega (arith, c.requires.at.pixel)) c.cell_source-in-13.ensures
 
-pub cell_source-requires-in-14 : goal.cell_source-requires-in-14
-cell_source-requires-in-14 c = ((eight, refl), omega (arith, c.requires.at.pixel))
-
 pub colour_start-requires-in-14 : goal.colour_start-requires-in-14
 colour_start-requires-in-14 c = cell_few _ _ _ (eight, refl) (omega (arith, c.requires.at.pixel)) c.cell_source-in-14.ensures
-
-pub source_of_f-requires : goal.source_of_f-requires
-source_of_f-requires c = c.requires.at
 
 pub returns-in-0 : goal.returns-in-0
 returns-in-0 c = same_source _ _ _ _ _ _ _ Last _ (kind_0 _ _ _ _ c.in-0.is) c.raster_index.ensures
@@ -81,13 +52,7 @@ pub returns-in-3 : goal.returns-in-3
 returns-in-3 c = copied_source _ _ _ _ _ _ _ New _ _ _ _ _ (kind_3 _ _ _ _ c.in-3.is) c.copied_vector-v-in-3.ensures.0 c.copied_index-in-3.ensures
 
 pub returns-in-4 : goal.returns-in-4
-returns-in-4 c = copied_source _ _ _ _ _ _ _ Last _ _ _ _ _ (kind_4 _ _ _ _ c.in-4.is) c.copied_vector-v-in-4.ensures.0 c.copied_index-in-4.ensures
-
-pub returns-in-5 : goal.returns-in-5
-returns-in-5 c = copied_source _ _ _ _ _ _ _ Last _ _ _ _ _ (kind_5 _ _ _ _ c.in-5.is) c.copied_vector-v-in-5.ensures.0 c.copied_index-in-5.ensures
-
-pub returns-in-6 : goal.returns-in-6
-returns-in-6 c = as_source _ _ _ _ _ _ _ _ 6 c.in-6.is c.source_of_6.ensures
+returns-in-4 c = last_source _ _ _ _ _ _ _ _ _ _ (omega arith) (omega arith) c.copied_vector-v-in-4.ensures.0 c.copied_index-in-4.ensures
 
 pub returns-in-7 : goal.returns-in-7
 returns-in-7 c = form_source_is _ _ _ _ _ _ _ _ _ (kind_7 _ _ _ _ _ c.in-7.is c.form_of_7.ensures) c.form_source.ensures
@@ -112,6 +77,3 @@ returns-in-13 c = cell_source_is _ _ _ _ _ _ _ _ _ four (kind_D _ _ _ _ c.in-13.
 
 pub returns-in-14 : goal.returns-in-14
 returns-in-14 c = cell_source_is _ _ _ _ _ _ _ _ _ eight (kind_E _ _ _ _ c.in-14.is) c.cell_source-in-14.ensures c.colour_start-in-14.ensures
-
-pub returns-in_default : goal.returns-in_default
-returns-in_default c = let l = (beyond 14 _ (beyond 13 _ (beyond 12 _ (beyond 11 _ (beyond 10 _ (beyond 9 _ (beyond 8 _ (beyond 7 _ (beyond 6 _ (beyond 5 _ (beyond 4 _ (beyond 3 _ (beyond 2 _ (beyond 1 _ (beyond 0 _ zero-le c.in_default.in_default-own.rest.0.0.0.0.0.0.0.0.0.0.0.0.0.0.1) c.in_default.in_default-own.rest.0.0.0.0.0.0.0.0.0.0.0.0.0.1) c.in_default.in_default-own.rest.0.0.0.0.0.0.0.0.0.0.0.0.1) c.in_default.in_default-own.rest.0.0.0.0.0.0.0.0.0.0.0.1) c.in_default.in_default-own.rest.0.0.0.0.0.0.0.0.0.0.1) c.in_default.in_default-own.rest.0.0.0.0.0.0.0.0.0.1) c.in_default.in_default-own.rest.0.0.0.0.0.0.0.0.1) c.in_default.in_default-own.rest.0.0.0.0.0.0.0.1) c.in_default.in_default-own.rest.0.0.0.0.0.0.1) c.in_default.in_default-own.rest.0.0.0.0.0.1) c.in_default.in_default-own.rest.0.0.0.0.1) c.in_default.in_default-own.rest.0.0.0.1) c.in_default.in_default-own.rest.0.0.1) c.in_default.in_default-own.rest.0.1) c.in_default.in_default-own.rest.1) in as_source _ _ _ _ _ _ _ _ 15 (omega (arith, l, c.requires.known)) (c.source_of_f.ensures _ _)

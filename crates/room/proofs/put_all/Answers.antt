@@ -1,6 +1,5 @@
 use mathlib.Core.Path.{refl}
-use native.Mathlib.Omega.{arith}
-use Rattle.listed.proofs.Making.{making_start, making_length}
+use Rattle.listed.proofs.Making.{making_start}
 use Rattle.room.proofs.Written.{next_byte, byte_put, all_put}
 use Rattle.room.proofs.put_all.Goals as goal
 
@@ -10,17 +9,8 @@ loop-i-init c = making_start _ _ _
 pub put_byte-requires : goal.put_byte-requires
 put_byte-requires c = record { i_in_bounds = c.loop-i-test.true; next_byte = next_byte _ _ c.requires _ refl _ _ c.loop-i.invariant c.loop-i-test.true _ refl }
 
-pub overflow_add-i : goal.overflow_add-i
-overflow_add-i c = omega arith
-
-pub loop-i-smaller : goal.loop-i-smaller
-loop-i-smaller c = omega arith
-
 pub loop-i-preserved : goal.loop-i-preserved
 loop-i-preserved c = byte_put _ _ c.requires _ refl _ _ c.loop-i.invariant c.loop-i-test.true _ _ refl c.put_byte.ensures
-
-pub shape_of-room : goal.shape_of-room
-shape_of-room c = making_length _ _ _ _ _ c.loop-i.invariant
 
 pub returns : goal.returns
 returns c = all_put _ _ c.requires _ refl _ _ c.loop-i.invariant c.loop-i-test.false

@@ -1,5 +1,5 @@
 use native.Mathlib.Omega.{arith}
-use Rattle.listed.proofs.Making.{making_start, making_length}
+use Rattle.listed.proofs.Making.{making_start}
 use Rattle.room.proofs.Written.{next_byte, byte_put, all_put, same_count, same_value}
 use Rattle.room.proofs.put_same.Goals as goal
 
@@ -9,17 +9,8 @@ loop-i-init c = making_start _ _ _
 pub put_value-requires : goal.put_value-requires
 put_value-requires c = next_byte _ _ (omega (arith, same_count c.args.n c.args.value, c.requires)) _ (same_count _ _) _ _ c.loop-i.invariant c.loop-i-test.true _ (same_value _ _ _ c.loop-i-test.true)
 
-pub overflow_add-i : goal.overflow_add-i
-overflow_add-i c = omega arith
-
-pub loop-i-smaller : goal.loop-i-smaller
-loop-i-smaller c = omega arith
-
 pub loop-i-preserved : goal.loop-i-preserved
 loop-i-preserved c = byte_put _ _ (omega (arith, same_count c.args.n c.args.value, c.requires)) _ (same_count _ _) _ _ c.loop-i.invariant c.loop-i-test.true _ _ (same_value _ _ _ c.loop-i-test.true) c.put_value.ensures
-
-pub shape_of-room : goal.shape_of-room
-shape_of-room c = making_length _ _ _ _ _ c.loop-i.invariant
 
 pub returns : goal.returns
 returns c = all_put _ _ (omega (arith, same_count c.args.n c.args.value, c.requires)) _ (same_count _ _) _ _ c.loop-i.invariant c.loop-i-test.false

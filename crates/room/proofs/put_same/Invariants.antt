@@ -1,5 +1,4 @@
 -- Turn i makes store i of the list: the loop keeps `Making`.
-use Prim.Native.Nat.{◌-◌}
 use lib.ListN.{replicate}
 use Rattle.listed.specs.Store.{byte, from}
 use Rattle.listed.proofs.Making.{Making}
@@ -7,6 +6,3 @@ use Rattle.room.proofs.put_same.Given as goal
 
 abbrev pub invariant-loop-i : goal.invariant-loop-i
 invariant-loop-i l = Making (byte 0 (from (replicate l.n l.value) 0)) l.initial.room l.n l.room l.i
-
-abbrev pub decreases-loop-i : goal.decreases-loop-i
-decreases-loop-i l = l.n - l.i

@@ -1,36 +1,22 @@
-use mathlib.Core.Path.{ap}
-use Prim.Native.Nat.{ℕ, ◌+◌}
+use mathlib.Core.Path.{refl}
+use Prim.Native.Nat.{ℕ, ◌+◌, ◌*◌}
 use native.Mathlib.Omega.{arith}
-use lib.ListN.{get_or}
-use Rattle.paint.specs.Value.{flat}
-use Rattle.paint.proofs.Painting.{square_inside}
-use Rattle.rows.proofs.Rows.{rows_start, rows_room, rows_begun, rows_more, rows_end, rows_length, row_below, row_low, square_kept, data_beside}
-use Rattle.rows.proofs.Colours.{raw_source}
+use Rattle.rows.specs.Row.{colour}
+use Rattle.rows.proofs.Colours.{colours_few}
+use Rattle.rows.proofs.Standing.{standing_start, standing_next, standing_end, standing_beside, place_low}
 use Rattle.rows.proofs.whole_raw.Goals as goal
 
-pub raster_index-to-requires : goal.raster_index-to-requires
-raster_index-to-requires c = square_inside _ _ _ _ _ c.requires.2 (omega arith)
+pub loop-r-init : goal.loop-r-init
+loop-r-init g c = standing_start _ _ c.raster_index-to.ensures
 
-pub loop-p-init : goal.loop-p-init
-loop-p-init c = (c.raster_index-to.ensures, rows_start _ _)
-
-pub copied_row-requires : goal.copied_row-requires
-copied_row-requires c = (omega (arith, c.requires.1, rows_room c.loop-p.invariant.1 c.loop-p-test.true), data_beside (flat c.args.front.now) c.requires.0 c.loop-p.invariant.1.whole c.loop-p-test.true c.loop-p.invariant.0 (square_kept c.requires.2 (rows_length c.loop-p.invariant.1)) (rows_begun c.loop-p.invariant.1) (λ (i : ℕ). get_or c.args.s.now (c.loop-p.p + i) 0) (λ i h. ap (λ (n : ℕ). get_or c.args.s.now n 0) (raw_source (c.loop-p.p + i))))
+pub raw_row-requires : goal.raw_row-requires
+raw_row-requires g c = (colours_few g.T.Pixel.DEEP (8 * c.loop-r.r + 8) 64 _ (omega arith) c.requires.there, standing_beside c.loop-r.invariant c.requires.room (g.met.T.Pixel.laws.long _) c.loop-r-test.true c.requires.block (λ (i : ℕ). colour g.T.Pixel.DEEP c.args.s.now (8 * c.loop-r.r + i)) (λ i m new e. refl))
 
 pub overflow_add-to : goal.overflow_add-to
-overflow_add-to c = omega (arith, row_low _ _ _ _ _ c.loop-p.invariant.0 c.requires.2 c.loop-p-test.true)
+overflow_add-to g c = omega (arith, place_low c.loop-r.invariant.place c.requires.room c.loop-r-test.true)
 
-pub overflow_add-p : goal.overflow_add-p
-overflow_add-p c = omega (arith, c.loop-p-test.true)
-
-pub loop-p-smaller : goal.loop-p-smaller
-loop-p-smaller c = omega (arith, c.loop-p-test.true)
-
-pub loop-p-preserved : goal.loop-p-preserved
-loop-p-preserved c = (row_below _ _ _ _ _ c.loop-p.invariant.0, rows_more c.loop-p.invariant.1 c.loop-p-test.true c.copied_row.ensures)
-
-pub shape_of-back : goal.shape_of-back
-shape_of-back c = rows_length c.loop-p.invariant.1
+pub loop-r-preserved : goal.loop-r-preserved
+loop-r-preserved g c = standing_next c.loop-r.invariant c.loop-r-test.true c.raw_row.ensures
 
 pub returns : goal.returns
-returns c = rows_end c.loop-p.invariant.1 c.loop-p-test.false
+returns g c = standing_end c.loop-r.invariant c.loop-r-test.false

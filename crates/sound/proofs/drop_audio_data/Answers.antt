@@ -1,15 +1,13 @@
-use Rattle.sound.proofs.Dropped.{drop_unmasked, drop_unknown, drop_known, drop_read}
-use Rattle.sound.specs.Sound.{audio_data}
+use Rattle.std.proofs.Common.{◌<◌, arith, ap, ◌∙◌}
+use Rattle.words.specs.Word.{word_at}
+use Rattle.sound.specs.Step.{enough}
+use Rattle.sound.specs.Sound.{answer}
+use Rattle.sound.proofs.Dropped.{same_data}
 use Rattle.sound.proofs.drop_audio_data.Goals as goal
 
-pub returns-in-Unknown : goal.returns-in-Unknown
-unfolding audio_data
-returns-in-Unknown c = λ room big. drop_unknown _ _ _ _ c.word_at.ensures.0 _ c.is_masked.ensures c.if-is_masked.true c.in-Unknown.is
-
-pub returns-in-Known : goal.returns-in-Known
-unfolding audio_data
-returns-in-Known c = λ room big. drop_known _ _ _ _ c.word_at.ensures.0 _ c.is_masked.ensures c.if-is_masked.true _ _ _ c.in-Known.is _ (drop_read _ _ _ _ room _ _ c.word_at-in-Known.ensures.0 _ _ _ c.part_from.ensures (c.drop_data.ensures room big))
-
 pub returns : goal.returns
-unfolding audio_data
-returns c = λ room big. drop_unmasked _ _ _ _ c.word_at.ensures.0 _ c.is_masked.ensures c.if-is_masked.false
+unfolding word_at
+returns c =
+    λ room big.
+    let few : word_at c.args.body.now 4 < 65536 = omega (arith, c.type_inv.body 4, c.type_inv.body 5) in
+    c.take_data.ensures.result_value ∙ ap answer (same_data c.args.sound c.args.body.now few enough room (omega arith) big)

@@ -1,15 +1,16 @@
-use Rattle.sound.proofs.Dropped.{drop_unmasked, drop_unknown, drop_known, drop_silence_read}
-use Rattle.sound.specs.Sound.{audio_silence}
+use Rattle.std.proofs.Common.{◌≡◌, true, Some, arith}
+use Rattle.words.specs.Word.{word_at}
+use Rattle.sound.specs.Format.{masked}
+use Rattle.sound.specs.Step.{enough}
+use Rattle.sound.proofs.Outcome.{silence_masked}
+use Rattle.sound.proofs.Dropped.{same_silence}
 use Rattle.sound.proofs.drop_audio_silence.Goals as goal
 
-pub returns-in-Unknown : goal.returns-in-Unknown
-unfolding audio_silence
-returns-in-Unknown c = λ room big. drop_unknown _ _ _ _ c.word_at.ensures.0 _ c.is_masked.ensures c.if-is_masked.true c.in-Unknown.is
-
-pub returns-in-Known : goal.returns-in-Known
-unfolding audio_silence
-returns-in-Known c = λ room big. drop_known _ _ _ _ c.word_at.ensures.0 _ c.is_masked.ensures c.if-is_masked.true _ _ _ c.in-Known.is _ (drop_silence_read _ _ _ _ room _ _ c.word_at-in-Known.ensures.0 _ (c.drop_silence.ensures room big))
-
 pub returns : goal.returns
-unfolding audio_silence
-returns c = λ room big. drop_unmasked _ _ _ _ c.word_at.ensures.0 _ c.is_masked.ensures c.if-is_masked.false
+returns c =
+    λ room big.
+    let m : masked c.args.sound.stream (word_at c.args.body.now 2) ≡ true = cc (c.word_at.ensures.0, c.is_masked.ensures, c.if-not-is_masked.false) in
+    let k : c.args.sound.format ≡ Some c.in_ok-format.format = grind (arith, c.in_ok-format.was, c.ok_or.ensures.value) in
+    let e = silence_masked c.args.sound c.args.body.now enough c.in_ok-format.format m k in
+    let d = same_silence c.args.sound c.args.body.now (rw c.word_at-2.ensures.0 at c.word_at-2.ensures.1) enough room (omega arith) big in
+    cc (e, d, c.word_at-2.ensures.0, c.silence_step.ensures)

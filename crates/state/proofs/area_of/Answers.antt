@@ -1,7 +1,6 @@
 use mathlib.Core.Path.{sym, ◌∙◌}
 use native.Mathlib.Omega.{arith}
 use Rattle.packet.proofs.Sizes.{size_is, pixels_few}
-use Rattle.state.proofs.Tests.{area_legal, area_none}
 use Rattle.state.proofs.area_of.Goals as goal
 
 pub overflow_mul-result : goal.overflow_mul-result
@@ -12,9 +11,3 @@ overflow_mul-result-then-is_legal_size c = omega (arith, size_is _ _ (sym c.is_l
 
 pub overflow_mul-result-then-is_legal_size-2 : goal.overflow_mul-result-then-is_legal_size-2
 overflow_mul-result-then-is_legal_size-2 c = omega (arith, pixels_few _ _ (sym c.is_legal_size.ensures ∙ c.if-is_legal_size.true))
-
-pub returns-then-is_legal_size : goal.returns-then-is_legal_size
-returns-then-is_legal_size c = area_legal _ _ (sym c.is_legal_size.ensures ∙ c.if-is_legal_size.true)
-
-pub returns : goal.returns
-returns c = area_none _ _ (sym c.is_legal_size.ensures ∙ c.if-is_legal_size.false)

@@ -7,5 +7,5 @@ keep_part-requires c = (c.requires.0, c.requires.1, keep_fits _ _ _ _ _ c.is_kep
 pub returns-then-is_kept : goal.returns-then-is_kept
 returns-then-is_kept c = keeps_one _ _ _ _ _ c.is_kept.ensures c.if-is_kept.true c.requires.1 _ _ _ _ c.keep_part.ensures
 
-pub returns : goal.returns
-returns c = keeps_none _ _ _ _ _ c.is_kept.ensures c.if-is_kept.false _ _ _
+pub returns-else-is_kept : goal.returns-else-is_kept
+returns-else-is_kept c = keeps_none _ _ _ _ _ c.is_kept.ensures c.if-is_kept.false _ _ _

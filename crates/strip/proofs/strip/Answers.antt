@@ -1,11 +1,15 @@
+use Rattle.std.proofs.lemmas.Result.{err_from_is_err_and}
 use Rattle.strip.proofs.Writing.{header_there, refused_1, all_told}
 use Rattle.strip.proofs.strip.Goals as goal
 
 pub write_left-requires : goal.write_left-requires
-write_left-requires c = header_there _ _ c.args.room.now _ c.«open».ensures _ c.in-First.is
+write_left-requires c = header_there _ _ c.args.room.now _ c.«open».ensures _ c.in_ok-open.was
 
-pub returns-in-Refused : goal.returns-in-Refused
-returns-in-Refused c = record { result_value = (refused_1 _ _ c.args.room.now _ c.«open».ensures _ c.in-Refused.is).0; room_after = (refused_1 _ _ c.args.room.now _ c.«open».ensures _ c.in-Refused.is).1 }
+pub returns-in_err-open : goal.returns-in_err-open
+returns-in_err-open c =
+    let t = refused_1 _ _ c.args.room.now _ c.«open».ensures _ c.in_err-open.was in
+    let p = err_from_is_err_and c.from_residual.result c.from_residual.ensures.1 in
+    record { result_value = rw (p.1, p.2) t.0; room_after = t.1 }
 
-pub returns-in-First : goal.returns-in-First
-returns-in-First c = record { result_value = (all_told _ _ c.args.room.now _ c.«open».ensures _ c.in-First.is _ _ c.write_left.ensures).0; room_after = (all_told _ _ c.args.room.now _ c.«open».ensures _ c.in-First.is _ _ c.write_left.ensures).1 }
+pub returns : goal.returns
+returns c = let t = all_told _ _ c.args.room.now _ c.«open».ensures _ c.in_ok-open.was _ _ c.write_left.ensures in record { result_value = t.0; room_after = t.1 }

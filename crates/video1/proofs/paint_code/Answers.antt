@@ -1,30 +1,18 @@
 use native.Mathlib.Omega.{arith}
-use Rattle.video1.proofs.Blocks.{rising_start, rising_room, rising_row, rising_more, rising_length, rising_end, counted, code_stores}
+use Rattle.video1.proofs.Blocks.{rising_start, rising_room, rising_row, rising_more, rising_end, counted, all_rows}
 use Rattle.video1.proofs.paint_code.Goals as goal
 
-pub loop-p-init : goal.loop-p-init
-loop-p-init c = rising_start _ _ _ _ _ _ _ c.requires.0
-
-pub overflow_mul-to : goal.overflow_mul-to
-overflow_mul-to c = omega (arith, c.requires.0.sized.columns_few)
+pub loop-row-init : goal.loop-row-init
+loop-row-init g c = rising_start _ _ _ _ _ _ _ c.requires.stands.0
 
 pub overflow_sub-to : goal.overflow_sub-to
-overflow_sub-to c = rising_room _ _ _ _ _ _ _ c.requires.0 _ _ _ c.loop-p.invariant (counted _ _ _ _ _ c.stores_of-n.ensures c.requires.1 c.loop-p-test.true)
+overflow_sub-to g c = rising_room _ _ _ _ _ _ _ c.requires.stands.0 _ _ _ c.loop-row.invariant (counted _ _ _ _ _ c.stores-row-end.ensures c.requires.stands.1 c.loop-row-test.true)
 
 pub paint_row-requires : goal.paint_row-requires
-paint_row-requires c = (c.requires.1, rising_row _ _ _ _ _ _ _ c.requires.0 _ _ _ c.loop-p.invariant (counted _ _ _ _ _ c.stores_of-n.ensures c.requires.1 c.loop-p-test.true))
+paint_row-requires g c = (c.requires.stands.1, rw c.requires.plan (rising_row _ _ _ _ _ _ _ c.requires.stands.0 _ _ _ c.loop-row.invariant (counted _ _ _ _ _ c.stores-row-end.ensures c.requires.stands.1 c.loop-row-test.true)))
 
-pub overflow_add-p : goal.overflow_add-p
-overflow_add-p c = omega (arith, code_stores _ _ c.stores_of-n.ensures, c.loop-p-test.true)
-
-pub loop-p-smaller : goal.loop-p-smaller
-loop-p-smaller c = omega (arith, code_stores _ _ c.stores_of-n.ensures, c.loop-p-test.true)
-
-pub loop-p-preserved : goal.loop-p-preserved
-loop-p-preserved c = rising_more _ _ _ _ _ _ _ c.requires.0 _ _ _ c.loop-p.invariant (counted _ _ _ _ _ c.stores_of-n.ensures c.requires.1 c.loop-p-test.true) _ c.paint_row.ensures
-
-pub shape_of-pic : goal.shape_of-pic
-shape_of-pic c = rising_length _ _ _ _ _ _ _ c.requires.0 _ _ _ c.loop-p.invariant
+pub loop-row-preserved : goal.loop-row-preserved
+loop-row-preserved g c = rising_more _ _ _ _ _ _ _ c.requires.stands.0 _ _ _ c.loop-row.invariant (counted _ _ _ _ _ c.stores-row-end.ensures c.requires.stands.1 c.loop-row-test.true) _ (rw c.requires.plan at c.paint_row.ensures) (omega arith)
 
 pub returns : goal.returns
-returns c = rising_end _ _ _ _ _ _ _ c.requires.0 _ _ _ c.loop-p.invariant _ _ c.stores_of-n.ensures c.requires.1 c.loop-p-test.false
+returns g c = rw c.requires.plan (rising_end _ _ _ _ _ _ _ c.requires.stands.0 _ _ _ c.loop-row.invariant _ _ c.stores-row-end.ensures c.requires.stands.1 (all_rows _ _ _ c.stores-row-end.ensures c.loop-row-test.false))

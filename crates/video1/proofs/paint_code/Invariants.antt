@@ -1,9 +1,6 @@
-use Prim.Native.Nat.{◌-◌}
+use Prim.Native.Nat.{◌*◌}
 use Rattle.video1.proofs.Blocks.{Rising}
 use Rattle.video1.proofs.paint_code.Given as goal
 
-abbrev pub invariant-loop-p : goal.invariant-loop-p
-invariant-loop-p l = Rising l.columns l.rows l.s l.at l.k l.initial.pic l.pic l.to l.p
-
-abbrev pub decreases-loop-p : goal.decreases-loop-p
-decreases-loop-p l = 16 - l.p
+abbrev pub invariant-loop-row : goal.invariant-loop-row
+invariant-loop-row g l = Rising l.columns l.rows l.s l.at l.k l.initial.pic l.pic l.to (4 * l.row)

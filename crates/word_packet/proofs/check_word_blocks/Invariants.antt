@@ -6,6 +6,3 @@ use Rattle.word_packet.proofs.check_word_blocks.Given as goal
 
 abbrev pub invariant-loop-k : goal.invariant-loop-k
 invariant-loop-k l = (l.right ≤ 8 * l.columns) × Walked l.spare (parted true l.columns l.rows l.map l.data l.offsets) l.k l.at l.aside (8 * l.columns - l.right) l.y
-
-abbrev pub decreases-loop-k : goal.decreases-loop-k
-decreases-loop-k l = l.n - l.k

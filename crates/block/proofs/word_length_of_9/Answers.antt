@@ -1,6 +1,0 @@
-use mathlib.Core.Bool.{true}
-use Rattle.block.proofs.Codes.{found_9}
-use Rattle.block.proofs.word_length_of_9.Goals as goal
-
-pub returns : goal.returns
-returns c = λ o. found_9 true _ o _ _ c.is_falling.ensures _ _ c.is_falling-second.ensures c.choose.ensures c.choose-2.ensures

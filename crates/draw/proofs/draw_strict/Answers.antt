@@ -1,4 +1,0 @@
-use Rattle.draw.proofs.draw_strict.Goals as goal
-
-pub returns : goal.returns
-returns c = record { place_after = c.draw_within.ensures.place_after; result_value = c.draw_within.ensures.result_value }

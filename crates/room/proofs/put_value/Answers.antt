@@ -1,5 +1,0 @@
-use Rattle.listed.proofs.Order.{due_inside}
-use Rattle.room.proofs.put_value.Goals as goal
-
-pub bounds-room-i : goal.bounds-room-i
-bounds-room-i c = due_inside _ _ _ _ _ c.requires

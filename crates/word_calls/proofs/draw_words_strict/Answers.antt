@@ -1,4 +1,0 @@
-use Rattle.word_calls.proofs.draw_words_strict.Goals as goal
-
-pub returns : goal.returns
-returns c = record { place_after = c.draw_words_within.ensures.place_after; result_value = c.draw_words_within.ensures.result_value }

@@ -1,4 +1,0 @@
-use Rattle.word_packet.proofs.check_words_strict.Goals as goal
-
-pub returns : goal.returns
-returns c = c.check_words_leaving.ensures

@@ -1,2 +1,0 @@
-pub mod Value
-pub mod Asked
