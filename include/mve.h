@@ -195,31 +195,31 @@ libmve.a is one object for x86-64 and the System V ABI. It needs no operating sy
 undefined below. Every function has a section of its own, so that the linker's --gc-sections leaves out those that are not
 called. All relocations are relative: code and constants may be loaded at any address, as long as they stay together.
 
-    code                            65,338 bytes
-    constants                       2,094 bytes
+    code                            66,183 bytes
+    constants                       1,806 bytes
     memory of its own               0 bytes
     undefined symbols               memset
     relocations                     R_X86_64_PC32, R_X86_64_PLT32
     vector registers                xmm0 to xmm15
-    below the stack pointer         104 bytes
+    below the stack pointer         88 bytes
     stack of mve_begin              840 bytes
-    stack of mve_check              248 bytes
-    stack of mve_check_strict       248 bytes
-    stack of mve_check_words        256 bytes
-    stack of mve_check_words_strict 256 bytes
-    stack of mve_draw               472 bytes
-    stack of mve_draw_strict        472 bytes
+    stack of mve_check              208 bytes
+    stack of mve_check_strict       208 bytes
+    stack of mve_check_words        240 bytes
+    stack of mve_check_words_strict 240 bytes
+    stack of mve_draw               440 bytes
+    stack of mve_draw_strict        440 bytes
     stack of mve_draw_words         544 bytes
     stack of mve_draw_words_strict  544 bytes
     stack of mve_encode             408 bytes
     stack of mve_open               168 bytes
-    stack of mve_origin             312 bytes
+    stack of mve_origin             272 bytes
     stack of mve_salvage            584 bytes
     stack of mve_shown              8 bytes
     stack of mve_shown_words        8 bytes
     stack of mve_step               816 bytes
     stack of mve_strip              520 bytes
-    stack of mve_video1             64 bytes
+    stack of mve_video1             72 bytes
 
 The stack of a call is the most that it takes, together with all that it calls: return addresses, pushed registers and
 arguments, locals with the copies of constant tables, and what is used below the stack pointer. Each call takes less than
@@ -231,23 +231,23 @@ A boot stage has one stack for all of this. A whole stage is a least caller in C
 
     compiler of the stages                gcc 12.2.0
     whole stage of mve_begin              872 bytes
-    whole stage of mve_check              344 bytes
-    whole stage of mve_check_strict       344 bytes
-    whole stage of mve_check_words        352 bytes
-    whole stage of mve_check_words_strict 352 bytes
-    whole stage of mve_draw               680 bytes
-    whole stage of mve_draw_strict        680 bytes
+    whole stage of mve_check              304 bytes
+    whole stage of mve_check_strict       304 bytes
+    whole stage of mve_check_words        336 bytes
+    whole stage of mve_check_words_strict 336 bytes
+    whole stage of mve_draw               648 bytes
+    whole stage of mve_draw_strict        648 bytes
     whole stage of mve_draw_words         768 bytes
     whole stage of mve_draw_words_strict  768 bytes
     whole stage of mve_encode             520 bytes
     whole stage of mve_open               184 bytes
-    whole stage of mve_origin             456 bytes
+    whole stage of mve_origin             416 bytes
     whole stage of mve_salvage            680 bytes
     whole stage of mve_shown              24 bytes
     whole stage of mve_shown_words        40 bytes
     whole stage of mve_step               1,024 bytes
     whole stage of mve_strip              536 bytes
-    whole stage of mve_video1             80 bytes
+    whole stage of mve_video1             88 bytes
 
 The least caller of mve_step is main of examples/synopsis.c. It keeps all its variables out of the stack, and opens the film
 in a function of its own that is not inlined, so that the steps do not stand on the frame of the opening. The others are
@@ -349,7 +349,7 @@ want every byte accounted for. A default call and a strict one give the same ans
 one byte is left over and nothing else is wrong: then the default call accepts the packet, and the strict one refuses it by
 MVE_ERROR_DATA_LEFT. Calls of both forms may be mixed, also within one picture.
 
-    code                            65,338 bytes
+    code     bytes           pixels
     0        0               the same block of front
     1        0               left as they are
     2, 3     1               copied from back, forward or the negated offset
@@ -375,7 +375,7 @@ A pixel is a word, with the low byte first. There are three pictures. "Last" is 
 was shown before it, and "new" the one that is drawn on. With front f, picture f is the last, f + 1 the new one and f + 2 the
 oldest, where 3 means 0 and 4 means 1, and pictures 0, 1 and 2 are c, d and e.
 
-    code                            65,338 bytes
+    code     first part       second part   pixels
     0        0                0             the same block of last
     1, F     0                0             the same block of oldest
     2        0                1             copied from oldest, forward offset

@@ -3,7 +3,7 @@
 use mathlib.Core.Path.{◌≡◌, refl, sym, ap, ◌∙◌, subst}
 use mathlib.Core.Bool.{Bool, true, false, cond}
 use mathlib.Core.List.{List}
-use Prim.Native.Nat.{ℕ, zero, suc, ◌+◌, ◌*◌, ◌^◌, ◌/◌, ◌%◌, ◌≤◌, ◌<◌}
+use Prim.Native.Nat.{ℕ, zero, suc, ◌+◌, ◌-◌, ◌*◌, ◌^◌, ◌/◌, ◌%◌, ◌≤◌, ◌<◌}
 use native.Mathlib.Nat.{div-one, not-suc-le-zero, le_of_suc-le-suc}
 use native.Mathlib.Omega.{arith}
 use native.Mathlib.Decide.{ℕ_discrete}
@@ -295,6 +295,17 @@ module _ (deep : Bool) (s o : List ℕ) where
 
 -- those that are not celled
 pub ruleset lengths = (length_low, length_beside, length_5, length_6, length_F)
+
+-- codes B to F with true colour: a quarter from code to code
+WordCells : List ℕ → List ℕ → ℕ → Type 0
+WordCells s o c = 10 < c → 128 / 2 ^ (2 * (c - 11)) ≡ data_length true (kind_of true c s o)
+
+pub word_cells : (c : ℕ) → 10 < c → c < 16 → (s o : List ℕ) → 128 / 2 ^ (2 * (c - 11)) ≡ data_length true (kind_of true c s o)
+unfolding WordCells kind_of kinds data_length pixels
+word_cells c g h s o =
+    each_code (WordCells s o) (λ h. absurd (let z : ⊥ = omega arith in z)) (λ h. absurd (let z : ⊥ = omega arith in z)) (λ h. absurd (let z : ⊥ = omega arith in z)) (λ h. absurd (let z : ⊥ = omega arith in z)) (λ h. absurd (let z : ⊥ = omega arith in z))
+    (λ h. absurd (let z : ⊥ = omega arith in z)) (λ h. absurd (let z : ⊥ = omega arith in z)) (λ h. absurd (let z : ⊥ = omega arith in z)) (λ h. absurd (let z : ⊥ = omega arith in z)) (λ h. absurd (let z : ⊥ = omega arith in z)) (λ h. absurd (let z : ⊥ = omega arith in z))
+    (λ h. refl) (λ h. refl) (λ h. refl) (λ h. refl) (λ h. refl) c h g
 
 -- ---- the second part
 

@@ -41,6 +41,16 @@ pub fn choose<T: Copy>(test: bool, a: T, b: T) -> T
     if test { a } else { b }
 }
 
+// Codes B to F with true colour: 128 bytes, 32, 8, 2 and none. A shift and no table, of which the compiler makes a jump for each code: a check of these codes in turn then
+// takes half as long again.
+#[tactic(auto, using(crate::proofs::Codes::word_cells))]
+fn word_cell_length(code: u8) -> usize
+    requires { (10 < code) × (code < 16) }
+    ensures { (s o : List ℕ) → result ≡ data_length true (kind_of true code s o) }
+{
+    128 >> (2 * usize::from(code - 11))
+}
+
 // The data bytes of a block of any code but 7 to A, which are not met here; with them, and with an arm a code, the match is dense, so that the compiler may make it a table.
 // DEEP: the film has true colour.
 #[tactic(auto, using(crate::proofs::Codes::lengths))]
@@ -48,6 +58,9 @@ fn fixed_length<const DEEP: bool>(code: u8) -> usize
     requires { (code < 16) × Fixed code }
     ensures { (s o : List ℕ) → result ≡ data_length DEEP (kind_of DEEP code s o) }
 {
+    if DEEP && 10 < code {
+        return word_cell_length(code);
+    }
     let n = bytes_of(DEEP);
     match code {
         0 => 0,
@@ -126,15 +139,23 @@ pub fn offset_length(deep: bool, code: u8) -> usize
 
 // The data bytes of a block whose data begins with s. DEEP: the film has true colour. A const parameter and no flag: a function for both films is not inlined, and then a check
 // takes up to three times as long.
+#[tactic(auto, using(crate::proofs::Codes::lengths))]
 pub fn data_length<const DEEP: bool>(code: u8, s: &[u8]) -> usize
     requires { code < 16 }
     ensures { (o : List ℕ) → result ≡ data_length DEEP (kind_of DEEP code s.now o) }
 {
-    if code < 7 || 10 < code {
-        fixed_length::<DEEP>(code)
-    } else {
-        pattern_length::<DEEP>(code, s)
+    // Of words F has no data: told apart first, it is not tested further.
+    if DEEP && code == 15 {
+        return 0;
     }
+    if code < 7 || DEEP && 10 < code {
+        return fixed_length::<DEEP>(code);
+    }
+    // Of bytes a test of its own: by one for both ends the function grows past what the compiler puts into the loops.
+    if 10 < code {
+        return fixed_length::<DEEP>(code);
+    }
+    pattern_length::<DEEP>(code, s)
 }
 
 // One of two vectors, chosen number by number: conditional moves instead of a branch. By `choose` of whole vectors the test of a copy takes a quarter longer.

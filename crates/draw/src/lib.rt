@@ -5,18 +5,19 @@ ghost use Rattle.std.specs.Prelude.{◌≡◌, ◌≤◌, ◌<◌, length, drop,
 ghost use Rattle.block.specs.Block.{byte_kind};
 ghost use Rattle.paint.specs.Value.{pixel_count};
 ghost use Rattle.packet.specs.Packet.{packet};
+ghost use Rattle.packet.specs.Verdict.{default, strict};
 ghost use Rattle.packet.specs.Rows.{touched, finding, found};
 ghost use Rattle.stores.specs.Stores.{memory};
 ghost use Rattle.stores.specs.Loop.{Called};
 ghost use Rattle.draw.specs.Drawing.{plan};
-ghost use Rattle.draw.specs.Call.{request, call_verdict, pictures, leaves, report, answering, said};
+ghost use Rattle.draw.specs.Call.{within, request, call_verdict, pictures, leaves, report, answering, said};
 ghost use Rattle.draw.specs.Asked.{Accepted};
 
 use block::{code_at, data_length};
-use packet::{Rows, check_blocks, data_position, is_legal_size};
+use packet::{Rows, check_blocks, data_position, default_spare, is_legal_size, strict_spare};
 use paint::paint_part;
 use refusal::Refusal;
-use whole::paint_whole;
+use whole::paint_and_pass;
 
 // What a drawing call answers that is not refused: the stores made and the rows of blocks that the packet touches.
 #[derive(Clone, Copy)]
@@ -30,6 +31,28 @@ pub enum Drawn {
 pub struct Allowed {
     pub stores: usize,
     pub spare: usize,
+}
+
+impl Allowed {
+    // So many stores, in the default form.
+    pub fn by_default(stores: usize) -> Allowed
+        ensures { result ≡ within stores default }
+    {
+        Allowed {
+            stores,
+            spare: default_spare(),
+        }
+    }
+
+    // The same in the strict form.
+    pub fn strictly(stores: usize) -> Allowed
+        ensures { result ≡ within stores strict }
+    {
+        Allowed {
+            stores,
+            spare: strict_spare(),
+        }
+    }
 }
 
 // The pixels that a block of this code stores.
@@ -112,7 +135,7 @@ pub fn draw_blocks(
             paint_part(code, s, front, back, w, h, x, y, left);
             return allowed;
         }
-        paint_whole(code, s, front, back, w, x, y, place, k + 1);
+        paint_and_pass(code, s, front, back, w, x, y, place, k + 1);
         left -= due + 1;
         at += data_length::<false>(code, s);
         x += 8;

@@ -50,10 +50,10 @@ fn draw_on(
     )?;
     if st.front == 0 {
         let made = draw_blocks(columns, rows, map, packet, &a[..], &mut b[..], place, n);
-        drawn_step(st, p, answer_of(columns * rows, *place, made, t))
+        drawn_step(st, p, Ok(answer_of(columns * rows, *place, made, t)))
     } else {
         let made = draw_blocks(columns, rows, map, packet, &b[..], &mut a[..], place, n);
-        drawn_step(st, p, answer_of(columns * rows, *place, made, t))
+        drawn_step(st, p, Ok(answer_of(columns * rows, *place, made, t)))
     }
 }
 
@@ -78,13 +78,13 @@ fn draw_new(
     let n = allowed.stores;
     if st.front == 0 {
         let made = draw_word_packet(columns, rows, map, s, &c[..], &e[..], &mut d[..], place, n);
-        drawn_step(st, p, answer_of(columns * rows, *place, made, t))
+        drawn_step(st, p, Ok(answer_of(columns * rows, *place, made, t)))
     } else if st.front == 1 {
         let made = draw_word_packet(columns, rows, map, s, &d[..], &c[..], &mut e[..], place, n);
-        drawn_step(st, p, answer_of(columns * rows, *place, made, t))
+        drawn_step(st, p, Ok(answer_of(columns * rows, *place, made, t)))
     } else {
         let made = draw_word_packet(columns, rows, map, s, &e[..], &d[..], &mut c[..], place, n);
-        drawn_step(st, p, answer_of(columns * rows, *place, made, t))
+        drawn_step(st, p, Ok(answer_of(columns * rows, *place, made, t)))
     }
 }
 

@@ -27,19 +27,15 @@ use mve_salvages::{MveSalvaged, of_salvaged};
 use mve_states::{is_state, state_of};
 use mve_steps::{put_begun, put_opened, put_step, put_unread, spare_of};
 use mve_strips::{MveStripped, of_stripped};
+use packet::{default_spare, strict_spare};
 use refusal::Refusal;
-
-// The bytes of a packet that may be left over: one, or in the strict form none.
-const DEFAULT: usize = 1;
-
-const STRICT: usize = 0;
 
 // Whether a packet is accepted for a picture of columns by rows blocks.
 #[unsafe(no_mangle)]
 pub extern "C" fn mve_check(columns: usize, rows: usize, map: &[u8], data: &[u8]) -> MveAnswer
     ensures { result ≡ of_found (finding (verdict default columns rows map.now «data».now) (touched (packet columns rows map.now «data».now))) }
 {
-    of_check(packet::check(DEFAULT, columns, rows, map, data))
+    of_check(packet::check(default_spare(), columns, rows, map, data))
 }
 
 // The strict form: no byte may be left over.
@@ -52,7 +48,7 @@ pub extern "C" fn mve_check_strict(
 ) -> MveAnswer
     ensures { result ≡ of_found (finding (verdict strict columns rows map.now «data».now) (touched (packet columns rows map.now «data».now))) }
 {
-    of_check(packet::check(STRICT, columns, rows, map, data))
+    of_check(packet::check(strict_spare(), columns, rows, map, data))
 }
 
 // Whether a packet of a film with true colour is accepted.
@@ -60,7 +56,7 @@ pub extern "C" fn mve_check_strict(
 pub extern "C" fn mve_check_words(columns: usize, rows: usize, map: &[u8], data: &[u8]) -> MveAnswer
     ensures { result ≡ of_found (finding (verdict_in true default columns rows map.now «data».now) (touched (packet_in true columns rows map.now «data».now))) }
 {
-    of_check(word_packet::check_words(DEFAULT, columns, rows, map, data))
+    of_check(word_packet::check_words(default_spare(), columns, rows, map, data))
 }
 
 // The strict form: no byte may be left over.
@@ -73,7 +69,7 @@ pub extern "C" fn mve_check_words_strict(
 ) -> MveAnswer
     ensures { result ≡ of_found (finding (verdict_in true strict columns rows map.now «data».now) (touched (packet_in true columns rows map.now «data».now))) }
 {
-    of_check(word_packet::check_words(STRICT, columns, rows, map, data))
+    of_check(word_packet::check_words(strict_spare(), columns, rows, map, data))
 }
 
 // The answer of a drawing call, of bytes or of words.
@@ -103,10 +99,7 @@ pub extern "C" fn mve_draw(
     ensures place_after { pictures front.now (memory back.new place.new) ≡ leaves (request columns rows map.now «data».now front.now (within allowed default)) (memory back.old place.old) }
     ensures value { result ≡ of_report (report (memory back.old place.old) (request columns rows map.now «data».now front.now (within allowed default))) }
 {
-    let allowed = Allowed {
-        stores: allowed,
-        spare: DEFAULT,
-    };
+    let allowed = Allowed::by_default(allowed);
     of_draw(draw::draw(columns, rows, map, data, front, back, place, allowed))
 }
 
@@ -125,10 +118,7 @@ pub extern "C" fn mve_draw_strict(
     ensures place_after { pictures front.now (memory back.new place.new) ≡ leaves (request columns rows map.now «data».now front.now (within allowed strict)) (memory back.old place.old) }
     ensures value { result ≡ of_report (report (memory back.old place.old) (request columns rows map.now «data».now front.now (within allowed strict))) }
 {
-    let allowed = Allowed {
-        stores: allowed,
-        spare: STRICT,
-    };
+    let allowed = Allowed::strictly(allowed);
     of_draw(draw::draw(columns, rows, map, data, front, back, place, allowed))
 }
 
@@ -148,10 +138,7 @@ pub extern "C" fn mve_draw_words<'a>(
     ensures place_after { word_pictures last.now oldest.now (memory new.new place.new) ≡ leaves (word_request columns rows map.now «data».now last.now oldest.now (within allowed default)) (memory new.old place.old) }
     ensures value { result ≡ of_report (report (memory new.old place.old) (word_request columns rows map.now «data».now last.now oldest.now (within allowed default))) }
 {
-    let allowed = Allowed {
-        stores: allowed,
-        spare: DEFAULT,
-    };
+    let allowed = Allowed::by_default(allowed);
     of_draw(word_calls::draw_words(columns, rows, map, data, last, oldest, new, place, allowed))
 }
 
@@ -171,10 +158,7 @@ pub extern "C" fn mve_draw_words_strict<'a>(
     ensures place_after { word_pictures last.now oldest.now (memory new.new place.new) ≡ leaves (word_request columns rows map.now «data».now last.now oldest.now (within allowed strict)) (memory new.old place.old) }
     ensures value { result ≡ of_report (report (memory new.old place.old) (word_request columns rows map.now «data».now last.now oldest.now (within allowed strict))) }
 {
-    let allowed = Allowed {
-        stores: allowed,
-        spare: STRICT,
-    };
+    let allowed = Allowed::strictly(allowed);
     of_draw(word_calls::draw_words(columns, rows, map, data, last, oldest, new, place, allowed))
 }
 

@@ -69,10 +69,7 @@ fn walk(rt: &impl Print, film: &[u8], first: State) -> io::Result<()> {
             &mut e,
             &mut place,
             &mut room,
-            Allowed {
-                stores: 312000,
-                spare: 1,
-            },
+            Allowed::by_default(312000),
         );
         match stepped {
             Ok(Stepped::Taken(next, _)) => {

@@ -83,10 +83,10 @@ pub fn quiet_step(
 
 // 11, after the drawing. The value is built as the caller answers it: wrapped there, it would be copied.
 #[tactic(auto, unfolding(crate::specs::Opcodes::drawn_as))]
-pub fn drawn_step(st: State, p: usize, d: Drawn) -> Result<Stepped, Refusal>
-    ensures { stepped_as result ≡ drawn_step st p (said (Ok d)) }
+pub fn drawn_step(st: State, p: usize, d: Result<Drawn, Refusal>) -> Result<Stepped, Refusal>
+    ensures { stepped_as result ≡ drawn_step st p (said d) }
 {
-    match d {
+    match d? {
         Drawn::Whole(n, t) => Ok(Stepped::Whole(st.finished(p), n, t)),
         Drawn::Unfinished(n, t) => Ok(Stepped::Unfinished(st, n, t)),
     }

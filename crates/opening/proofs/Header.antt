@@ -81,18 +81,13 @@ module _ (film : List ℕ) (stream : ℕ) (r : Bool) (v : r ≡ starts_with eqb 
       (ext_get_or 0 (take 26 film) header (length-take-le 26 film l ∙ sym header_length)
       (λ i h. let k : i < 26 = omega (arith, length-take-le 26 film l) in get_or-take 26 film i 0 k ∙ begins_at film 26 e i k)))
 
-  pub opens_with : (sound : Sound) → r ≡ true → sound ≡ first_sound stream
-      → started (record { cursor = record { position = 26; chunk_end = 26 }; columns = 0; rows = 0; deep = false; front = 0; map = None; unsent = false; sound = sound })
-      ≡ opening_of film stream
-  opens_with sound e q = opens film stream sound (long e) (begun e) q
+  decided : (b : Bool) → begins film 26 ≡ b → 26 ≤ length film → r ≡ false → b ≡ false
+  decided true k l e = let z = sym e ∙ same l k in cc
+  decided false k l e = refl
 
-  pub opens_without : r ≡ false → refuses 1 0 ≡ opening_of film stream
-  opens_without e = by (dec_lt (length film) 26)
+  pub header_is : 26 ≤ length film → r ≡ begins film 26
+  header_is l = by r refl
     where
-      decided : (b : Bool) → begins film 26 ≡ b → 26 ≤ length film → b ≡ false
-      decided true k l = let z = same l k in cc
-      decided false k l = refl
-
-      by : Dec (length film < 26) → refuses 1 0 ≡ opening_of film stream
-      by (yes h) = opens_short film stream h
-      by (no h) = let l : 26 ≤ length film = omega arith in opens_not film stream l (decided (begins film 26) refl l)
+      by : (b : Bool) → r ≡ b → r ≡ begins film 26
+      by true e = e ∙ sym (begun e)
+      by false e = e ∙ sym (decided (begins film 26) refl l e)

@@ -3,7 +3,7 @@
 
 ghost use Rattle.std.specs.Prelude.{◌≡◌, false, [], ◌*◌, ◌≤◌, length};
 ghost use Rattle.packet.specs.Packet.{packet, start_of};
-ghost use Rattle.packet.specs.Verdict.{legal, legal_size, blocks_verdict, verdict};
+ghost use Rattle.packet.specs.Verdict.{default, strict, legal, legal_size, blocks_verdict, verdict};
 ghost use Rattle.packet.specs.Rows.{first_from, past_touched, rows_from, touched, finding, found};
 ghost use Rattle.packet.specs.Asked.{Sized};
 
@@ -16,6 +16,24 @@ use words::part_from;
 pub struct Rows {
     pub first: usize,
     pub last: usize,
+}
+
+const DEFAULT: usize = 1;
+
+const STRICT: usize = 0;
+
+// The bytes that a packet may leave over in the default form. A function, so that its contract holds the number for those who pass it on.
+pub fn default_spare() -> usize
+    ensures { result ≡ default }
+{
+    DEFAULT
+}
+
+// The same in the strict form.
+pub fn strict_spare() -> usize
+    ensures { result ≡ strict }
+{
+    STRICT
 }
 
 // Whether n is from 1 to most.

@@ -3,7 +3,7 @@
 
 ghost use Rattle.std.specs.Prelude.{◌<◌, ◌≤◌, IfOk, length};
 
-use packet::{Rows, check};
+use packet::{Rows, check, default_spare};
 use refusal::Refusal;
 use std::io;
 use std::io::Read;
@@ -31,7 +31,7 @@ fn case(s: &[u8], at: usize) -> (Option<Result<Option<Rows>, Refusal>>, usize)
         return (None, 65536);
     }
     let found = check(
-        1,
+        default_spare(),
         word_at(s, at),
         word_at(s, at + 2),
         &s[map..data],

@@ -2,7 +2,7 @@
 -- Assumes nothing.
 use mathlib.Core.Path.{◌≡◌, refl, sym, ap, ◌∙◌}
 use mathlib.Core.List.{List}
-use Prim.Native.Nat.{ℕ, zero, suc, ◌+◌, ◌-◌, ◌*◌, ◌/◌, ◌%◌, ◌^◌, ◌≤◌, ◌<◌}
+use Prim.Native.Nat.{ℕ, ◌+◌, ◌-◌, ◌*◌, ◌/◌, ◌%◌, ◌^◌, ◌≤◌, ◌<◌}
 use native.Mathlib.Nat.{mul-le-mul, mul-le-mul_right, add-mul, add-zero, zero-add, zero-mul, mod-lt}
 use native.Mathlib.Omega.{arith}
 use lib.ListN.{length, get_or}
@@ -11,7 +11,7 @@ use Rattle.packet.proofs.Grid.{row_below}
 use Rattle.stores.specs.Stores.{Plan, first_pixels, further}
 use Rattle.stores.proofs.Order.{further_first, begun_none}
 use Rattle.paint.proofs.Painting.{Painting, painting_start, painting_by, painting_end, painting_length, painting_begun}
-use Rattle.rows.specs.Row.{colours, Beside}
+use Rattle.rows.specs.Row.{Beside}
 use Rattle.video1.specs.declared.Code.{Code}
 use Rattle.video1.specs.declared.Code.TheVariants.{Skip, Two, Eight, One}
 use Rattle.video1.specs.Code.{code_at, long_of, stores_of, flag, quad, source_of}
@@ -109,13 +109,6 @@ module _ (s : List ℕ) (at : ℕ) where
 
 -- ---- a row
 
-four_same : (v i : ℕ) → i < 4 → get_or (colours v v v v) i 0 ≡ v
-four_same v zero h = refl
-four_same v (suc zero) h = refl
-four_same v (suc (suc zero)) h = refl
-four_same v (suc (suc (suc zero))) h = refl
-four_same v (suc (suc (suc (suc i)))) h = absurd (let z : ⊥ = omega arith in z)
-
 -- a code stores 16 pixels of a block or none
 pub stores_all : (c : Code) (p : ℕ) → p < stores_of c → stores_of c ≡ 16
 unfolding stores_of
@@ -167,9 +160,9 @@ module _ {d : Plan} {s : List ℕ} {at p : ℕ} {b : List ℕ} {to : ℕ} (r : R
       record { begun = r.beside.begun; listed = r.beside.listed; targets = r.beside.targets; values = λ i q. vs i q ∙ r.beside.values i q; inside = r.beside.inside }
 
   -- of one colour, and of pairs
-  pub one_beside : code_at s at ≡ One → (v : ℕ) → v ≡ get_or s at 0 → Beside d p 4 b to (λ i. get_or (colours v v v v) i 0)
+  pub one_beside : code_at s at ≡ One → (v : ℕ) → v ≡ get_or s at 0 → Beside d p 4 b to (λ i. v)
   unfolding source_of
-  one_beside c v e = row_gives (λ i. get_or (colours v v v v) i 0) (λ i q. four_same v i q ∙ e ∙ rw (c, add-zero at))
+  one_beside c v e = row_gives (λ i. v) (λ i q. e ∙ rw (c, add-zero at))
 
   pub pairs_there : (step : ℕ) → Paired s at step → at + 4 + 3 * step ≤ length s
   pairs_there step c = omega (arith, r.there, c.long)

@@ -211,8 +211,16 @@ fn paint_block<P: Drawing>(
     pass_block::<P, u8>(back, place, next);
 }
 
+// The pixels that the block at x, y stores, whose data is s. The place stays: `paint_and_pass` moves it, too.
+pub fn paint_whole(code: u8, s: &[u8], front: &[u8], back: &mut [u8], w: usize, x: usize, y: usize)
+    requires { (h : ℕ) × ByteDrawable code s.now w h x y (pixel_count (byte_kind code s.now)) × Canvas w h x y (length front.now) (length back.old) }
+    ensures { back.new ≡ first_pixels (plan_of code s.now front.now w x y) 0 back.old (pixel_count (byte_kind code s.now)) }
+{
+    paint_pixels::<Brand>(code, s, front, back, w, x, y)
+}
+
 // The stores of the block at x, y, whose data is s: all its pixels, and then the place behind it, the next block number.
-pub fn paint_whole(
+pub fn paint_and_pass(
     code: u8,
     s: &[u8],
     front: &[u8],

@@ -12,7 +12,7 @@ ghost use Rattle.word_draw.specs.Asked.{WordAccepted};
 use block::{code_at, data_length, offset_length};
 use paint::paint_word_part;
 use word_packet::data_positions;
-use word_whole::paint_word_whole;
+use word_whole::paint_word_and_pass;
 
 // The first stores due from the place on, at most as many as are allowed; their number is returned. Whoever calls it has judged. Every block stores 64 pixels, and then
 // the place.
@@ -48,7 +48,7 @@ pub fn draw_word_blocks<'a>(
             paint_word_part(code, s, o, last, oldest, new, w, h, x, y, left);
             return allowed;
         }
-        paint_word_whole(code, s, o, last, oldest, new, w, x, y, place, k + 1);
+        paint_word_and_pass(code, s, o, last, oldest, new, w, x, y, place, k + 1);
         left -= 65;
         at += data_length::<true>(code, s);
         aside += offset_length(true, code);

@@ -130,8 +130,26 @@ fn paint_block<'a, P: Drawing>(
     pass_block::<P, u16>(new, place, next);
 }
 
-// The stores of the block at x, y, whose data is s and o: its 64 pixels, and then the place behind it, the next block number.
+// The 64 pixels of the block at x, y, whose data is s and o. The place stays: `paint_word_and_pass` moves it, too.
 pub fn paint_word_whole<'a>(
+    code: u8,
+    s: &[u8],
+    o: &[u8],
+    last: &'a [u16],
+    oldest: &'a [u16],
+    new: &mut [u16],
+    w: usize,
+    x: usize,
+    y: usize,
+)
+    requires { (h : ℕ) × WordDrawable code s.now o.now w h x y 64 × WordCanvas w h x y (length last.now) (length new.old) (length oldest.now) }
+    ensures { new.new ≡ first_pixels (word_plan code s.now o.now last.now oldest.now w x y) 0 new.old 64 }
+{
+    paint_pixels::<Brand>(code, s, o, last, oldest, new, w, x, y)
+}
+
+// The stores of the block at x, y, whose data is s and o: its 64 pixels, and then the place behind it, the next block number.
+pub fn paint_word_and_pass<'a>(
     code: u8,
     s: &[u8],
     o: &[u8],

@@ -80,6 +80,24 @@ fn constants() {
     assert_eq!(defined.count(), 11, "a constant that the wrapper lacks");
 }
 
+/// Each table of the codes of blocks has the heading of its columns, right above its first code; the size of the code stands
+/// once, among the figures of the archive.
+#[test]
+fn tables_of_codes() {
+    let header = header();
+    for (heading, first) in [
+        ("    code     bytes           pixels", "    0        0               the same block of front"),
+        (
+            "    code     first part       second part   pixels",
+            "    0        0                0             the same block of last",
+        ),
+    ] {
+        assert_eq!(header.matches(&format!("\n{heading}\n{first}\n")).count(), 1, "{heading}");
+    }
+    let starts = header.lines().filter(|line| line.starts_with("    code "));
+    assert_eq!(starts.filter(|line| line.ends_with(" bytes")).count(), 1, "the size of the code");
+}
+
 /// The numbers of the enums: of states and answers, of the forms and of the kinds.
 #[test]
 fn enums() {

@@ -9,8 +9,9 @@
 //!
 //! A store is an assignment or a call of a method of slices that stores. Lent memory is assigned to by
 //! an index, through a reference, or as a field: an assignment to a mere name is to the function's
-//! own, and so is one to a field of a struct that the function made by a literal. The kit's crates
-//! have functions that store, so no library crate may use them.
+//! own, and so is one to a field of a struct that the function made by a literal, as long as the
+//! name can be no other's. The kit's crates have functions that store, so no library crate may use
+//! them.
 
 use std::collections::BTreeSet;
 use std::fs;
@@ -43,6 +44,10 @@ const ANSWERING: [&str; 10] = [
     "mve_steps::put_rows",
 ];
 
+/// Those of them that store by a method, and by which: the numbers where there is no state are 18
+/// zeros of an answer, of which no rule asks an order.
+const FILLING: [(&str, &str); 1] = [("mve_states::put_no_state", "fill")];
+
 /// Operators with an equals sign that do not assign, and those that do.
 const OTHERS: [&str; 6] = ["..=", "==", "!=", "<=", ">=", "=>"];
 const ASSIGNING: [&str; 11] = ["<<=", ">>=", "+=", "-=", "*=", "/=", "%=", "&=", "|=", "^=", "="];
@@ -73,11 +78,13 @@ struct Token<'a> {
     line: usize,
 }
 
-/// A store to what may be lent: the function that makes it, the line, and what is assigned to.
+/// A store to what may be lent: the function that makes it, the line, what is assigned to, and the
+/// method that stores, if it is one.
 struct Store {
     function: String,
     line: usize,
     target: String,
+    method: Option<String>,
 }
 
 /// The length of the token that a text begins with.
@@ -187,7 +194,9 @@ fn may_be_lent(target: &[Token<'_>]) -> bool {
     target.len() != 1 && !target.iter().any(names)
 }
 
-/// Whether that is a field of a struct that the function made by a literal, in these tokens before.
+/// Whether that is a field of a struct that the function made by a literal, in these tokens before:
+/// its block is open still, and behind it the name stands in front of fields alone, so that no
+/// `let`, pattern or closure has given it to something else.
 fn is_own_field(before: &[Token<'_>], target: &[Token<'_>]) -> bool {
     let [name, dot, _] = target else { return false };
     let makes = |tokens: &[Token<'_>]| {
@@ -196,7 +205,21 @@ fn is_own_field(before: &[Token<'_>], target: &[Token<'_>]) -> bool {
         [a.text, b.text, c.text, d.text, open.text] == ["let", "mut", name.text, "=", "{"]
             && is_type
     };
-    dot.text == "." && before.windows(6).any(makes)
+    let Some(made) = before.windows(6).rposition(makes) else { return false };
+    let literal = &before[made + 5..];
+    let behind = &literal[group_end(literal).unwrap_or(literal.len())..];
+    let mut depth = 0;
+    let is_open = behind.iter().all(|token| {
+        match token.text {
+            "{" => depth += 1,
+            "}" => depth -= 1,
+            _ => (),
+        }
+        depth >= 0
+    });
+    let is_field = |pair: &[Token<'_>]| pair[0].text != name.text || pair[1].text == ".";
+    let ends = behind.first().is_some_and(|token| token.text == ";");
+    dot.text == "." && ends && is_open && behind.windows(2).all(is_field)
 }
 
 /// The stores to what may be lent in a source of this crate.
@@ -215,7 +238,8 @@ fn stores(name: &str, source: &str) -> Vec<Store> {
             if is_method || may_be_lent(target) && !is_own_field(&code[start..at], target) {
                 let function = format!("{name}::{}", code[start + 1].text);
                 let target = target.iter().map(|token| token.text).collect();
-                found.push(Store { function, line: token.line, target });
+                let method = is_method.then(|| token.text.to_string());
+                found.push(Store { function, line: token.line, target, method });
             }
         }
     }
@@ -260,25 +284,43 @@ fn sources(folder: &str) -> Vec<String> {
     found
 }
 
+/// The functions that store, those that store numbers of an answer, and the stores of others.
+#[derive(Default)]
+struct Judged {
+    storing: Vec<String>,
+    answering: BTreeSet<String>,
+    strays: Vec<String>,
+}
+
+impl Judged {
+    /// With the stores in a source of this crate.
+    fn judge(&mut self, name: &str, path: &str, source: &str) {
+        for Store { function, line, target, method } in stores(name, source) {
+            let fills = |method: &String| FILLING.contains(&(&*function, &**method));
+            let is_answer = ANSWERING.contains(&&*function) && target.starts_with("out[");
+            if is_answer && method.as_ref().is_none_or(fills) {
+                self.answering.insert(function);
+                continue;
+            }
+            let is_one = STORING.contains(&&*function) && method.is_none();
+            if !is_one || self.storing.contains(&function) {
+                self.strays.push(format!("{path}:{line}: {function} stores to {target}"));
+            }
+            self.storing.push(function);
+        }
+    }
+}
+
 #[test]
 fn one_function_for_each_store() {
-    let (mut storing, mut strays) = (Vec::new(), Vec::new());
-    let mut answering = BTreeSet::new();
+    let mut judged = Judged::default();
     for (name, _) in libraries() {
         for path in sources(&format!("crates/{name}/src")) {
             let source = fs::read_to_string(root().join(&path)).expect("a source");
-            for Store { function, line, target } in stores(&name, &source) {
-                if ANSWERING.contains(&&*function) && target.starts_with("out[") {
-                    answering.insert(function);
-                    continue;
-                }
-                if !STORING.contains(&&*function) || storing.contains(&function) {
-                    strays.push(format!("{path}:{line}: {function} stores to {target}"));
-                }
-                storing.push(function);
-            }
+            judged.judge(&name, &path, &source);
         }
     }
+    let Judged { mut storing, answering, strays } = judged;
     let strays = strays.join("\n");
     assert!(strays.is_empty(), "stores beside the one of each of {STORING:?}:\n{strays}");
     storing.sort();
@@ -286,45 +328,103 @@ fn one_function_for_each_store() {
     assert!(answering.iter().eq(&ANSWERING), "{answering:?}");
 }
 
-/// The functions whose calls pick a list of stores (`Brand`), and with that say which list is kept to.
-const PICKING: [&str; 8] = [
-    "paint::paint_part",
-    "paint::paint_word_part",
-    "palette::create_gradient",
-    "palette::set_palette",
-    "palette::set_palette_compressed",
-    "video1::paint_frame",
-    "whole::paint_whole",
-    "word_whole::paint_word_whole",
+/// The functions whose calls pick a list of stores (`Brand`), and with that say which list is kept
+/// to, and what each calls so.
+const PICKING: [(&str, &str); 10] = [
+    ("paint::paint_part", "paint::first_part"),
+    ("paint::paint_word_part", "paint::first_part"),
+    ("palette::create_gradient", "palette::put_gradients"),
+    ("palette::set_palette", "palette::put_entries"),
+    ("palette::set_palette_compressed", "palette::put_groups"),
+    ("video1::paint_frame", "video1::paint_code"),
+    ("whole::paint_and_pass", "whole::paint_block"),
+    ("whole::paint_whole", "whole::paint_pixels"),
+    ("word_whole::paint_word_and_pass", "word_whole::paint_block"),
+    ("word_whole::paint_word_whole", "word_whole::paint_pixels"),
 ];
 
-/// No contract says where a list is picked: a call with one of its own could store in any order. So
-/// each call that picks stands here, and what they call asks that the list is that of a block or a body.
-#[test]
-fn lists_are_picked_here_alone() {
-    let (mut picking, mut lists) = (Vec::new(), Vec::new());
-    for (name, _) in libraries() {
-        for path in sources(&format!("crates/{name}/src")) {
-            let source = fs::read_to_string(root().join(&path)).expect("a source");
-            let code = code(&source);
-            let mut function = "";
-            for at in 0..code.len() {
-                match code[at].text {
-                    "fn" => function = code[at + 1].text,
-                    "Brand" if code[at - 1].text == "<" => {
-                        picking.push(format!("{name}::{function}"))
-                    }
-                    "Brand" if code[at - 1].text == "for" => {
-                        lists.push(code[at - 2].text.to_string())
-                    }
-                    _ => (),
+/// The traits whose ghost members are lists.
+const LISTS: [&str; 2] = ["Drawing", "Listing"];
+
+/// The calls that pick a list, each with its function; the traits that `Brand` has; and what might
+/// pick a list unseen: `Brand` under another name, and a list of another type.
+#[derive(Default)]
+struct Picks {
+    calls: Vec<(String, String)>,
+    lists: Vec<String>,
+    strays: Vec<String>,
+}
+
+impl Picks {
+    /// With those in a source of this crate.
+    fn read(&mut self, name: &str, source: &str) {
+        let code = code(source);
+        let texts: Vec<&str> = code.iter().map(|token| token.text).collect();
+        let mut function = "";
+        for at in 0..texts.len() {
+            let (before, from) = texts.split_at(at);
+            let is_stray = match (before, from) {
+                (_, ["fn", named, ..]) => {
+                    function = named;
+                    false
                 }
+                ([before @ .., _, ":", ":", "<"], ["Brand", ..]) => {
+                    let called = callee(name, &texts, &texts[..before.len() + 1]);
+                    self.calls.push((format!("{name}::{function}"), called));
+                    false
+                }
+                ([.., "impl", list, "for"], ["Brand", "{", ..]) => {
+                    self.lists.push(list.to_string());
+                    false
+                }
+                ([.., "use", "std", ":", ":", "marker", ":", ":"], ["Brand", ";", ..]) => false,
+                (_, ["Brand", ..] | ["marker", ":", ":", "*", ..]) => true,
+                ([.., "impl"], [_, "for", "Brand", "{", ..]) => false,
+                (_, [list, "for" | "as" | "<", ..]) => LISTS.contains(list),
+                _ => false,
+            };
+            if is_stray {
+                let line = code[at].line;
+                self.strays.push(format!("{name}::{function}: {line}: {}", texts[at]));
             }
         }
     }
-    picking.sort();
-    assert_eq!(picking, PICKING);
-    assert_eq!(lists, ["Drawing", "Listing"]);
+}
+
+/// What is called where these texts end, as it is written; a function of the crate's own source
+/// that is called by its mere name comes with the crate's.
+fn callee(name: &str, source: &[&str], before: &[&str]) -> String {
+    let mut first = before.len() - 1;
+    while first >= 3 && before[first - 2..first] == [":", ":"] {
+        first -= 3;
+    }
+    if first > 0 && before[first - 1] == "." {
+        first -= 1;
+    }
+    let called = before[first..].concat();
+    match source.windows(2).any(|pair| pair == ["fn", &*called]) {
+        true => format!("{name}::{called}"),
+        false => called,
+    }
+}
+
+/// No contract says where a list is picked: a call with one of its own could store in any order. So
+/// each call that picks stands here, and what it calls asks that the list is that of a block or a
+/// body. It would pick one for `put` itself as well, which asks no such thing.
+#[test]
+fn lists_are_picked_here_alone() {
+    let mut picks = Picks::default();
+    for (name, _) in libraries() {
+        for path in sources(&format!("crates/{name}/src")) {
+            let source = fs::read_to_string(root().join(&path)).expect("a source");
+            picks.read(&name, &source);
+        }
+    }
+    assert!(picks.strays.is_empty(), "{:?}", picks.strays);
+    picks.calls.sort();
+    let calls: Vec<_> = picks.calls.iter().map(|(by, called)| (&**by, &**called)).collect();
+    assert_eq!(calls, PICKING);
+    assert_eq!(picks.lists, LISTS);
 }
 
 /// Behind a function of the kit a store would not be seen.
@@ -361,6 +461,13 @@ fn stores_are_found() {
         ("let mut q = s; q.rows = 8;", "q.rows"),
         ("let mut q = S { part: b }; q.part[0] = 8;", "q.part[0]"),
         ("let mut q = S { rows: 1 }; s.rows = 8;", "s.rows"),
+        ("if c { let mut s = S { rows: 1 }; s.rows = 2; } s.rows = 8;", "s.rows"),
+        ("let mut q = S { rows: 1 }; let q = s; q.rows = 8;", "q.rows"),
+        ("let mut q = S { rows: 1 }; if let Some(q) = g(s) { q.rows = 8; }", "q.rows"),
+        ("let mut q = S { rows: 1 }; match g(s) { T { q, .. } => q.rows = 8 }", "q.rows"),
+        ("let mut q = S { rows: 1 }; for q in g(s) { q.rows = 8; }", "q.rows"),
+        ("let mut q = S { rows: 1 }; g(s, |q| { q.rows = 8; });", "q.rows"),
+        ("let mut q = S { rows: 1 }.of(s); q.rows = 8;", "q.rows"),
         ("g(b'{'); /* } */ b[0] = b'\\''; // }", "b[0]"),
         ("b[1..3].fill(0);", "b[1..3]"),
         ("b.swap(0, 1);", "b"),
@@ -375,6 +482,7 @@ fn stores_are_found() {
         "// b[0] = 1;\n /* *p = 1; */ g(b\"b[0] = 1;\\\"\");",
         "if let A(x) = g(b[0]) { h(x) }",
         "let mut q = S { rows: 1, part: b }; q.rows = 8; q.rows += 1;",
+        "let mut q = S { rows: 1 }; loop { if c { g(q.rows); q.rows += 1; } else { q.rows = 8; } }",
     ] {
         assert!(targets(body).is_empty(), "{body}: {:?}", targets(body));
     }
@@ -386,4 +494,98 @@ fn stores_are_found() {
     let found = stores("x", contract);
     assert_eq!(found.len(), 1);
     assert_eq!((&*found[0].function, found[0].line), ("x::f", 4));
+}
+
+/// A method stores many numbers at once: it is the store of no function but the one that is named.
+#[test]
+fn methods_are_strays() {
+    let strays = |name: &str, function: &str, body: &str| {
+        let mut judged = Judged::default();
+        let source = format!("fn {function}(out: &mut [usize], s: &[usize]) {{ {body} }}");
+        judged.judge(name, "p", &source);
+        judged.strays
+    };
+    for (name, function, body) in [
+        ("mve_states", "put_no_state", "out[8..26].fill(0);"),
+        ("mve_states", "put_numbers", "for i in 0..18 { out[8 + i] = s[i]; }"),
+        ("palette", "put", "out[0] = 1;"),
+    ] {
+        assert_eq!(strays(name, function, body), [""; 0], "{function}: {body}");
+    }
+    for (name, function, body, target) in [
+        ("mve_states", "put_map", "out[8..26].fill(0);", "out[8..26]"),
+        ("mve_states", "put_numbers", "out[8..26].copy_from_slice(s);", "out[8..26]"),
+        ("mve_states", "put_no_state", "out[8..26].copy_from_slice(s);", "out[8..26]"),
+        ("mve_states", "put_no_state", "out.fill(0);", "out"),
+        ("mve_steps", "put_no_state", "out[8..26].fill(0);", "out[8..26]"),
+        ("palette", "put", "out[0..3].fill(1);", "out[0..3]"),
+        ("room", "put_byte", "out.swap(0, 1);", "out"),
+    ] {
+        let found = format!("p:1: {name}::{function} stores to {target}");
+        assert_eq!(strays(name, function, body), [found], "{function}: {body}");
+    }
+}
+
+/// A list is picked by `Brand` alone, under its own name, and by what calls which is told.
+#[test]
+fn picks_are_found() {
+    let picks = |source: &str| {
+        let mut picks = Picks::default();
+        picks.read("palette", source);
+        picks
+    };
+    let import = "use std::marker::Brand;\n";
+    let own = "fn put_entries<L: Listing>() {} fn put<L: Listing>() {}\n";
+    for (call, called) in [
+        ("put_entries::<Brand>(b)", "palette::put_entries"),
+        ("return put_entries::<Brand>(b)", "palette::put_entries"),
+        ("put::<Brand, u8>(b)", "palette::put"),
+        ("put_other::<Brand>(b)", "put_other"),
+        ("other::put_entries::<Brand>(b)", "other::put_entries"),
+        ("b.put_entries::<Brand>()", ".put_entries"),
+        ("PhantomData::<Brand>", "PhantomData"),
+    ] {
+        let found = picks(&format!("{import}{own}fn set_palette(b: &[u8]) {{ {call}; }}"));
+        assert_eq!(found.strays, [""; 0], "{call}");
+        let pair = ("palette::set_palette".to_string(), called.to_string());
+        let is_known = PICKING.contains(&(&*pair.0, &*pair.1));
+        assert_eq!(is_known, called == "palette::put_entries", "{call}");
+        assert_eq!(found.calls, [pair], "{call}");
+    }
+    for source in [
+        "use std::marker::Brand as B; fn f() { put::<B, u8>(b); }",
+        "use std::marker::{Brand};",
+        "use std::marker::{Brand as B, PhantomData};",
+        "use std::marker::*;",
+        "pub use std::marker::Brand::{self};",
+        "use std::marker; fn f() { put::<marker::Brand, u8>(b); }",
+        "use paint::Brand;",
+        "fn f() { put::<std::marker::Brand, u8>(b); }",
+        "fn f() { put::<u8, Brand>(b); }",
+        "fn f(h: Held<Brand>) {}",
+        "type B = std::marker::Brand;",
+        "type B = Brand;",
+        "impl Has for u8 { type Of = Brand; }",
+        "struct Brand;",
+        "struct Mine; impl Drawing for Mine { ghost plan = { mine }; }",
+        "struct Mine; impl Listing for Mine { ghost list = { mine }; }",
+        "struct Mine; impl paint::Drawing for Mine {}",
+        "struct Mine; impl Drawing<> for Mine {}",
+        "impl<T> Drawing for T {}",
+        "impl paint::Drawing for Brand {}",
+        "impl Drawing for Brand<u8> {}",
+        "use paint::Drawing as D; impl D for Mine {}",
+        "use paint::{Pixel, Drawing as D};",
+    ] {
+        assert!(!picks(source).strays.is_empty(), "{source}");
+    }
+    let declared = "use std::marker::Brand;\nuse paint::{Drawing, Pixel};
+        trait Listing { ghost list: { List Store }; }
+        impl Listing for Brand { ghost list = { [] }; }
+        fn put<L: Listing, D: Drawing>() where L: Listing {}
+        // Brand as B\n";
+    let found = picks(declared);
+    assert_eq!((found.calls, found.lists), (Vec::new(), vec!["Listing".to_string()]));
+    assert_eq!(found.strays, [""; 0]);
+    assert_eq!(picks("impl Other for Brand {}").lists, ["Other"]);
 }

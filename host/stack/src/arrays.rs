@@ -5,8 +5,9 @@
 //! A value with an array comes into a function as a literal, by a parameter, from a call, out of a
 //! constant, or out of such a value; so it is enough to look at literals, signatures, constants and
 //! the types that are named. The bodies are read token by token, so that no call is passed over. A
-//! method is looked up by its name alone, in every type that the crate can see: that may follow too
-//! much, never too little. What is not found is a fault, too.
+//! method is looked up by its name alone, in every type that the crate can see and in every `impl`
+//! of a trait; so is a function or a constant behind a type parameter or a trait. That may follow
+//! too much, never too little. What is not found is a fault, too.
 
 use crate::source::{arguments_in, group_end, type_in, Type};
 use crate::tokens::{Kind, Token};
@@ -239,6 +240,8 @@ impl<'t> Scan<'t> {
         match &*token.text {
             "#" => return group_end(self.body, at + 1).map_or(self.body.len(), |end| end + 1),
             ":" => return self.typed.get(&at).copied().unwrap_or(at + 1),
+            // behind `<T as Trait>`, whose name alone would be taken for a local's
+            "::" => self.fault(token.line, "what stands in front of :: is not read"),
             "[" if !self.is_value(at) => self.fault(token.line, "an array"),
             _ => (),
         }
@@ -286,11 +289,15 @@ impl<'t> Scan<'t> {
             self.fault(*line, format!("what stands behind {text} is not read"));
         }
         if self.is(at + 1, "(") {
-            let methods = self.tree.methods(self.scope().module, text);
-            if methods.is_empty() && !METHODS.contains(&&**text) {
+            let members = self.tree.members(self.scope().module, text);
+            let known = self.calls.len();
+            self.calls.extend(members.iter().filter_map(|member| match member {
+                Named::Function(id) => Some(*id),
+                _ => None,
+            }));
+            if self.calls.len() == known && !METHODS.contains(&&**text) {
                 self.fault(*line, format!("no method {text} is found"));
             }
-            self.calls.extend(methods);
         }
         at + 1
     }
@@ -374,43 +381,55 @@ impl<'t> Scan<'t> {
         }
     }
 
-    /// A function of a type parameter, whose type is not known here: that of every type that has one.
-    fn of_parameter(&mut self, line: usize, path: &[String], is_called: bool) -> bool {
-        let [of, name] = path else { return false };
-        if !self.placed.function.generics.contains(of) {
-            return false;
+    /// A function or a constant behind a type that is not known here, or whose `impl`s are several:
+    /// that of every type that has one. Whether there is any.
+    fn members(&mut self, at: usize, end: usize, name: &str) -> bool {
+        let tree = self.tree;
+        let members = tree.members(self.scope().module, name);
+        for member in &members {
+            match member {
+                Named::Function(id) => self.calls.push(*id),
+                Named::Constant(id) => self.constant(at, end, &tree.constants[*id]),
+                Named::Module(_) | Named::Type(_) | Named::Kit(_) => (),
+            }
         }
-        if !is_called {
-            return true; // a constant, of which no trait's type is an array
-        }
-        let methods = self.tree.methods(self.scope().module, name);
-        if methods.is_empty() {
-            self.fault(line, format!("{of}::{name} is not found"));
-        }
-        self.calls.extend(methods);
-        true
+        !members.is_empty()
     }
 
     fn named(&mut self, at: usize, end: usize, path: &[String], is_called: bool) {
         let line = self.body[at].line;
         let whole = path.join("::");
-        if self.of_parameter(line, path, is_called) || VALUES.contains(&&*whole) {
-            return;
+        match path {
+            [of, name] if self.placed.function.generics.contains(of) => {
+                if !self.members(at, end, name) {
+                    self.fault(line, format!("{whole} is not found"));
+                }
+                return;
+            }
+            _ => (),
         }
         match self.tree.find(self.scope(), path) {
-            // a local may have a function's name, but is not called
-            Some(Named::Function(id)) if is_called || path.len() > 1 => self.calls.push(id),
-            Some(Named::Function(_)) => (),
+            Some(found) if self.tree.is_of_trait(&found) => {
+                self.members(at, end, path.last().map_or("", |name| name));
+            }
+            // one that is not called may be so where it is given; or it is a local of that name
+            Some(Named::Function(id)) => self.calls.push(id),
             Some(Named::Type(id)) => match self.tree.type_has_array(id) {
                 Ok(false) => (),
                 Ok(true) => self.fault(line, format!("a value of {whole}, which has an array")),
                 Err(name) => self.fault(line, format!("the type {name} is not found")),
             },
             Some(Named::Constant(id)) => self.constant(at, end, &self.tree.constants[id]),
-            Some(Named::Kit(name)) if is_known(&name, is_called) => (),
             Some(Named::Kit(name)) => {
-                self.fault(line, format!("{name} is not among what is known of the kit"));
+                // an `impl` here may give a type of the language a member
+                if let Some((_, member)) = name.rsplit_once("::") {
+                    self.members(at, end, member);
+                }
+                if !is_known(&name, is_called) {
+                    self.fault(line, format!("{name} is not among what is known of the kit"));
+                }
             }
+            None if VALUES.contains(&&*whole) => (),
             Some(Named::Module(_)) | None if is_called || path.len() > 1 => {
                 self.fault(line, format!("{whole} is not found"));
             }
@@ -421,7 +440,10 @@ impl<'t> Scan<'t> {
     /// A constant, named from `at` to `end`: what is taken of it has no array, or is lent.
     fn constant(&mut self, at: usize, end: usize, constant: &PlacedConstant) {
         let line = self.body[at].line;
-        let scope = Scope { module: constant.module, own: None };
+        let scope = constant.scope;
+        if self.tree.has_array(scope, &constant.kind) == Ok(false) {
+            return; // nor has what is taken of it
+        }
         match self.taken(scope, &constant.kind, end) {
             Some(kind) => match self.tree.has_array(scope, &kind) {
                 Ok(false) => (),
@@ -470,9 +492,32 @@ impl<'t> Scan<'t> {
         if at == 0 || !self.is(at - 1, "&") {
             return false;
         }
-        let is_argument =
-            self.openers.last().is_some_and(|open| self.is(*open, "(") && self.is_value(*open));
+        let takes = |open: &usize| {
+            self.is(*open, "(") && self.is_value(*open) && self.is_of_known_types(*open)
+        };
+        let is_argument = self.openers.last().is_some_and(takes);
         let begins = at > 1 && (self.is(at - 2, "(") || self.is(at - 2, ","));
         is_argument && begins || self.typed.values().any(|end| end + 2 == at)
+    }
+
+    /// Whether what is called at this opening sign says its parameters' types: in the place of a
+    /// type parameter, or in an `Option`, a table would be an array that no type names.
+    fn is_of_known_types(&self, open: usize) -> bool {
+        let mut first = open - 1;
+        while first >= 2 && self.is(first - 1, "::") {
+            first -= 2;
+        }
+        let words = self.body[first..open].iter().step_by(2);
+        let path: Vec<String> = words.map(|token| token.text.clone()).collect();
+        let is_method = first > 0 && self.is(first - 1, ".");
+        let called = match self.tree.find(self.scope(), &path) {
+            Some(found) if !is_method && !self.tree.is_of_trait(&found) => vec![found],
+            _ => self.tree.members(self.scope().module, &self.body[open - 1].text),
+        };
+        let is_plain = |found: &Named| match found {
+            Named::Function(id) => self.tree.functions[*id].function.generics.is_empty(),
+            _ => false,
+        };
+        !called.is_empty() && called.iter().all(is_plain)
     }
 }

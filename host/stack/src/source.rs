@@ -33,6 +33,11 @@ impl Type {
         }
     }
 
+    /// As it stands in an `impl` of a type of the language.
+    pub fn of(self, own: &[String]) -> Type {
+        self.with("Self", &Type::Named(own.to_vec()))
+    }
+
     /// With nothing in place of each of these type parameters.
     pub fn without(self, names: &[String]) -> Type {
         names.iter().fold(self, |of, name| of.with(name, &Type::Several(Vec::new())))
@@ -48,6 +53,8 @@ pub struct Function {
     pub line: usize,
     /// Whether it is `#[unsafe(no_mangle)]` and `extern "C"`.
     pub exported: bool,
+    /// Whether it stands in a trait or in an `impl` of one.
+    pub of_trait: bool,
     /// The names of its type and const parameters, with those of its `impl` or trait.
     pub generics: Vec<String>,
     /// The types of its parameters and of its result, each with its line.
@@ -67,11 +74,32 @@ impl Function {
 
     /// As it stands in an `impl` of a type of the language.
     pub fn of(mut self, own: &[String]) -> Function {
-        let own = Type::Named(own.to_vec());
         let signature = self.signature.into_iter();
-        self.signature = signature.map(|(kind, line)| (kind.with("Self", &own), line)).collect();
+        self.signature = signature.map(|(kind, line)| (kind.of(own), line)).collect();
         self
     }
+}
+
+/// What stands in an `impl` or a trait.
+#[derive(Clone, Debug, Default)]
+pub struct Members {
+    /// The functions.
+    pub functions: Vec<Function>,
+    /// The constants, with their types.
+    pub constants: Vec<(String, Type)>,
+}
+
+/// An `impl`.
+#[derive(Clone, Debug)]
+pub struct Block {
+    /// The path of the type that it is for.
+    pub path: Vec<String>,
+    /// The path of the trait that it is of.
+    pub of: Option<Vec<String>>,
+    /// Where it begins.
+    pub line: usize,
+    /// What it has.
+    pub members: Members,
 }
 
 /// A struct, an enum or another name for a type.
@@ -95,10 +123,10 @@ pub enum Item {
     Function(Function),
     /// `struct`, `enum`, `type`
     Type(Declared),
-    /// `impl`, of a trait or not: the type's path, the line, the functions.
-    Methods(Vec<String>, usize, Vec<Function>),
-    /// `trait`: its name, the functions.
-    Trait(String, Vec<Function>),
+    /// `impl`, of a trait or not.
+    Methods(Block),
+    /// `trait`: its name, and what it has.
+    Trait(String, Members),
     /// `const`
     Constant(String, Type),
     /// `use`: the name that it gives, the path, the line.
@@ -307,7 +335,7 @@ impl<'t> Reader<'t> {
             "struct" => self.read_struct().map(Item::Type),
             "enum" => self.read_enum().map(Item::Type),
             "type" => self.alias().map(Item::Type),
-            "const" => self.constant(),
+            "const" => self.constant().map(|(name, kind)| Item::Constant(name, kind)),
             "mod" => self.module(),
             "impl" => self.methods(line),
             "trait" => self.read_trait(),
@@ -352,7 +380,8 @@ impl<'t> Reader<'t> {
         let is_declared = in_trait && self.eat(";");
         let body = if is_declared { Vec::new() } else { self.group("{")?.to_vec() };
         let exported = no_mangle && is_extern;
-        let function = Function { name, line, exported, generics: Vec::new(), signature, body };
+        let (of_trait, own) = (false, Vec::new());
+        let function = Function { name, line, exported, of_trait, generics: own, signature, body };
         Ok(function.inside(&generics))
     }
 
@@ -496,12 +525,14 @@ impl<'t> Reader<'t> {
         Ok(Declared { name, holds, variants: Vec::new(), is_alias: true })
     }
 
-    /// The value is not kept: the language allows no call in it.
-    fn constant(&mut self) -> Result<Item, String> {
+    /// The value is not kept: the language allows no call in it. In a trait it may be missing.
+    fn constant(&mut self) -> Result<(String, Type), String> {
         let name = self.word()?;
         self.expect(":")?;
         let kind = self.read_type()?;
-        self.expect("=")?;
+        if !self.sees(";") {
+            self.expect("=")?;
+        }
         while !self.eat(";") {
             match self.tokens.get(self.at) {
                 None => return self.fault(";"),
@@ -510,7 +541,7 @@ impl<'t> Reader<'t> {
                 Some(_) => self.at += 1,
             }
         }
-        Ok(Item::Constant(name, kind))
+        Ok((name, kind))
     }
 
     /// What stands behind `use`: a path, or several from one beginning.
@@ -557,41 +588,45 @@ impl<'t> Reader<'t> {
     /// Behind `impl`: of a type, or of a trait for one.
     fn methods(&mut self, line: usize) -> Result<Item, String> {
         let generics = self.generics()?;
-        let mut path = self.path()?;
+        let (mut path, mut of) = (self.path()?, None);
         self.arguments()?;
         if self.eat("for") {
-            path = self.path()?;
+            of = Some(std::mem::replace(&mut path, self.path()?));
             self.arguments()?;
         }
         self.skip_to(&["{"]);
-        let functions = Reader::new(self.group("{")?).members(&generics)?;
-        Ok(Item::Methods(path, line, functions))
+        let members = Reader::new(self.group("{")?).members(&generics, of.is_some())?;
+        Ok(Item::Methods(Block { path, of, line, members }))
     }
 
     fn read_trait(&mut self) -> Result<Item, String> {
         let name = self.word()?;
         let generics = self.generics()?;
         self.skip_to(&["{"]);
-        let functions = Reader::new(self.group("{")?).members(&generics)?;
-        Ok(Item::Trait(name, functions))
+        let members = Reader::new(self.group("{")?).members(&generics, true)?;
+        Ok(Item::Trait(name, members))
     }
 
-    /// The functions of an `impl` or a trait. Constants and types in it are not kept; of what only
-    /// the prover reads the last sign is left.
-    fn members(&mut self, generics: &[String]) -> Result<Vec<Function>, String> {
-        let mut functions = Vec::new();
+    /// What an `impl` or a trait has. Types in it are not kept, so that one that is named is not
+    /// found; of what only the prover reads the last sign is left.
+    fn members(&mut self, generics: &[String], of_trait: bool) -> Result<Members, String> {
+        let mut members = Members::default();
         while self.at < self.tokens.len() {
             if self.eat(";") {
                 continue;
             }
             let no_mangle = self.attributes()?;
             self.visibility()?;
-            if self.eat("const") || self.eat("type") {
+            if self.eat("const") {
+                let (name, kind) = self.constant()?;
+                members.constants.push((name, kind.without(generics)));
+            } else if self.eat("type") {
                 self.skip_to(&[";"]);
             } else {
-                functions.push(self.function(no_mangle, true)?.inside(generics));
+                let function = self.function(no_mangle, true)?.inside(generics);
+                members.functions.push(Function { of_trait, ..function });
             }
         }
-        Ok(functions)
+        Ok(members)
     }
 }

@@ -1,6 +1,6 @@
 //! The library crates of a repository, and what a name means at a place in them.
 
-use crate::source::{items, Declared, Function, Item, Type};
+use crate::source::{items, Block, Declared, Function, Item, Members, Type};
 use std::collections::{BTreeMap, BTreeSet};
 use std::path::Path;
 use std::{fs, io};
@@ -65,7 +65,9 @@ pub struct PlacedType {
     pub declared: Declared,
     /// The module that it stands in.
     pub module: usize,
-    methods: BTreeMap<String, usize>,
+    /// Whether it is a trait, which has the members that it declares.
+    is_trait: bool,
+    members: BTreeMap<String, Named>,
 }
 
 /// A constant in the tree.
@@ -75,8 +77,8 @@ pub struct PlacedConstant {
     pub name: String,
     /// Its type.
     pub kind: Type,
-    /// The module that it stands in.
-    pub module: usize,
+    /// Where it stands.
+    pub scope: Scope,
 }
 
 #[derive(Debug)]
@@ -96,15 +98,6 @@ struct Module {
     entries: BTreeMap<String, Entry>,
 }
 
-/// An `impl` whose type is not yet looked up.
-#[derive(Debug)]
-struct Methods {
-    module: usize,
-    path: Vec<String>,
-    line: usize,
-    functions: Vec<Function>,
-}
-
 /// The library crates of a repository.
 #[derive(Debug, Default)]
 pub struct Tree {
@@ -119,9 +112,10 @@ pub struct Tree {
     roots: BTreeMap<String, usize>,
     /// What each crate depends on.
     needs: BTreeMap<String, Vec<String>>,
-    /// Methods of types of the language and of the kit, by their names.
-    foreign: BTreeMap<String, Vec<usize>>,
-    pending: Vec<Methods>,
+    /// Members of types of the language and of the kit, by their names.
+    foreign: BTreeMap<String, Vec<Named>>,
+    /// Each `impl` whose type is not yet looked up, with its module.
+    pending: Vec<(usize, Block)>,
 }
 
 /// The sources of a repository by their paths, and its `crates.txt`.
@@ -173,8 +167,8 @@ impl Tree {
             let id = tree.add_file(sources, name, None, name, &file)?;
             tree.roots.insert(name.to_string(), id);
         }
-        for block in std::mem::take(&mut tree.pending) {
-            tree.add_methods(block)?;
+        for (module, block) in std::mem::take(&mut tree.pending) {
+            tree.add_block(module, block)?;
         }
         tree.look_up_imports()?;
         Ok(tree)
@@ -216,8 +210,8 @@ impl Tree {
 
     fn add_item(&mut self, sources: &Sources, module: usize, item: Item) -> Result<(), String> {
         let (name, entry) = match item {
-            Item::Methods(path, line, functions) => {
-                self.pending.push(Methods { module, path, line, functions });
+            Item::Methods(block) => {
+                self.pending.push((module, block));
                 return Ok(());
             }
             Item::Import(name, path, line) => (name, Entry::Import(path, line)),
@@ -226,26 +220,24 @@ impl Tree {
                 let id = self.add_function(Scope { module, own: None }, "", function);
                 (name, Entry::Item(Named::Function(id)))
             }
-            Item::Trait(name, functions) => {
+            Item::Trait(name, members) => {
                 let declared = Declared {
                     name: name.clone(),
                     holds: Vec::new(),
                     variants: Vec::new(),
                     is_alias: false,
                 };
-                self.types.push(PlacedType { declared, module, methods: BTreeMap::new() });
-                let own = self.types.len() - 1;
-                self.add_methods_of(module, own, functions)?;
+                let own = self.add_type(module, declared, true);
+                self.add_members(module, own, members)?;
                 (name, Entry::Item(Named::Type(own)))
             }
             Item::Type(declared) => {
                 let name = declared.name.clone();
-                self.types.push(PlacedType { declared, module, methods: BTreeMap::new() });
-                (name, Entry::Item(Named::Type(self.types.len() - 1)))
+                (name, Entry::Item(Named::Type(self.add_type(module, declared, false))))
             }
             Item::Constant(name, kind) => {
-                self.constants.push(PlacedConstant { name: name.clone(), kind, module });
-                (name, Entry::Item(Named::Constant(self.constants.len() - 1)))
+                let id = self.add_constant(Scope { module, own: None }, &name, kind);
+                (name, Entry::Item(Named::Constant(id)))
             }
             Item::Module(name, inside) => {
                 let id = self.add_inner(sources, module, &name, inside)?;
@@ -292,37 +284,64 @@ impl Tree {
         self.functions.len() - 1
     }
 
-    fn add_methods(&mut self, block: Methods) -> Result<(), String> {
-        let Methods { module, path, line, functions } = block;
-        match self.find(Scope { module, own: None }, &path) {
-            Some(Named::Type(own)) => self.add_methods_of(module, own, functions),
+    fn add_constant(&mut self, scope: Scope, name: &str, kind: Type) -> usize {
+        self.constants.push(PlacedConstant { name: name.to_string(), kind, scope });
+        self.constants.len() - 1
+    }
+
+    fn add_type(&mut self, module: usize, declared: Declared, is_trait: bool) -> usize {
+        self.types.push(PlacedType { declared, module, is_trait, members: BTreeMap::new() });
+        self.types.len() - 1
+    }
+
+    /// An `impl`; of no trait of the kit, as `Add` or `Drop`, whose methods run where no call names
+    /// them.
+    fn add_block(&mut self, module: usize, block: Block) -> Result<(), String> {
+        let Block { path, of, line, members } = block;
+        let scope = Scope { module, own: None };
+        let fault = |what: &str, path: &[String]| {
+            let file = &self.modules[module].file;
+            Err(format!("{file}:{line}: no {what} {} is found", path.join("::")))
+        };
+        if let Some(of) = of {
+            match self.find(scope, &of) {
+                Some(Named::Type(id)) if self.types[id].is_trait => (),
+                _ => return fault("trait", &of),
+            }
+        }
+        match self.find(scope, &path) {
+            Some(Named::Type(own)) => self.add_members(module, own, members),
             Some(Named::Kit(name)) => {
-                for function in functions {
+                for function in members.functions {
                     let method = function.name.clone();
-                    let function = function.of(&path);
-                    let id = self.add_function(Scope { module, own: None }, &name, function);
-                    self.foreign.entry(method).or_default().push(id);
+                    let id = self.add_function(scope, &name, function.of(&path));
+                    self.foreign.entry(method).or_default().push(Named::Function(id));
+                }
+                for (constant, kind) in members.constants {
+                    let id = self.add_constant(scope, &constant, kind.of(&path));
+                    self.foreign.entry(constant).or_default().push(Named::Constant(id));
                 }
                 Ok(())
             }
-            _ => {
-                let file = &self.modules[module].file;
-                Err(format!("{file}:{line}: no type {} is found", path.join("::")))
-            }
+            _ => fault("type", &path),
         }
     }
 
-    fn add_methods_of(
-        &mut self,
-        module: usize,
-        own: usize,
-        functions: Vec<Function>,
-    ) -> Result<(), String> {
-        for function in functions {
+    fn add_members(&mut self, module: usize, own: usize, members: Members) -> Result<(), String> {
+        let scope = Scope { module, own: Some(own) };
+        let mut placed = Vec::new();
+        for function in members.functions {
             let name = function.name.clone();
-            let id = self.add_function(Scope { module, own: Some(own) }, "", function);
-            if self.types[own].methods.insert(name.clone(), id).is_some() {
-                let own = &self.types[own].declared.name;
+            placed.push((name, Named::Function(self.add_function(scope, "", function))));
+        }
+        for (name, kind) in members.constants {
+            let id = self.add_constant(scope, &name, kind);
+            placed.push((name, Named::Constant(id)));
+        }
+        for (name, member) in placed {
+            let found = &mut self.types[own];
+            if found.members.insert(name.clone(), member).is_some() {
+                let own = &found.declared.name;
                 let file = &self.modules[module].file;
                 return Err(format!("{file}: {own}::{name} stands twice"));
             }
@@ -411,14 +430,14 @@ impl Tree {
         }
     }
 
-    /// A variant or an associated function.
+    /// A variant, an associated function or constant.
     fn inside_type(&self, id: usize, name: &str) -> Option<Named> {
-        let PlacedType { declared, module, methods } = &self.types[id];
+        let PlacedType { declared, module, members, .. } = &self.types[id];
         if declared.variants.iter().any(|variant| variant == name) {
             return Some(Named::Type(id));
         }
-        if let Some(function) = methods.get(name) {
-            return Some(Named::Function(*function));
+        if let Some(member) = members.get(name) {
+            return Some(member.clone());
         }
         match declared.holds.first() {
             Some((_, Type::Named(path))) if declared.is_alias => {
@@ -429,15 +448,30 @@ impl Tree {
         }
     }
 
-    /// The methods of this name of all types that a module's crate can see.
-    pub fn methods(&self, module: usize, name: &str) -> Vec<usize> {
+    /// The members of this name of all types that a module's crate can see, and those of traits in
+    /// every crate: a type parameter may stand for a type of a crate above.
+    pub fn members(&self, module: usize, name: &str) -> Vec<Named> {
         let seen = self.seen_from(&self.modules[module].library);
-        let is_seen = |module: usize| seen.contains(&*self.modules[module].library);
-        let types = self.types.iter().filter(|found| is_seen(found.module));
-        let own = types.filter_map(|found| found.methods.get(name).copied());
-        let foreign = self.foreign.get(name).into_iter().flatten().copied();
-        let foreign = foreign.filter(|id| is_seen(self.functions[*id].scope.module));
-        own.chain(foreign).collect()
+        let is_seen = |member: &&Named| match member {
+            Named::Function(id) => {
+                let PlacedFunction { function, scope, .. } = &self.functions[*id];
+                function.of_trait || seen.contains(&*self.modules[scope.module].library)
+            }
+            _ => true,
+        };
+        let own = self.types.iter().filter_map(|found| found.members.get(name));
+        let foreign = self.foreign.get(name).into_iter().flatten();
+        own.chain(foreign).filter(is_seen).cloned().collect()
+    }
+
+    /// Whether that is what a trait declares: another stands in its place for each type.
+    pub fn is_of_trait(&self, member: &Named) -> bool {
+        let scope = match member {
+            Named::Function(id) => self.functions[*id].scope,
+            Named::Constant(id) => self.constants[*id].scope,
+            Named::Module(_) | Named::Type(_) | Named::Kit(_) => return false,
+        };
+        scope.own.is_some_and(|own| self.types[own].is_trait)
     }
 
     /// A crate and all that it depends on.

@@ -144,6 +144,16 @@ fn tables() {
         assert_eq!(in_body(body), ["a copy of the table TABLE"], "{body}");
     }
     assert_eq!(in_body("let row = ROWS[n]; n"), ["a copy of the table ROWS"]);
+    // lent as a type parameter it is an array that no type names
+    for call in ["id(&TABLE)", "Some(&TABLE)", "n.max(&TABLE)", "n.id(&TABLE)", "P::same(&TABLE)"] {
+        let source = format!(
+            "const TABLE: [u16; 4] = [1, 2, 3, 4]; fn id<T: Copy>(t: &T) -> T {{ *t }}
+            pub struct S {{ n: u8 }} impl S {{ fn id<T: Copy>(self, t: &T) -> T {{ *t }} }}
+            pub trait P {{ fn same<T: Copy>(t: &T) -> T; }}
+            pub fn offered(n: usize) {{ let x = {call}; }}"
+        );
+        assert_eq!(told(&source), ["4: offered: a copy of the table TABLE"], "{call}");
+    }
     let field = "pub struct T { a: [u8; 4], n: u8 }\nconst T0: T = T { a: [0; 4], n: 1 };\n";
     let with = |body: &str| told(&format!("{field}pub fn offered(i: usize) -> u8 {{ {body} }}"));
     assert_eq!(with("T0.a[i] + T0.n"), [""; 0]);
@@ -241,12 +251,122 @@ fn parameters() {
         where
             T: Copy,
         { let m: Option<T> = n; s.iter().rev().all(|x| *x < T::BYTES.min(N)); Ok(m) }";
-    assert_eq!(told(clean), [""; 0]);
+    assert_eq!(told(&format!("{traits} {clean}")), [""; 0]);
+    assert_eq!(told(clean), ["5: offered: T::BYTES is not found"]);
     for kind in
         ["Option<[u8; 4]>", "Result<(), [u8; 4]>", "(u8, [u8; 4])", "Option<Option<[u8; 4]>>"]
     {
         let source = format!("pub fn offered(x: {kind}) {{}}");
         assert_eq!(told(&source), ["1: offered: a parameter or result with an array"], "{kind}");
+    }
+}
+
+/// A table of a trait is a table, under whatever name of a type it stands.
+#[test]
+fn constants_of_traits() {
+    let table = "3: offered: a copy of the table T";
+    let with = |function: &str| {
+        let types = "type Table = [u8; 4]; const L: Table = [1, 2, 3, 4]; pub struct S { n: u8 }
+            pub trait P { const T: Table; const N: usize; }";
+        told(&format!("{types}\n{function}"))
+    };
+    let of_u8 = "impl P for u8 { const T: Table = L; const N: usize = 4; }";
+    for (function, kinds) in [
+        ("offered<X: P>(n: usize) -> u8 { let t = X::T; t[n] }", 2),
+        ("offered(n: usize) -> u8 { let t = u8::T; t[n] }", 2),
+        ("offered(n: usize) -> u8 { let t = Also::T; t[n] } type Also = u8;", 2),
+        ("offered(n: usize) -> u8 { let t = S::T; t[n] } impl P for S { const T: Table = L; }", 1),
+        ("offered(n: usize) -> u8 { let t = S::T; t[n] } impl S { const T: Table = L; }", 1),
+    ] {
+        let found = with(&format!("pub fn {function} {of_u8}"));
+        assert_eq!(found, vec![table; kinds], "{function}");
+    }
+    let own = "pub fn offered(q: u8) -> u8 { q.e() }
+        trait Q { const T: Table; fn e(self) -> u8 { let t = Self::T; t[0] } }";
+    let found = with(own);
+    assert!(found.contains(&"4: Q::e: a copy of the table T".to_string()), "{found:?}");
+    let value = "pub fn offered<X: Q>() { let w = X::W; } pub struct W { a: [u8; 4] }
+        pub trait Q { const W: Self; } impl Q for W { const W: Self = W { a: L }; }";
+    assert_eq!(with(value), ["3: offered: a copy of the table W"]);
+    assert_eq!(with("pub fn offered<X: P>() { X::M; }"), ["3: offered: X::M is not found"]);
+    for body in ["X::T[n]", "g(&X::T)", "g(&u8::T[1..])", "S::N as u8", "X::N.min(n) as u8"] {
+        let source = format!(
+            "pub trait P {{ const T: [u8; 4]; const N: usize; }} pub struct S {{ n: u8 }}
+            impl P for S {{ const T: [u8; 4] = [1, 2, 3, 4]; const N: usize = 1; }}
+            impl P for u8 {{ const T: [u8; 4] = [0; 4]; const N: usize = 4; }}
+            pub fn offered<X: P>(n: usize) -> u8 {{ {body} }} fn g(s: &[u8]) -> u8 {{ s[0] }}"
+        );
+        assert_eq!(told(&source), [""; 0], "{body}");
+    }
+}
+
+/// Of what a trait only declares the `impl`s are followed, and those of its own for a default.
+#[test]
+fn calls_by_a_trait() {
+    let types =
+        "pub trait P { fn f(self) -> u8; fn d(x: u8) -> u8 { Self::a(x) } fn a(x: u8) -> u8; }
+        pub struct S { n: u8 }
+        impl P for u8 { fn f(self) -> u8 { let x = [0; 3]; self }
+            fn a(x: u8) -> u8 { let x = [0; 3]; 1 } }
+        pub use P as Q;";
+    let (f, a) = ("3: u8::f: an array".to_string(), "4: u8::a: an array".to_string());
+    for (body, found) in [
+        ("P::f(x)", &f),
+        ("Q::f(x)", &f),
+        ("P::d(x)", &a),
+        ("P::a(x)", &a),
+        ("u8::f(x)", &f),
+        ("s.iter().all(u8::f)", &f),
+        ("s.iter().all(P::f)", &f),
+        ("s.iter().all(X::f)", &f),
+        ("s.iter().all(Self::f)", &f),
+    ] {
+        let source = format!(
+            "{types} pub fn offered(x: u8) -> u8 {{ S::g(x) }}
+            impl S {{ fn g<X: P>(x: u8) -> u8 {{ {body} }} }} impl S {{ fn f(self) {{ P::f(1) }} }}"
+        );
+        let told = told(&source);
+        assert!(told.contains(found), "{body}: {told:?}");
+    }
+    for body in ["<u8 as P>::f(x)", "<u8 as P>::T", "s.iter().all(<u8 as P>::f)"] {
+        let told = told(&format!("{types} fn f() {{}} pub fn offered(x: u8) -> u8 {{ {body} }}"));
+        let found = "5: offered: what stands in front of :: is not read".to_string();
+        assert!(told.contains(&found), "{body}: {told:?}");
+    }
+    let given = "pub fn offered(s: &[u8]) { s.iter().all(g); } fn g(x: &u8) { let y = [0; 3]; }";
+    assert_eq!(told(given), ["1: g: an array"]);
+    let named = "pub fn offered() { Some() } fn Some() { let x = [0; 3]; }";
+    assert_eq!(told(named), ["1: Some: an array"]);
+}
+
+/// A type parameter of a crate may be a type of one above it; and what runs by no name is refused.
+#[test]
+fn impls_in_other_crates() {
+    let b = "pub trait P { fn f(self); const T: u8; }
+        pub fn put<T: P>(t: T) { t.f() }
+        pub fn by<T: P>(t: T) { T::f(t) }
+        pub fn read<T: P>() { let t = T::T; }
+        pub fn all<T: P>(t: T) { P::f(t) }";
+    for (impls, offered) in [
+        ("impl b::P for W { fn f(self) { let x = [0; 3]; } }", "b::put(W)"),
+        ("impl b::P for W { fn f(self) { let x = [0; 3]; } }", "b::by(W)"),
+        ("impl b::P for W { fn f(self) { let x = [0; 3]; } }", "b::all(W)"),
+        ("impl b::P for u8 { fn f(self) { let x = [0; 3]; } }", "b::put(1)"),
+    ] {
+        let a = format!("pub struct W; {impls}\npub fn offered() {{ {offered} }}");
+        let found = faults(&[("b", "", b), ("a", "b", &a)]);
+        assert_eq!(found.len(), 1, "{a}: {found:?}");
+        assert!(found[0].ends_with("::f: an array"), "{a}: {found:?}");
+    }
+    let a = "pub struct W; type Table = [u8; 4]; const L: Table = [0; 4];
+        impl b::P for W { const T: Table = L; }
+        pub fn offered() { b::read::<W>() }";
+    let found = faults(&[("b", "", b), ("a", "b", a)]);
+    assert_eq!(found, ["crates/b/src/lib.rt:4: b::read: a copy of the table T"]);
+    for of in ["Drop", "std::ops::Add", "W", "missing::P"] {
+        let a = format!("pub struct W; impl {of} for W {{ fn f(self) {{}} }}");
+        let told = Tree::new(&sources(&[("a", "", &a)])).map(|_| ());
+        assert_eq!(told, Err(format!("crates/a/src/lib.rt:1: no trait {of} is found")));
     }
 }
 

@@ -17,12 +17,12 @@ paint_part-requires c = (drawable _ _ _ _ _ _ _ _ _ _ _ _ _ c.loop-k.invariant c
 pub returns-then-left-due : goal.returns-then-left-due
 returns-then-left-due c = going_stop _ _ _ _ _ _ _ _ _ _ _ _ _ c.loop-k.invariant c.requires c.loop-k-test.true _ _ [] c.code_at-code.ensures.0 c.data_from-s.ensures refl _ _ c.pixel_count-due.ensures c.if-left-due.true c.paint_part.ensures
 
-pub paint_whole-requires-clause-asked : goal.paint_whole-requires-clause-asked
-paint_whole-requires-clause-asked c = (8 * c.args.rows, drawable _ _ _ _ _ _ _ _ _ _ _ _ _ c.loop-k.invariant c.requires c.loop-k-test.true _ _ [] c.code_at-code.ensures.0 c.data_from-s.ensures refl _ (omega arith), canvas _ _ _ _ _ _ _ _ _ _ _ _ _ c.loop-k.invariant c.requires c.loop-k-test.true _ _ [] c.code_at-code.ensures.0 c.data_from-s.ensures refl)
+pub paint_and_pass-requires-clause-asked : goal.paint_and_pass-requires-clause-asked
+paint_and_pass-requires-clause-asked c = (8 * c.args.rows, drawable _ _ _ _ _ _ _ _ _ _ _ _ _ c.loop-k.invariant c.requires c.loop-k-test.true _ _ [] c.code_at-code.ensures.0 c.data_from-s.ensures refl _ (omega arith), canvas _ _ _ _ _ _ _ _ _ _ _ _ _ c.loop-k.invariant c.requires c.loop-k-test.true _ _ [] c.code_at-code.ensures.0 c.data_from-s.ensures refl)
 
 pub loop-k-preserved : goal.loop-k-preserved
 loop-k-preserved c =
-    going_block _ _ _ _ _ _ _ _ _ _ _ _ _ c.loop-k.invariant c.requires c.loop-k-test.true _ _ [] c.code_at-code.ensures.0 c.data_from-s.ensures refl _ _ 0 _ _ c.pixel_count-due.ensures (c.data_length-at.ensures []) (offset_flat _ [] _ c.code_at-code.ensures.1) c.if-left-due.false c.paint_whole.ensures.pixels c.paint_whole.ensures.place _ _
+    going_block _ _ _ _ _ _ _ _ _ _ _ _ _ c.loop-k.invariant c.requires c.loop-k-test.true _ _ [] c.code_at-code.ensures.0 c.data_from-s.ensures refl _ _ 0 _ _ c.pixel_count-due.ensures (c.data_length-at.ensures []) (offset_flat _ [] _ c.code_at-code.ensures.1) c.if-left-due.false c.paint_and_pass.ensures.pixels c.paint_and_pass.ensures.place _ _
     (elim c.if-x-w.branch [
       | then-x-w w ↦ rw (w.x-is, w.y-is) (below _ _ _ _ _ _ _ _ _ _ _ _ _ c.loop-k.invariant c.requires c.loop-k-test.true _ _ [] c.code_at-code.ensures.0 c.data_from-s.ensures refl w.if-x-w.true)
       | else-x-w w ↦ rw (w.x-is, w.y-is) (right _ _ _ _ _ _ _ _ _ _ _ _ _ c.loop-k.invariant c.requires c.loop-k-test.true _ _ [] c.code_at-code.ensures.0 c.data_from-s.ensures refl w.if-x-w.false)

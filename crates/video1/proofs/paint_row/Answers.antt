@@ -15,8 +15,8 @@ pairs_row-requires-in-Eight g c = let r = c.requires.1 in
 pub bounds-s-at : goal.bounds-s-at
 bounds-s-at g c = row_there c.requires.1
 
-pub put_four-requires : goal.put_four-requires
-put_four-requires g c = one_beside c.requires.1 (sym c.requires.0 ∙ c.in-One.is) _ refl
+pub one_row-requires : goal.one_row-requires
+one_row-requires g c = (row_low c.requires.1, one_beside c.requires.1 (sym c.requires.0 ∙ c.in-One.is) _ refl)
 
 pub returns-in-Skip : goal.returns-in-Skip
 returns-in-Skip g c = absurd (row_not_skip c.requires.1 _ (sym c.requires.0 ∙ c.in-Skip.is))

@@ -14,12 +14,12 @@ paint_word_part-requires c = (word_drawable _ _ _ _ _ _ _ _ _ _ _ _ _ _ _ _ _ _ 
 pub returns-then-left-le64 : goal.returns-then-left-le64
 returns-then-left-le64 c = word_stop _ _ _ _ _ _ _ _ _ _ _ _ _ _ _ _ _ _ c.loop-k.invariant c.requires c.loop-k-test.true _ c.code_at-code.ensures.0 _ c.if-left-le64.true c.paint_word_part.ensures
 
-pub paint_word_whole-requires-clause-asked : goal.paint_word_whole-requires-clause-asked
-paint_word_whole-requires-clause-asked c = (8 * c.args.rows, word_drawable _ _ _ _ _ _ _ _ _ _ _ _ _ _ _ _ _ _ c.loop-k.invariant c.requires c.loop-k-test.true _ c.code_at-code.ensures.0 _ (omega arith), word_canvas _ _ _ _ _ _ _ _ _ _ _ _ _ _ _ _ _ _ c.loop-k.invariant c.requires c.loop-k-test.true)
+pub paint_word_and_pass-requires-clause-asked : goal.paint_word_and_pass-requires-clause-asked
+paint_word_and_pass-requires-clause-asked c = (8 * c.args.rows, word_drawable _ _ _ _ _ _ _ _ _ _ _ _ _ _ _ _ _ _ c.loop-k.invariant c.requires c.loop-k-test.true _ c.code_at-code.ensures.0 _ (omega arith), word_canvas _ _ _ _ _ _ _ _ _ _ _ _ _ _ _ _ _ _ c.loop-k.invariant c.requires c.loop-k-test.true)
 
 pub loop-k-preserved : goal.loop-k-preserved
 loop-k-preserved c =
-    word_block _ _ _ _ _ _ _ _ _ _ _ _ _ _ _ _ _ _ c.loop-k.invariant c.requires c.loop-k-test.true _ c.code_at-code.ensures.0 _ _ _ _ (c.data_length-at.ensures _) (c.offset_length-aside.ensures _ _) c.if-left-le64.false c.paint_word_whole.ensures.pixels c.paint_word_whole.ensures.place _ _
+    word_block _ _ _ _ _ _ _ _ _ _ _ _ _ _ _ _ _ _ c.loop-k.invariant c.requires c.loop-k-test.true _ c.code_at-code.ensures.0 _ _ _ _ (c.data_length-at.ensures _) (c.offset_length-aside.ensures _ _) c.if-left-le64.false c.paint_word_and_pass.ensures.pixels c.paint_word_and_pass.ensures.place _ _
     (elim c.if-x-w.branch [
       | then-x-w w ↦ rw (w.x-is, w.y-is) (word_below _ _ _ _ _ _ _ _ _ _ _ _ _ _ _ _ _ _ c.loop-k.invariant c.requires c.loop-k-test.true w.if-x-w.true)
       | else-x-w w ↦ rw (w.x-is, w.y-is) (word_right _ _ _ _ _ _ _ _ _ _ _ _ _ _ _ _ _ _ c.loop-k.invariant c.requires c.loop-k-test.true w.if-x-w.false)
