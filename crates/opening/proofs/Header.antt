@@ -91,3 +91,16 @@ module _ (film : List ℕ) (stream : ℕ) (r : Bool) (v : r ≡ starts_with eqb 
       by : (b : Bool) → r ≡ b → r ≡ begins film 26
       by true e = e ∙ sym (begun e)
       by false e = e ∙ sym (decided (begins film 26) refl l e)
+
+  -- what opening comes to by that alone
+  pub opens_with : (sound : Sound) → r ≡ true → sound ≡ first_sound stream
+      → started (record { cursor = record { position = 26; chunk_end = 26 }; columns = 0; rows = 0; deep = false; front = 0; map = None; unsent = false; sound = sound })
+      ≡ opening_of film stream
+  opens_with sound e q = opens film stream sound (long e) (begun e) q
+
+  pub opens_without : r ≡ false → refuses 1 0 ≡ opening_of film stream
+  opens_without e = by (dec_lt (length film) 26)
+    where
+      by : Dec (length film < 26) → refuses 1 0 ≡ opening_of film stream
+      by (yes h) = opens_short film stream h
+      by (no h) = let l : 26 ≤ length film = omega arith in opens_not film stream l (sym (header_is l) ∙ e)
